@@ -1,0 +1,17 @@
+pub mod Bounded
+pub mod ChunkBack
+pub mod ChunkFill
+pub mod ChunkRead
+pub mod ChunkTest
+pub mod Conditions
+pub mod Counting
+pub mod Equal
+pub mod Growing
+pub mod Indexed
+pub mod LawfulMerge
+pub mod Merged
+pub mod Names
+pub mod Pushed
+pub mod Scans
+pub mod Settled
+pub mod Sources

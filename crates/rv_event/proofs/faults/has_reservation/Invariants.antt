@@ -1,0 +1,7 @@
+use Rattle.std.proofs.Common.{◌≡◌, take}
+use Rattle.rv_event.specs.Log.{events}
+use Rattle.rv_event.specs.Faults.{is_reserved}
+use Rattle.rv_event.proofs.faults.has_reservation.Given as goal
+
+abbrev pub invariant-loop-entry : goal.invariant-loop-entry
+invariant-loop-entry l = l.reserved ≡ is_reserved (events (take l.entry-index l.log)) l.hart

@@ -1,0 +1,8 @@
+use Rattle.std.proofs.Common.{ℕ, ◌<◌}
+use Rattle.rv_event.specs.Log.{events}
+use Rattle.rv_event.specs.Preserved.{IsPreserved}
+use Rattle.rv_event.proofs.preserved.lowest_rule.Given as goal
+
+-- no rule below k
+abbrev pub invariant-loop-k : goal.invariant-loop-k
+invariant-loop-k l = (j : ℕ) → j < l.k → IsPreserved l.model (events l.log) j l.a l.b → ⊥

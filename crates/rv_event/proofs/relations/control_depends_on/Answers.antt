@@ -1,0 +1,14 @@
+use Rattle.std.proofs.Common.{◌≡◌, rules, tests}
+use Rattle.std.proofs.lemmas.Iterator.{cases_from_any, YieldsList-from_slice}
+use Rattle.rv_event.specs.Log.{Between}
+use Rattle.rv_event.specs.Relations.{DependsOn}
+use Rattle.rv_event.specs.declared.event.DepKind.TheVariants.{Ctrl}
+use Rattle.rv_event.specs.declared.event.Op.TheVariants.{Branch}
+use Rattle.rv_event.specs.declared.event.Event.{Event}
+use Rattle.rv_event.proofs.Scans.{any_event}
+use Rattle.rv_event.proofs.relations.control_depends_on.Goals as goal
+
+pub returns : goal.returns
+returns c =
+    let P : Event → Type 0 = λ m. Between c.args.a.now m c.args.b.now × (m.op ≡ Branch) × DependsOn Ctrl m c.args.a.now in
+    any_event P c.args.log.now c.any.result (cases_from_any _ _ _ (λ x. P x.event) (λ x. P x.event → ⊥) c.any.ensures.ran (YieldsList-from_slice c.args.log.now cc) (λ x q k. search (rules, tests)) (λ x q k. search (rules, tests)))

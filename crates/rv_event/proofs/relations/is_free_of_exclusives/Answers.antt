@@ -1,0 +1,12 @@
+use Rattle.std.proofs.Common.{IsFalse, rules, tests}
+use Rattle.std.proofs.lemmas.Iterator.{cases_from_all, YieldsList-from_slice}
+use Rattle.rv_event.specs.Log.{Between}
+use Rattle.rv_event.specs.Operations.{is_exclusive}
+use Rattle.rv_event.specs.declared.event.Event.{Event}
+use Rattle.rv_event.proofs.Scans.{all_event}
+use Rattle.rv_event.proofs.relations.is_free_of_exclusives.Goals as goal
+
+pub returns : goal.returns
+returns c =
+    let P : Event → Type 0 = λ m. Between c.args.a.now m c.args.b.now → IsFalse (is_exclusive m.op) in
+    all_event P c.args.log.now c.all.result (cases_from_all _ _ _ (λ x. P x.event) (λ x. P x.event → ⊥) c.all.ensures.ran (YieldsList-from_slice c.args.log.now cc) (λ x q k. search (rules, tests)) (λ x q k. search (rules, tests)))

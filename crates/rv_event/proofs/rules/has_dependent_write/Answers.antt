@@ -1,0 +1,11 @@
+use Rattle.std.proofs.Common.{rules, tests}
+use Rattle.std.proofs.lemmas.Iterator.{cases_from_any, YieldsList-from_slice}
+use Rattle.rv_event.specs.Preserved.{IsDependentWrite}
+use Rattle.rv_event.specs.declared.event.Event.{Event}
+use Rattle.rv_event.proofs.Scans.{any_event}
+use Rattle.rv_event.proofs.rules.has_dependent_write.Goals as goal
+
+pub returns : goal.returns
+returns c =
+    let P : Event → Type 0 = IsDependentWrite c.args.a.now c.args.b.now in
+    any_event P c.args.log.now c.any.result (cases_from_any _ _ _ (λ x. P x.event) (λ x. P x.event → ⊥) c.any.ensures.ran (YieldsList-from_slice c.args.log.now cc) (λ x q k. search (rules, tests)) (λ x q k. search (rules, tests)))

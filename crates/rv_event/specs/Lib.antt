@@ -1,0 +1,15 @@
+pub mod Annotations
+pub mod ChunkTexts
+pub mod Chunks
+pub mod Edges
+pub mod Faults
+pub mod Laws
+pub mod Log
+pub mod Merges
+pub mod Operations
+pub mod Orders
+pub mod Packing
+pub mod Preserved
+pub mod Relations
+pub mod Texts
+pub mod WellFormed

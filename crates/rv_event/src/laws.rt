@@ -1,0 +1,27 @@
+//! Laws over the definitions alone. Each function does nothing: its contract is the law.
+ghost use Rattle.rv_event.specs.Laws.{MergesAreWellFormed, MergesShareOrders, LogsAreBounded, EdgesStay, NewEdgesEndAtTheNewEvent};
+
+/// Whether sources are well formed does not depend on how they are merged.
+pub fn merges_are_well_formed()
+    ensures { MergesAreWellFormed }
+{}
+
+/// The orders that are lawful for sources do not depend on how they are merged.
+pub fn merges_share_orders()
+    ensures { MergesShareOrders }
+{}
+
+/// A well formed log has at most 65,536 entries.
+pub fn logs_are_bounded()
+    ensures { LogsAreBounded }
+{}
+
+/// Edges stay when a log goes on.
+pub fn edges_stay()
+    ensures { EdgesStay }
+{}
+
+/// A new edge has the new event at an end.
+pub fn new_edges_end_at_the_new_event()
+    ensures { NewEdgesEndAtTheNewEvent }
+{}

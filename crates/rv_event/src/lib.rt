@@ -1,0 +1,48 @@
+//! The events of a recorded execution, the definitions of the memory model over them, and a plain program that decides
+//! each definition.
+//!
+//! - [`event`], [`reason`], [`fault`], [`memory_model`]: the types that every other crate speaks of.
+//! - `specs/`: the definitions, one file a topic, each with the section of the RISC-V manual that it restates. They are
+//!   relations over lists of events, and take the memory model as a parameter.
+//! - [`search`], [`relations`], [`rules`], [`preserved`], [`edges`], [`faults`]: the plain program. It takes no memory, and
+//!   each function is exact against its definition. Nothing above this crate decides a definition a second time.
+//! - [`chunk`]: one to eight events as 58 words, the form in which they pass between threads.
+//!
+//! It stands on std alone. Its one contract to all others: what the plain program answers is what the definition says,
+//! and a chunk's words are the chunk text of its events.
+#![tactic(auto)]
+
+mod chunk;
+mod codes;
+mod edges;
+mod event;
+mod fault;
+mod faults;
+mod laws;
+mod memory_model;
+mod no_memory;
+mod pack_fault;
+mod preserved;
+mod reason;
+mod relations;
+mod rules;
+mod search;
+#[cfg(test)]
+mod tests;
+
+pub use chunk::{Chunk, chunk_texts_tell, pack, unpack};
+pub use edges::{is_edge, is_stale};
+pub use event::{Dep, DepKind, Deps, Entry, Event, Id, Op, Set, is_same};
+pub use fault::Fault;
+pub use faults::find_fault;
+pub use laws::{
+    edges_stay, logs_are_bounded, merges_are_well_formed, merges_share_orders,
+    new_edges_end_at_the_new_event,
+};
+pub use memory_model::MemoryModel;
+pub use no_memory::NoMemory;
+pub use pack_fault::PackFault;
+pub use preserved::{is_preserved_by, lowest_rule};
+pub use reason::{Link, Reason};
+pub use relations::{depends_on, is_acquire, is_fenced, is_paired, is_rcsc, is_release};
+pub use search::{find_named, find_writer};

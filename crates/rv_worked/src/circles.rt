@@ -1,0 +1,397 @@
+//! Executions that a memory model forbids, each with the circle of edges, or the stale pair, that shows it.
+use crate::rows::{
+    A0, A1, A2, Bits, C0, D0, D2, FENCE_ALL, FENCE_LOADS, FENCE_STORES, FENCE_STORES_LOADS, Row, X,
+    Y, Z, amo, id, load, log_of, lr, other, row, sc, store,
+};
+use rv_event::{Entry, Id, MemoryModel, Op, Reason, is_edge, is_stale};
+
+/// An execution, in the order of arrival, and a circle of edges: each leads to the next one's id, the last to the first.
+struct Circle {
+    name: &'static str,
+    model: MemoryModel,
+    rows: &'static [Row],
+    edges: &'static [(Id, Reason)],
+}
+
+const CIRCLES: &[Circle] = &[
+    Circle {
+        name: "store buffering with fences",
+        model: MemoryModel::Rvwmo,
+        rows: &[
+            store!(0: 0, X = 1),
+            other!(0: 1, FENCE_ALL),
+            load!(0: 2, Y = 0),
+            store!(1: 0, Y = 1),
+            other!(1: 1, FENCE_ALL),
+            load!(1: 2, X = 0),
+        ],
+        edges: &[
+            (id!(1: 2), Reason::FromRead),
+            (id!(0: 0), Reason::Preserved(4)),
+            (id!(0: 2), Reason::FromRead),
+            (id!(1: 0), Reason::Preserved(4)),
+        ],
+    },
+    Circle {
+        name: "message passing with a fence and an address",
+        model: MemoryModel::Rvwmo,
+        rows: &[
+            store!(0: 0, X = 1),
+            other!(0: 1, FENCE_STORES),
+            store!(0: 2, Y = 1),
+            load!(1: 0, Y = 1),
+            load!(1: 1, X = 0, A0),
+        ],
+        edges: &[
+            (id!(1: 1), Reason::FromRead),
+            (id!(0: 0), Reason::Preserved(4)),
+            (id!(0: 2), Reason::ReadsFrom),
+            (id!(1: 0), Reason::Preserved(9)),
+        ],
+    },
+    Circle {
+        name: "load buffering with data",
+        model: MemoryModel::Rvwmo,
+        rows: &[
+            load!(0: 0, X = 1),
+            store!(0: 1, Y = 1, D0),
+            load!(1: 0, Y = 1),
+            store!(1: 1, X = 1, D0),
+        ],
+        edges: &[
+            (id!(1: 1), Reason::ReadsFrom),
+            (id!(0: 0), Reason::Preserved(10)),
+            (id!(0: 1), Reason::ReadsFrom),
+            (id!(1: 0), Reason::Preserved(10)),
+        ],
+    },
+    Circle {
+        name: "reads of one word go back",
+        model: MemoryModel::Rvwmo,
+        rows: &[store!(0: 0, X = 1), load!(1: 0, X = 1), load!(1: 1, X = 0)],
+        edges: &[
+            (id!(1: 1), Reason::FromRead),
+            (id!(0: 0), Reason::ReadsFrom),
+            (id!(1: 0), Reason::Preserved(2)),
+        ],
+    },
+    Circle {
+        name: "a foreign store between an LR and its SC",
+        model: MemoryModel::Rvwmo,
+        rows: &[lr!(0: 0, X = 0), sc!(0: 1, X = 2), store!(1: 0, X = 1)],
+        edges: &[
+            (id!(1: 0), Reason::Coherence),
+            (id!(0: 1), Reason::AtomicOut),
+        ],
+    },
+    Circle {
+        name: "a foreign store past an own one between an LR and its SC",
+        model: MemoryModel::Rvwmo,
+        rows: &[
+            lr!(0: 0, X = 0),
+            store!(0: 1, X = 1),
+            sc!(0: 2, X = 3),
+            store!(1: 0, X = 2),
+        ],
+        edges: &[
+            (id!(1: 0), Reason::Coherence),
+            (id!(0: 2), Reason::AtomicOut),
+        ],
+    },
+    Circle {
+        name: "the writer of what an LR returned stands before the SC",
+        model: MemoryModel::Rvwmo,
+        rows: &[
+            store!(0: 0, X = 1),
+            lr!(0: 1, X = 1),
+            sc!(0: 2, Y = 1),
+            load!(1: 0, Y = 1),
+            load!(1: 1, X = 0, A0),
+        ],
+        edges: &[
+            (id!(1: 1), Reason::FromRead),
+            (id!(0: 0), Reason::AtomicIn),
+            (id!(0: 2), Reason::ReadsFrom),
+            (id!(1: 0), Reason::Preserved(9)),
+        ],
+    },
+    Circle {
+        name: "an LR that returned what its own SC wrote",
+        model: MemoryModel::Rvwmo,
+        rows: &[lr!(0: 0, X = 1), sc!(0: 1, X = 1)],
+        edges: &[(id!(0: 1), Reason::AtomicIn)],
+    },
+    Circle {
+        name: "a store inside an AMO",
+        model: MemoryModel::Rvwmo,
+        rows: &[amo!(0: 0, X, 0, 2), store!(1: 0, X = 1)],
+        edges: &[
+            (id!(1: 0), Reason::Coherence),
+            (id!(0: 0), Reason::FromRead),
+        ],
+    },
+    Circle {
+        name: "an AMO that returned what it wrote",
+        model: MemoryModel::Rvwmo,
+        rows: &[amo!(0: 0, X, 1, 1)],
+        edges: &[(id!(0: 0), Reason::ReadsFrom)],
+    },
+    Circle {
+        name: "no forwarding from an SC",
+        model: MemoryModel::Rvwmo,
+        rows: &[
+            lr!(0: 0, X = 0),
+            sc!(0: 1, X = 1),
+            load!(0: 2, X = 1),
+            load!(0: 3, Y = 0, A2),
+            store!(1: 0, Y = 1),
+            other!(1: 1, FENCE_ALL),
+            load!(1: 2, X = 0),
+        ],
+        edges: &[
+            (id!(1: 2), Reason::FromRead),
+            (id!(0: 1), Reason::Preserved(3)),
+            (id!(0: 2), Reason::Preserved(9)),
+            (id!(0: 3), Reason::FromRead),
+            (id!(1: 0), Reason::Preserved(4)),
+        ],
+    },
+    Circle {
+        name: "no forwarding from an AMO, by the lower rule",
+        model: MemoryModel::Rvwmo,
+        rows: &[
+            amo!(0: 0, X, 0, 1),
+            load!(0: 1, X = 1),
+            load!(0: 2, Y = 0, A1),
+            store!(1: 0, Y = 1),
+            other!(1: 1, FENCE_ALL),
+            load!(1: 2, X = 0),
+        ],
+        edges: &[
+            (id!(1: 2), Reason::FromRead),
+            (id!(0: 0), Reason::Preserved(2)),
+            (id!(0: 1), Reason::Preserved(9)),
+            (id!(0: 2), Reason::FromRead),
+            (id!(1: 0), Reason::Preserved(4)),
+        ],
+    },
+    Circle {
+        name: "no forwarding from an AMO, by the higher rule",
+        model: MemoryModel::Rvwmo,
+        rows: &[
+            amo!(0: 0, X, 0, 1),
+            load!(0: 1, X = 1),
+            load!(0: 2, Y = 0, A1),
+            store!(1: 0, Y = 1),
+            other!(1: 1, FENCE_ALL),
+            load!(1: 2, X = 0),
+        ],
+        edges: &[
+            (id!(1: 2), Reason::FromRead),
+            (id!(0: 0), Reason::Preserved(3)),
+            (id!(0: 1), Reason::Preserved(9)),
+            (id!(0: 2), Reason::FromRead),
+            (id!(1: 0), Reason::Preserved(4)),
+        ],
+    },
+    Circle {
+        name: "a load of what a dependent store wrote",
+        model: MemoryModel::Rvwmo,
+        rows: &[
+            load!(0: 0, X = 1),
+            store!(0: 1, Y = 1, D0),
+            load!(0: 2, Y = 1),
+            store!(0: 3, Z = 1, D2),
+            load!(1: 0, Z = 1),
+            store!(1: 1, X = 1, D0),
+        ],
+        edges: &[
+            (id!(1: 1), Reason::ReadsFrom),
+            (id!(0: 0), Reason::Preserved(12)),
+            (id!(0: 2), Reason::Preserved(10)),
+            (id!(0: 3), Reason::ReadsFrom),
+            (id!(1: 0), Reason::Preserved(10)),
+        ],
+    },
+    Circle {
+        name: "a store after a dependent address",
+        model: MemoryModel::Rvwmo,
+        rows: &[
+            load!(0: 0, X = 1),
+            load!(0: 1, Z = 0, A0),
+            store!(0: 2, Y = 1),
+            load!(1: 0, Y = 1),
+            store!(1: 1, X = 1, D0),
+        ],
+        edges: &[
+            (id!(1: 1), Reason::ReadsFrom),
+            (id!(0: 0), Reason::Preserved(13)),
+            (id!(0: 2), Reason::ReadsFrom),
+            (id!(1: 0), Reason::Preserved(10)),
+        ],
+    },
+    Circle {
+        name: "a store after a branch",
+        model: MemoryModel::Rvwmo,
+        rows: &[
+            load!(0: 0, X = 1),
+            other!(0: 1, Op::Branch, C0),
+            store!(0: 2, Y = 1),
+            load!(1: 0, Y = 1),
+            store!(1: 1, X = 1, D0),
+        ],
+        edges: &[
+            (id!(1: 1), Reason::ReadsFrom),
+            (id!(0: 0), Reason::Preserved(11)),
+            (id!(0: 2), Reason::ReadsFrom),
+            (id!(1: 0), Reason::Preserved(10)),
+        ],
+    },
+    Circle {
+        name: "a fence of loads takes an AMO whole",
+        model: MemoryModel::Rvwmo,
+        rows: &[
+            amo!(0: 0, Y, 0, 1),
+            other!(0: 1, FENCE_LOADS),
+            load!(0: 2, X = 0),
+            store!(1: 0, X = 1),
+            other!(1: 1, FENCE_STORES_LOADS),
+            load!(1: 2, Y = 0),
+        ],
+        edges: &[
+            (id!(1: 2), Reason::FromRead),
+            (id!(0: 0), Reason::Preserved(4)),
+            (id!(0: 2), Reason::FromRead),
+            (id!(1: 0), Reason::Preserved(4)),
+        ],
+    },
+    Circle {
+        name: "message passing with a release and an acquire",
+        model: MemoryModel::Rvwmo,
+        rows: &[
+            store!(0: 0, X = 1),
+            amo!(0: 1, Y, 0, 1, Release),
+            lr!(1: 0, Y = 1, Acquire),
+            load!(1: 1, X = 0),
+        ],
+        edges: &[
+            (id!(1: 1), Reason::FromRead),
+            (id!(0: 0), Reason::Preserved(6)),
+            (id!(0: 1), Reason::ReadsFrom),
+            (id!(1: 0), Reason::Preserved(5)),
+        ],
+    },
+];
+
+/// Executions that total store ordering forbids and RVWMO allows.
+const TOTAL_STORE_CIRCLES: &[Circle] = &[
+    Circle {
+        name: "message passing",
+        model: MemoryModel::Ztso,
+        rows: &[
+            store!(0: 0, X = 1),
+            store!(0: 1, Y = 1),
+            load!(1: 0, Y = 1),
+            load!(1: 1, X = 0),
+        ],
+        edges: &[
+            (id!(1: 1), Reason::FromRead),
+            (id!(0: 0), Reason::Preserved(6)),
+            (id!(0: 1), Reason::ReadsFrom),
+            (id!(1: 0), Reason::Preserved(5)),
+        ],
+    },
+    Circle {
+        name: "load buffering",
+        model: MemoryModel::Ztso,
+        rows: &[
+            load!(0: 0, X = 1),
+            store!(0: 1, Y = 1),
+            load!(1: 0, Y = 1),
+            store!(1: 1, X = 1),
+        ],
+        edges: &[
+            (id!(1: 1), Reason::ReadsFrom),
+            (id!(0: 0), Reason::Preserved(5)),
+            (id!(0: 1), Reason::ReadsFrom),
+            (id!(1: 0), Reason::Preserved(5)),
+        ],
+    },
+    Circle {
+        name: "store buffering with AMOs",
+        model: MemoryModel::Ztso,
+        rows: &[
+            amo!(0: 0, X, 0, 1),
+            load!(0: 1, Y = 0),
+            amo!(1: 0, Y, 0, 1),
+            load!(1: 1, X = 0),
+        ],
+        edges: &[
+            (id!(1: 1), Reason::FromRead),
+            (id!(0: 0), Reason::Preserved(5)),
+            (id!(0: 1), Reason::FromRead),
+            (id!(1: 0), Reason::Preserved(5)),
+        ],
+    },
+];
+
+/// Whether each pair gives an edge to the next pair's id, and the last to the first.
+fn has_edges(model: MemoryModel, log: &[Entry], edges: &[(Id, Reason)]) -> bool {
+    let targets = edges.iter().skip(1).chain(edges.iter().take(1));
+    edges
+        .iter()
+        .zip(targets)
+        .all(|(edge, next)| is_edge(model, log, edge.0, edge.1, next.0))
+}
+
+#[test]
+fn each_step_of_a_circle_is_an_edge(rt: HostRuntime) {
+    for circle in CIRCLES {
+        let log = log_of(rt.alloc(), circle.rows).expect(&rt, "memory");
+        assert!(rt;
+            has_edges(circle.model, log.as_slice(), circle.edges),
+            "{}",
+            circle.name
+        );
+    }
+}
+
+#[test]
+fn circles_of_total_store_ordering_are_none_of_rvwmo(rt: HostRuntime) {
+    for circle in TOTAL_STORE_CIRCLES {
+        let log = log_of(rt.alloc(), circle.rows).expect(&rt, "memory");
+        assert!(rt;
+            has_edges(circle.model, log.as_slice(), circle.edges),
+            "{}",
+            circle.name
+        );
+        assert!(rt;
+            !has_edges(MemoryModel::Rvwmo, log.as_slice(), circle.edges),
+            "{}",
+            circle.name
+        );
+    }
+}
+
+#[test]
+fn forwarding_is_no_edge(rt: HostRuntime) {
+    let log = log_of(rt.alloc(), &[store!(0: 0, X = 1), load!(0: 1, X = 1)]).expect(&rt, "memory");
+    let log = log.as_slice();
+    assert!(rt;
+        !is_edge(
+            MemoryModel::Rvwmo,
+            log,
+            id!(0: 0),
+            Reason::ReadsFrom,
+            id!(0: 1)
+        )
+    );
+}
+
+#[test]
+fn a_load_below_an_own_store_is_stale(rt: HostRuntime) {
+    let log = log_of(rt.alloc(), &[store!(0: 0, X = 1), load!(0: 1, X = 0)]).expect(&rt, "memory");
+    let log = log.as_slice();
+    assert!(rt; is_stale(log, id!(0: 1), id!(0: 0)));
+    assert!(rt; !is_stale(log, id!(0: 0), id!(0: 1)));
+}
