@@ -3,7 +3,7 @@ use Rattle.std.proofs.Common.{◌≡◌, ℕ, zero, suc, ◌+◌, ◌*◌, ◌<�
 use Rattle.std.proofs.lemmas.Bool.{cases_eq, ne_eqb}
 use Rattle.std.proofs.lemmas.List.{length-map}
 use Rattle.rv_event.proofs.Names.{Contains-here, Contains-there}
-use Rattle.rv_event.proofs.Indexed.{indexed_from_WellFormed}
+use Rattle.rv_event.proofs.Indexed.{Indexed, indexed_from_WellFormed}
 use Rattle.rv_event.specs.Log.{of_hart, events}
 use Rattle.rv_event.specs.WellFormed.{WellFormed}
 use Rattle.rv_event.specs.declared.event.Event.{Event}
@@ -63,7 +63,8 @@ unfolding count_below
 count_below-le zero log few = omega arith
 count_below-le (suc n) log few = omega (arith, few n, count_below-le n log few)
 
+pub length-Indexed : (log : List Event) → Indexed log → length log ≤ 65536
+length-Indexed log known = omega (arith, count_below-all 16 log known.harts, count_below-le 16 log known.few)
+
 pub length-WellFormed : (log : List Entry) → WellFormed log → length log ≤ 65536
-length-WellFormed log ok =
-    let known = indexed_from_WellFormed log ok in
-    omega (arith, length-map log (λ (x : Entry). x.event), count_below-all 16 (events log) known.harts, count_below-le 16 (events log) known.few)
+length-WellFormed log ok = omega (arith, length-map log (λ (x : Entry). x.event), length-Indexed (events log) (indexed_from_WellFormed log ok))

@@ -106,3 +106,19 @@ Condition-number model log a b k (data_of h) = omega arith
 Condition-number model log a b k (control g h) = omega arith
 Condition-number model log a b k (reads_dependent_write h) = omega arith
 Condition-number model log a b k (after_dependent_address h) = omega arith
+
+-- and none has the number 0
+pub Condition-above : (model : MemoryModel) (log : List Event) (a b : Event) (k : ℕ) → Condition model log a b k → 0 < k
+Condition-above model log a b k (overlapping_store h) = omega arith
+Condition-above model log a b k (different_reads h) = omega arith
+Condition-above model log a b k (reads_atomic_write h) = omega arith
+Condition-above model log a b k (fenced h) = omega arith
+Condition-above model log a b k (after_acquire h) = omega arith
+Condition-above model log a b k (before_release h) = omega arith
+Condition-above model log a b k (both_rcsc g h) = omega arith
+Condition-above model log a b k (paired h) = omega arith
+Condition-above model log a b k (address h) = omega arith
+Condition-above model log a b k (data_of h) = omega arith
+Condition-above model log a b k (control g h) = omega arith
+Condition-above model log a b k (reads_dependent_write h) = omega arith
+Condition-above model log a b k (after_dependent_address h) = omega arith

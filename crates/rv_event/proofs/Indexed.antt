@@ -7,7 +7,7 @@ use Rattle.std.proofs.lemmas.List.Folds.{find-append}
 use Rattle.rv_event.proofs.Names.{same_id-refl, named-is}
 use Rattle.rv_event.specs.Operations.{is_store, IsStore}
 use Rattle.rv_event.specs.Log.{same_id, named, of_hart, writer, events}
-use Rattle.rv_event.specs.Faults.{fault_if, lowest, expected, first_faults, source_fault, deps_fault, taken_fault}
+use Rattle.rv_event.specs.Faults.{fault_if, lowest, expected, first_faults, source_fault, deps_fault, taken_fault, event_fault}
 use Rattle.rv_event.specs.WellFormed.{WellFormed}
 use Rattle.rv_event.specs.declared.event.Id.{Id}
 use Rattle.rv_event.specs.declared.event.Event.{Event}
@@ -192,11 +192,11 @@ module _ (log : List Event) (e : Event) (known : Indexed log) (sound : Sound log
   indexed-push = record { own = own'; below = below'; filled = filled'; written = written'; harts = harts'; few = few' }
 
 -- each event is sound over those before it
-abbrev AllSound : List Event → List Event → Type 0
+abbrev pub AllSound : List Event → List Event → Type 0
 AllSound before [] = Unit {0}
 AllSound before (e ∷ rest) = Sound before e × AllSound (before ++ e ∷ []) rest
 
-indexed-all : (before rest : List Event) → Indexed before → AllSound before rest → Indexed (before ++ rest)
+pub indexed-all : (before rest : List Event) → Indexed before → AllSound before rest → Indexed (before ++ rest)
 indexed-all before [] known all = rw append-nil known
 indexed-all before (e ∷ rest) known all =
     let more : Indexed ((before ++ e ∷ []) ++ rest) = indexed-all (before ++ e ∷ []) rest (indexed-push before e known all.0) all.1 in
@@ -221,6 +221,12 @@ none-lowest [] e = refl
 none-lowest (None ∷ rest) e = none-lowest rest e.1
 none-lowest (Some f ∷ rest) e = absurd (none-some f (sym e.0))
 
+-- the first fault of two lists
+pub lowest-append_some : (xs ys : List (Option Fault)) (f : Fault) → Some f ≡ lowest xs → Some f ≡ lowest (xs ++ ys)
+lowest-append_some [] ys f e = absurd (none-some f (sym e))
+lowest-append_some (Some g ∷ xs) ys f e = e
+lowest-append_some (None ∷ xs) ys f e = lowest-append_some xs ys f e
+
 pub not_taken : (log : List Event) (e : Event) → taken_fault log e ≡ None → IsStore e → writer log e.word e.wrote ≡ None
 not_taken log e none s = go (writer log e.word e.wrote) (rw s at none)
   where
@@ -241,6 +247,10 @@ sound_from_none log e more none =
       hart = omega (arith, ltb-false 15 e.id.hart (fault_if-none (ltb 15 e.id.hart) Hart each.0));
       room = leb-false 4096 (expected log e) (fault_if-none (leb 4096 (expected log e)) Full each.1.1.1.1.1.1.0);
     }
+
+-- an event without a fault over events
+pub sound_of : (log : List Event) (e : Event) → event_fault log e ≡ None → Sound log e
+sound_of log e none = sound_from_none log e (deps_fault e ∷ []) none
 
 all_sound : (log before rest : List Entry) → WellFormed log → log ≡ before ++ rest → AllSound (events before) (events rest)
 all_sound log before [] ok e = tt

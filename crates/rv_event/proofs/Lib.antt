@@ -3,6 +3,7 @@ pub mod ChunkBack
 pub mod ChunkFill
 pub mod ChunkRead
 pub mod ChunkTest
+pub mod Checked
 pub mod Conditions
 pub mod Counting
 pub mod Equal
@@ -12,6 +13,7 @@ pub mod LawfulMerge
 pub mod Merged
 pub mod Names
 pub mod Pushed
+pub mod Reasons
 pub mod Scans
 pub mod Settled
 pub mod Sources

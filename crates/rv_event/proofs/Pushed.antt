@@ -5,7 +5,7 @@ use Rattle.rv_event.specs.WellFormed.{WellFormed}
 use Rattle.rv_event.specs.declared.event.Entry.{Entry}
 
 -- a list with one more at its end is cut at that one, or before it
-split_push : {X : Type 0} (xs : List X) (x : X) (before after : List X) (y : X) → xs ++ x ∷ [] ≡ before ++ y ∷ after → ((xs ≡ before) × (x ≡ y)) ⊎ ((rest : List X) × (xs ≡ before ++ y ∷ rest))
+pub split_push : {X : Type 0} (xs : List X) (x : X) (before after : List X) (y : X) → xs ++ x ∷ [] ≡ before ++ y ∷ after → ((xs ≡ before) × (x ≡ y)) ⊎ ((rest : List X) × (xs ≡ before ++ y ∷ rest))
 split_push [] x [] after y e = inl (refl, cc)
 split_push [] x (b ∷ bs) after y e = absurd (omega (arith, ap length e, length-append bs (y ∷ after)))
 split_push (a ∷ as') x [] after y e = let h : a ≡ y = cc in inr (as', rw h)

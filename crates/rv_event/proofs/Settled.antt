@@ -49,7 +49,7 @@ module _ (model : MemoryModel) (old new : List Event) (grows : Grows old new) (k
   Condition-settled a b cb k (reads_dependent_write h) = reads_dependent_write (record { load = h.load; through = Any-settled b cb (IsDependentWrite a b) (λ m p. p.between.before) h.through })
   Condition-settled a b cb k (after_dependent_address h) = after_dependent_address (record { store = h.store; through = Any-settled b cb (λ m. Between a m b × DependsOn Addr m a) (λ m p. p.0.before) h.through })
 
-  HasReason-settled : (a b : Event) → Contains old a → Contains old b → (reason : Reason) → HasReason model new reason a b → HasReason model old reason a b
+  pub HasReason-settled : (a b : Event) → Contains old a → Contains old b → (reason : Reason) → HasReason model new reason a b → HasReason model old reason a b
   HasReason-settled a b ca cb (Preserved k) h = record { from = ca; to = cb; from_memory = h.from_memory; to_memory = h.to_memory; earlier = h.earlier; condition = Condition-settled a b cb k h.condition }
   HasReason-settled a b ca cb Coherence h = h
   HasReason-settled a b ca cb ReadsFrom h = record { load = h.load; is_writer = writer-settled b.word b.read a ca h.is_writer; not_earlier = h.not_earlier }
@@ -73,7 +73,7 @@ module _ (model : MemoryModel) (old new : List Event) (grows : Grows old new) (k
       }
 
 -- one more event
-grows-push : (log : List Event) (e : Event) → Grows log (log ++ e ∷ [])
+pub grows-push : (log : List Event) (e : Event) → Grows log (log ++ e ∷ [])
 grows-push log e hart = (of_hart hart (e ∷ []), filter-append (λ (x : Event). hart == x.id.hart) log (e ∷ []))
 
 -- each edge of the grown log is an old one, or has the new event at an end

@@ -1,10 +1,10 @@
 -- Edges: pairs of memory operations that stand in one order in every lawful order, each with a reason.
 -- After Gibbons and Korach, "Testing shared memories" (1997), over the axioms of the manual's section 14.1.
-use Rattle.std.specs.Prelude.{◌<◌, ◌≡◌, ◌≢◌, List, Contains, Some}
+use Rattle.std.specs.Prelude.{ℕ, ◌<◌, ◌≡◌, ◌≢◌, List, Contains, Some}
 use Rattle.rv_event.specs.Operations.{IsLoad, IsStore, IsMemory}
 use Rattle.rv_event.specs.Log.{named, writer, Earlier}
 use Rattle.rv_event.specs.Relations.{Paired}
-use Rattle.rv_event.specs.Preserved.{Rule}
+use Rattle.rv_event.specs.Preserved.{Rule, IsPreserved}
 use Rattle.rv_event.specs.declared.event.Id.{Id}
 use Rattle.rv_event.specs.declared.event.Event.{Event}
 use Rattle.rv_event.specs.declared.memory_model.MemoryModel.{MemoryModel}
@@ -67,6 +67,15 @@ pub record IsEdge (model : MemoryModel) (log : List Event) (from : Id) (reason :
   pub from_memory : IsMemory a
   pub to_memory : IsMemory b
   pub why : HasReason model log reason a b
+
+-- the reason is no rule, or the lowest one that orders the two
+abbrev pub IsLowest : MemoryModel → List Event → Id → Reason → Id → Type 0
+IsLowest model log from (Preserved k) to = (j : ℕ) → j < k → IsPreserved model log j from to → ⊥
+IsLowest model log from Coherence to = Unit {0}
+IsLowest model log from ReadsFrom to = Unit {0}
+IsLowest model log from FromRead to = Unit {0}
+IsLowest model log from AtomicIn to = Unit {0}
+IsLowest model log from AtomicOut to = Unit {0}
 
 -- a load, and an earlier store of its hart and word with a higher version than the load returned
 pub record IsStale (log : List Event) (load store : Id) : Type 0 where

@@ -1,12 +1,14 @@
 //! Edges of a log, reason by reason, and stale pairs, by scans of the log.
-ghost use Rattle.std.specs.Prelude.{◌≡◌, ◌≢◌, ◌↔◌, ◌<◌, IsTrue, Some, Any, Contains};
+ghost use Rattle.std.specs.Prelude.{◌≡◌, ◌↔◌, ◌<◌, IsTrue, IfSome, IfNone, Some, Any, Contains};
 ghost use Rattle.rv_event.specs.Log.{events, named, writer};
 ghost use Rattle.rv_event.specs.Operations.{IsStore};
 ghost use Rattle.rv_event.specs.Relations.{Paired};
-ghost use Rattle.rv_event.specs.Edges.{IsCoherence, IsReadsFrom, IsFromRead, IsAtomicIn, IsAtomicOut, HasReason, IsEdge, IsStale};
+ghost use Rattle.rv_event.specs.Edges.{IsCoherence, IsReadsFrom, IsFromRead, IsAtomicIn, IsAtomicOut, HasReason, IsEdge, IsLowest, IsStale};
+ghost use Rattle.rv_event.specs.declared.reason.Reason.{Reason};
 
 use crate::event::{Entry, Event, Id};
 use crate::memory_model::MemoryModel;
+use crate::preserved::lowest_rule;
 use crate::reason::Reason;
 use crate::relations::is_paired;
 use crate::rules::is_rule;
@@ -85,6 +87,36 @@ pub fn is_edge(model: MemoryModel, log: &[Entry], from: Id, reason: Reason, to: 
         return false;
     };
     a.is_memory() && b.is_memory() && is_reason(model, log, reason, a, b)
+}
+
+/// The first reason for which the log has an edge between the two: the lowest rule, else coherence, reads-from, from-read,
+/// atomic-in or atomic-out. None exactly where there is no edge from the one to the other.
+///
+/// It costs a few passes over the log for each rule and reason.
+pub fn find_reason(model: MemoryModel, log: &[Entry], from: Id, to: Id) -> Option<Reason>
+    ensures some { IfSome result (λ r. IsEdge model (events log.now) from r to) }
+    ensures lowest { IfSome result (λ r. IsLowest model (events log.now) from r to) }
+    ensures none { IfNone result ((r : Reason) → IsEdge model (events log.now) from r to → ⊥) }
+{
+    if let Some(rule) = lowest_rule(model, log, from, to) {
+        return Some(Reason::Preserved(rule));
+    }
+    if is_edge(model, log, from, Reason::Coherence, to) {
+        return Some(Reason::Coherence);
+    }
+    if is_edge(model, log, from, Reason::ReadsFrom, to) {
+        return Some(Reason::ReadsFrom);
+    }
+    if is_edge(model, log, from, Reason::FromRead, to) {
+        return Some(Reason::FromRead);
+    }
+    if is_edge(model, log, from, Reason::AtomicIn, to) {
+        return Some(Reason::AtomicIn);
+    }
+    if is_edge(model, log, from, Reason::AtomicOut, to) {
+        return Some(Reason::AtomicOut);
+    }
+    None
 }
 
 /// Whether the pair is stale: the store is earlier in the load's hart, and wrote a newer version of its word than the load

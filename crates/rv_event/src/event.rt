@@ -143,7 +143,7 @@ impl PartialEq for Deps {
     ghost laws = { lists_per laws-law };
 
     fn eq(&self, other: &Deps) -> bool {
-        self.items.as_slice() == other.items.as_slice()
+        self.as_slice() == other.as_slice()
     }
 }
 
@@ -159,7 +159,8 @@ impl Deps {
     pub fn into_vec(self) -> Vec<Dep>
         ensures { result.items ≡ self }
     {
-        self.items
+        let Deps { items } = self;
+        items
     }
 
     /// The dependencies, in order.

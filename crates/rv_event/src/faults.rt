@@ -1,9 +1,10 @@
 //! The fault of an entry over a log, by scans of the log.
-ghost use Rattle.std.specs.Prelude.{◌≡◌, ◌<◌, ◌≤◌, ◌^◌, ◌==◌, ◌&&◌, not, if◌then◌else◌, length, count_by};
+ghost use Rattle.std.specs.Prelude.{◌≡◌, ◌↔◌, ◌<◌, ◌≤◌, ◌^◌, ◌==◌, ◌&&◌, not, if◌then◌else◌, length, count_by, IsTrue};
 ghost use Rattle.std.specs.List.{list_any};
 ghost use Rattle.rv_event.specs.Log.{events};
 ghost use Rattle.rv_event.specs.Operations.{is_exclusive};
-ghost use Rattle.rv_event.specs.Faults.{expected, names_no_value, is_bad_dependency, can_be_named, admits, is_lr, is_reserved, hart_fault, sequence_fault, dependency_fault, zero_fault, taken_fault, reservation_fault, full_fault, source_fault, deps_fault, fault_of};
+ghost use Rattle.rv_event.specs.WellFormed.{WellFormed};
+ghost use Rattle.rv_event.specs.Faults.{expected, names_no_value, is_bad_dependency, can_be_named, admits, is_lr, is_reserved, hart_fault, sequence_fault, dependency_fault, zero_fault, taken_fault, reservation_fault, full_fault, source_fault, deps_fault, first_faults, lowest, event_fault, fault_of};
 
 use crate::event::{Dep, DepKind, Entry, Event, Id, Op};
 use crate::fault::Fault;
@@ -195,15 +196,11 @@ fn find_deps_fault(event: &Event) -> Option<Fault>
     }
 }
 
-/// The fault of the entry over the log: the first in the list of [`Fault`] that holds, with its data. None where the entry
-/// may follow the log.
-///
-/// It costs a few passes over the log, and one for each dependency.
-pub fn find_fault(log: &[Entry], entry: &Entry) -> Option<Fault>
+/// The first fault up to a full hart: those that look at events alone.
+fn find_first_fault(log: &[Entry], event: &Event) -> Option<Fault>
     requires { length log.now < 2 ^ 32 }
-    ensures { result ≡ fault_of log.now entry.now }
+    ensures { result ≡ lowest (first_faults (events log.now) event.now) }
 {
-    let event = &entry.event;
     if let Some(fault) = find_hart_fault(event) {
         return Some(fault);
     }
@@ -222,11 +219,52 @@ pub fn find_fault(log: &[Entry], entry: &Entry) -> Option<Fault>
     if let Some(fault) = find_reservation_fault(log, event) {
         return Some(fault);
     }
-    if let Some(fault) = find_full_fault(log, event) {
+    find_full_fault(log, event)
+}
+
+/// The fault of the entry over the log: the first in the list of [`Fault`] that holds, with its data. None where the entry
+/// may follow the log.
+///
+/// It costs a few passes over the log, and one for each dependency.
+pub fn find_fault(log: &[Entry], entry: &Entry) -> Option<Fault>
+    requires { length log.now < 2 ^ 32 }
+    ensures { result ≡ fault_of log.now entry.now }
+{
+    if let Some(fault) = find_first_fault(log, &entry.event) {
         return Some(fault);
     }
     if let Some(fault) = find_source_fault(log, entry) {
         return Some(fault);
     }
+    find_deps_fault(&entry.event)
+}
+
+/// The fault of the event over the events of the log, as [`find_fault`] but for its source: all but `OtherSource`.
+///
+/// It costs a few passes over the log, and one for each dependency.
+pub fn find_event_fault(log: &[Entry], event: &Event) -> Option<Fault>
+    requires { length log.now < 2 ^ 32 }
+    ensures { result ≡ event_fault (events log.now) event.now }
+{
+    if let Some(fault) = find_first_fault(log, event) {
+        return Some(fault);
+    }
     find_deps_fault(event)
+}
+
+/// Whether the log is well formed: no entry has a fault over the entries before it.
+///
+/// It costs the square of the log's length.
+pub fn is_well_formed(log: &[Entry]) -> bool
+    ensures { IsTrue result ↔ WellFormed log.now }
+{
+    if log.len() > 65_536 {
+        return false;
+    }
+    for i in 0..log.len() {
+        if find_fault(&log[..i], &log[i]).is_some() {
+            return false;
+        }
+    }
+    true
 }

@@ -31,10 +31,10 @@ mod search;
 mod tests;
 
 pub use chunk::{Chunk, chunk_texts_tell, pack, unpack};
-pub use edges::{is_edge, is_stale};
+pub use edges::{find_reason, is_edge, is_stale};
 pub use event::{Dep, DepKind, Deps, Entry, Event, Id, Op, Set, is_same};
 pub use fault::Fault;
-pub use faults::find_fault;
+pub use faults::{find_event_fault, find_fault, is_well_formed};
 pub use laws::{
     edges_stay, logs_are_bounded, merges_are_well_formed, merges_share_orders,
     new_edges_end_at_the_new_event,

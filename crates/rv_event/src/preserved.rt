@@ -33,7 +33,7 @@ pub fn lowest_rule(model: MemoryModel, log: &[Entry], a: Id, b: Id) -> Option<u8
     ensures lowest { IfSome result (λ k. (j : ℕ) → j < k → IsPreserved model (events log.now) j a b → ⊥) }
     ensures none { IfNone result ((k : ℕ) → IsPreserved model (events log.now) k a b → ⊥) }
 {
-    for k in 0..14 {
+    for k in 1..14 {
         if is_preserved_by(model, log, k, a, b) {
             return Some(k);
         }

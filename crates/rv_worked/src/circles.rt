@@ -6,15 +6,15 @@ use crate::rows::{
 use rv_event::{Entry, Id, MemoryModel, Op, Reason, is_edge, is_stale};
 
 /// An execution, in the order of arrival, and a circle of edges: each leads to the next one's id, the last to the first.
-struct Circle {
-    name: &'static str,
-    model: MemoryModel,
-    rows: &'static [Row],
-    edges: &'static [(Id, Reason)],
+pub struct WorkedCircle {
+    pub name: &'static str,
+    pub model: MemoryModel,
+    pub rows: &'static [Row],
+    pub edges: &'static [(Id, Reason)],
 }
 
-const CIRCLES: &[Circle] = &[
-    Circle {
+pub const CIRCLES: &[WorkedCircle] = &[
+    WorkedCircle {
         name: "store buffering with fences",
         model: MemoryModel::Rvwmo,
         rows: &[
@@ -32,7 +32,7 @@ const CIRCLES: &[Circle] = &[
             (id!(1: 0), Reason::Preserved(4)),
         ],
     },
-    Circle {
+    WorkedCircle {
         name: "message passing with a fence and an address",
         model: MemoryModel::Rvwmo,
         rows: &[
@@ -49,7 +49,7 @@ const CIRCLES: &[Circle] = &[
             (id!(1: 0), Reason::Preserved(9)),
         ],
     },
-    Circle {
+    WorkedCircle {
         name: "load buffering with data",
         model: MemoryModel::Rvwmo,
         rows: &[
@@ -65,7 +65,7 @@ const CIRCLES: &[Circle] = &[
             (id!(1: 0), Reason::Preserved(10)),
         ],
     },
-    Circle {
+    WorkedCircle {
         name: "reads of one word go back",
         model: MemoryModel::Rvwmo,
         rows: &[store!(0: 0, X = 1), load!(1: 0, X = 1), load!(1: 1, X = 0)],
@@ -75,7 +75,7 @@ const CIRCLES: &[Circle] = &[
             (id!(1: 0), Reason::Preserved(2)),
         ],
     },
-    Circle {
+    WorkedCircle {
         name: "a foreign store between an LR and its SC",
         model: MemoryModel::Rvwmo,
         rows: &[lr!(0: 0, X = 0), sc!(0: 1, X = 2), store!(1: 0, X = 1)],
@@ -84,7 +84,7 @@ const CIRCLES: &[Circle] = &[
             (id!(0: 1), Reason::AtomicOut),
         ],
     },
-    Circle {
+    WorkedCircle {
         name: "a foreign store past an own one between an LR and its SC",
         model: MemoryModel::Rvwmo,
         rows: &[
@@ -98,7 +98,7 @@ const CIRCLES: &[Circle] = &[
             (id!(0: 2), Reason::AtomicOut),
         ],
     },
-    Circle {
+    WorkedCircle {
         name: "the writer of what an LR returned stands before the SC",
         model: MemoryModel::Rvwmo,
         rows: &[
@@ -115,13 +115,13 @@ const CIRCLES: &[Circle] = &[
             (id!(1: 0), Reason::Preserved(9)),
         ],
     },
-    Circle {
+    WorkedCircle {
         name: "an LR that returned what its own SC wrote",
         model: MemoryModel::Rvwmo,
         rows: &[lr!(0: 0, X = 1), sc!(0: 1, X = 1)],
         edges: &[(id!(0: 1), Reason::AtomicIn)],
     },
-    Circle {
+    WorkedCircle {
         name: "a store inside an AMO",
         model: MemoryModel::Rvwmo,
         rows: &[amo!(0: 0, X, 0, 2), store!(1: 0, X = 1)],
@@ -130,13 +130,13 @@ const CIRCLES: &[Circle] = &[
             (id!(0: 0), Reason::FromRead),
         ],
     },
-    Circle {
+    WorkedCircle {
         name: "an AMO that returned what it wrote",
         model: MemoryModel::Rvwmo,
         rows: &[amo!(0: 0, X, 1, 1)],
         edges: &[(id!(0: 0), Reason::ReadsFrom)],
     },
-    Circle {
+    WorkedCircle {
         name: "no forwarding from an SC",
         model: MemoryModel::Rvwmo,
         rows: &[
@@ -156,7 +156,7 @@ const CIRCLES: &[Circle] = &[
             (id!(1: 0), Reason::Preserved(4)),
         ],
     },
-    Circle {
+    WorkedCircle {
         name: "no forwarding from an AMO, by the lower rule",
         model: MemoryModel::Rvwmo,
         rows: &[
@@ -175,7 +175,7 @@ const CIRCLES: &[Circle] = &[
             (id!(1: 0), Reason::Preserved(4)),
         ],
     },
-    Circle {
+    WorkedCircle {
         name: "no forwarding from an AMO, by the higher rule",
         model: MemoryModel::Rvwmo,
         rows: &[
@@ -194,7 +194,7 @@ const CIRCLES: &[Circle] = &[
             (id!(1: 0), Reason::Preserved(4)),
         ],
     },
-    Circle {
+    WorkedCircle {
         name: "a load of what a dependent store wrote",
         model: MemoryModel::Rvwmo,
         rows: &[
@@ -213,7 +213,7 @@ const CIRCLES: &[Circle] = &[
             (id!(1: 0), Reason::Preserved(10)),
         ],
     },
-    Circle {
+    WorkedCircle {
         name: "a store after a dependent address",
         model: MemoryModel::Rvwmo,
         rows: &[
@@ -230,7 +230,7 @@ const CIRCLES: &[Circle] = &[
             (id!(1: 0), Reason::Preserved(10)),
         ],
     },
-    Circle {
+    WorkedCircle {
         name: "a store after a branch",
         model: MemoryModel::Rvwmo,
         rows: &[
@@ -247,7 +247,7 @@ const CIRCLES: &[Circle] = &[
             (id!(1: 0), Reason::Preserved(10)),
         ],
     },
-    Circle {
+    WorkedCircle {
         name: "a fence of loads takes an AMO whole",
         model: MemoryModel::Rvwmo,
         rows: &[
@@ -265,7 +265,7 @@ const CIRCLES: &[Circle] = &[
             (id!(1: 0), Reason::Preserved(4)),
         ],
     },
-    Circle {
+    WorkedCircle {
         name: "message passing with a release and an acquire",
         model: MemoryModel::Rvwmo,
         rows: &[
@@ -284,8 +284,8 @@ const CIRCLES: &[Circle] = &[
 ];
 
 /// Executions that total store ordering forbids and RVWMO allows.
-const TOTAL_STORE_CIRCLES: &[Circle] = &[
-    Circle {
+pub const TOTAL_STORE_CIRCLES: &[WorkedCircle] = &[
+    WorkedCircle {
         name: "message passing",
         model: MemoryModel::Ztso,
         rows: &[
@@ -301,7 +301,7 @@ const TOTAL_STORE_CIRCLES: &[Circle] = &[
             (id!(1: 0), Reason::Preserved(5)),
         ],
     },
-    Circle {
+    WorkedCircle {
         name: "load buffering",
         model: MemoryModel::Ztso,
         rows: &[
@@ -317,7 +317,7 @@ const TOTAL_STORE_CIRCLES: &[Circle] = &[
             (id!(1: 0), Reason::Preserved(5)),
         ],
     },
-    Circle {
+    WorkedCircle {
         name: "store buffering with AMOs",
         model: MemoryModel::Ztso,
         rows: &[

@@ -6,17 +6,17 @@ use crate::rows::{
 use rv_event::{Id, MemoryModel, Op, is_preserved_by, lowest_rule};
 
 /// A history of one hart, two of its events, and the lowest rule between them, 0 for none.
-struct History {
-    name: &'static str,
-    model: MemoryModel,
-    rows: &'static [Row],
-    from: u32,
-    to: u32,
-    rule: u8,
+pub struct WorkedHistory {
+    pub name: &'static str,
+    pub model: MemoryModel,
+    pub rows: &'static [Row],
+    pub from: u32,
+    pub to: u32,
+    pub rule: u8,
 }
 
-const HISTORIES: &[History] = &[
-    History {
+pub const HISTORIES: &[WorkedHistory] = &[
+    WorkedHistory {
         name: "a store of the word of an earlier load",
         model: MemoryModel::Rvwmo,
         rows: &[load!(0: 0, X = 0), store!(0: 1, X = 1)],
@@ -24,7 +24,7 @@ const HISTORIES: &[History] = &[
         to: 1,
         rule: 1,
     },
-    History {
+    WorkedHistory {
         name: "loads of one word that return one version",
         model: MemoryModel::Rvwmo,
         rows: &[load!(0: 0, X = 1), load!(0: 1, X = 1)],
@@ -32,7 +32,7 @@ const HISTORIES: &[History] = &[
         to: 1,
         rule: 0,
     },
-    History {
+    WorkedHistory {
         name: "an acquire before a load",
         model: MemoryModel::Rvwmo,
         rows: &[lr!(0: 0, X = 0, Acquire), load!(0: 1, Y = 0)],
@@ -40,7 +40,7 @@ const HISTORIES: &[History] = &[
         to: 1,
         rule: 5,
     },
-    History {
+    WorkedHistory {
         name: "a release after a store",
         model: MemoryModel::Rvwmo,
         rows: &[store!(0: 0, X = 1), amo!(0: 1, Y, 0, 1, Release)],
@@ -48,7 +48,7 @@ const HISTORIES: &[History] = &[
         to: 1,
         rule: 6,
     },
-    History {
+    WorkedHistory {
         name: "a release before an acquire, both RCsc",
         model: MemoryModel::Rvwmo,
         rows: &[amo!(0: 0, X, 0, 1, Release), amo!(0: 1, Y, 0, 1, Acquire)],
@@ -56,7 +56,7 @@ const HISTORIES: &[History] = &[
         to: 1,
         rule: 7,
     },
-    History {
+    WorkedHistory {
         name: "an address that depends on a load",
         model: MemoryModel::Rvwmo,
         rows: &[load!(0: 0, X = 0), load!(0: 1, Y = 0, A0)],
@@ -64,7 +64,7 @@ const HISTORIES: &[History] = &[
         to: 1,
         rule: 9,
     },
-    History {
+    WorkedHistory {
         name: "data that depend on a load",
         model: MemoryModel::Rvwmo,
         rows: &[load!(0: 0, X = 0), store!(0: 1, Y = 1, D0)],
@@ -72,7 +72,7 @@ const HISTORIES: &[History] = &[
         to: 1,
         rule: 10,
     },
-    History {
+    WorkedHistory {
         name: "a store after a branch on a load",
         model: MemoryModel::Rvwmo,
         rows: &[
@@ -84,7 +84,7 @@ const HISTORIES: &[History] = &[
         to: 2,
         rule: 11,
     },
-    History {
+    WorkedHistory {
         name: "a branch is no memory operation",
         model: MemoryModel::Rvwmo,
         rows: &[
@@ -96,7 +96,7 @@ const HISTORIES: &[History] = &[
         to: 1,
         rule: 0,
     },
-    History {
+    WorkedHistory {
         name: "a load that returns what a dependent store wrote",
         model: MemoryModel::Rvwmo,
         rows: &[
@@ -108,7 +108,7 @@ const HISTORIES: &[History] = &[
         to: 2,
         rule: 12,
     },
-    History {
+    WorkedHistory {
         name: "forwarding alone orders nothing",
         model: MemoryModel::Rvwmo,
         rows: &[
@@ -120,7 +120,7 @@ const HISTORIES: &[History] = &[
         to: 2,
         rule: 0,
     },
-    History {
+    WorkedHistory {
         name: "a store after an address that depends on a load",
         model: MemoryModel::Rvwmo,
         rows: &[
@@ -132,7 +132,7 @@ const HISTORIES: &[History] = &[
         to: 2,
         rule: 13,
     },
-    History {
+    WorkedHistory {
         name: "a store after a load of another word",
         model: MemoryModel::Rvwmo,
         rows: &[
@@ -144,7 +144,7 @@ const HISTORIES: &[History] = &[
         to: 2,
         rule: 0,
     },
-    History {
+    WorkedHistory {
         name: "a load after a store of another word",
         model: MemoryModel::Rvwmo,
         rows: &[store!(0: 0, X = 1), load!(0: 1, Y = 0)],
@@ -152,7 +152,7 @@ const HISTORIES: &[History] = &[
         to: 1,
         rule: 0,
     },
-    History {
+    WorkedHistory {
         name: "a pair of two words",
         model: MemoryModel::Rvwmo,
         rows: &[lr!(0: 0, X = 0), sc!(0: 1, Y = 1)],
@@ -160,7 +160,7 @@ const HISTORIES: &[History] = &[
         to: 1,
         rule: 8,
     },
-    History {
+    WorkedHistory {
         name: "a load of what an AMO wrote: the lower of two rules",
         model: MemoryModel::Rvwmo,
         rows: &[amo!(0: 0, X, 0, 1), load!(0: 1, X = 1)],
@@ -168,7 +168,7 @@ const HISTORIES: &[History] = &[
         to: 1,
         rule: 2,
     },
-    History {
+    WorkedHistory {
         name: "a load of what an SC wrote",
         model: MemoryModel::Rvwmo,
         rows: &[lr!(0: 0, X = 0), sc!(0: 1, X = 1), load!(0: 2, X = 1)],
@@ -176,7 +176,7 @@ const HISTORIES: &[History] = &[
         to: 2,
         rule: 3,
     },
-    History {
+    WorkedHistory {
         name: "a load of what an AMO wrote, past a store",
         model: MemoryModel::Rvwmo,
         rows: &[amo!(0: 0, X, 0, 1), store!(0: 1, X = 2), load!(0: 2, X = 1)],
@@ -184,7 +184,7 @@ const HISTORIES: &[History] = &[
         to: 2,
         rule: 3,
     },
-    History {
+    WorkedHistory {
         name: "a fence of all operations",
         model: MemoryModel::Rvwmo,
         rows: &[
@@ -196,7 +196,7 @@ const HISTORIES: &[History] = &[
         to: 2,
         rule: 4,
     },
-    History {
+    WorkedHistory {
         name: "a fence of loads orders no store",
         model: MemoryModel::Rvwmo,
         rows: &[
@@ -208,7 +208,7 @@ const HISTORIES: &[History] = &[
         to: 2,
         rule: 0,
     },
-    History {
+    WorkedHistory {
         name: "a fence of stores takes an AMO",
         model: MemoryModel::Rvwmo,
         rows: &[
@@ -220,7 +220,7 @@ const HISTORIES: &[History] = &[
         to: 2,
         rule: 4,
     },
-    History {
+    WorkedHistory {
         name: "FENCE.TSO leaves a store before a load unordered",
         model: MemoryModel::Rvwmo,
         rows: &[
@@ -232,7 +232,7 @@ const HISTORIES: &[History] = &[
         to: 2,
         rule: 0,
     },
-    History {
+    WorkedHistory {
         name: "FENCE.TSO orders a load before a store",
         model: MemoryModel::Rvwmo,
         rows: &[
@@ -244,7 +244,7 @@ const HISTORIES: &[History] = &[
         to: 2,
         rule: 4,
     },
-    History {
+    WorkedHistory {
         name: "total store ordering: an SC before an LR, both RCpc",
         model: MemoryModel::Ztso,
         rows: &[lr!(0: 0, X = 0), sc!(0: 1, X = 1), lr!(0: 2, Y = 0)],
@@ -252,7 +252,7 @@ const HISTORIES: &[History] = &[
         to: 2,
         rule: 0,
     },
-    History {
+    WorkedHistory {
         name: "total store ordering: an SC before an LR, both RCsc",
         model: MemoryModel::Ztso,
         rows: &[
@@ -264,7 +264,7 @@ const HISTORIES: &[History] = &[
         to: 2,
         rule: 7,
     },
-    History {
+    WorkedHistory {
         name: "total store ordering: a load before a load",
         model: MemoryModel::Ztso,
         rows: &[load!(0: 0, X = 0), load!(0: 1, Y = 0)],
@@ -272,7 +272,7 @@ const HISTORIES: &[History] = &[
         to: 1,
         rule: 5,
     },
-    History {
+    WorkedHistory {
         name: "total store ordering: a store before a store",
         model: MemoryModel::Ztso,
         rows: &[store!(0: 0, X = 1), store!(0: 1, Y = 1)],
@@ -280,7 +280,7 @@ const HISTORIES: &[History] = &[
         to: 1,
         rule: 6,
     },
-    History {
+    WorkedHistory {
         name: "total store ordering: a store before a load",
         model: MemoryModel::Ztso,
         rows: &[store!(0: 0, X = 1), load!(0: 1, Y = 0)],
@@ -288,7 +288,7 @@ const HISTORIES: &[History] = &[
         to: 1,
         rule: 0,
     },
-    History {
+    WorkedHistory {
         name: "total store ordering: AMOs are RCsc",
         model: MemoryModel::Ztso,
         rows: &[amo!(0: 0, X, 0, 1), amo!(0: 1, Y, 0, 1)],

@@ -1,9 +1,14 @@
 use Rattle.std.proofs.Common.{◌<◌, arith}
 use Rattle.rv_event.specs.Log.{events}
-use Rattle.rv_event.proofs.Conditions.{Condition-number}
+use Rattle.rv_event.proofs.Conditions.{Condition-above, Condition-number}
 use Rattle.rv_event.proofs.preserved.lowest_rule.Goals as goal
 
 pub returns-clause-none : goal.returns-clause-none
 returns-clause-none c k p =
     let few : k < 14 = Condition-number c.args.model (events c.args.log.now) p.a p.b k p.rule.condition in
     c.loop-k.invariant k (omega arith) p
+
+pub loop-k-init : goal.loop-k-init
+loop-k-init c j low p =
+    let above : 0 < j = Condition-above c.args.model (events c.args.log.now) p.a p.b j p.rule.condition in
+    omega arith

@@ -1,0 +1,134 @@
+-- In a history kept links are edges, and cover every edge.
+use Rattle.std.proofs.Common.{◌≡◌, List, [], ◌∷◌, ◌++◌, length, ◌⊎◌, inl, inr, refl, sym, ap, ◌∙◌, arith, subst, append_assoc, append-nil, length-append}
+use Rattle.std.proofs.lemmas.List.{map-append}
+use Rattle.std.proofs.lemmas.List.Elements.{Contains-push_cases}
+use Rattle.std.proofs.lemmas.Option.{none-some}
+use Rattle.rv_event.proofs.Indexed.{Indexed, AllSound, indexed-all, indexed-nil, indexed-push, sound_of}
+use Rattle.rv_event.proofs.Pushed.{split_push}
+use Rattle.rv_event.proofs.Growing.{Any-contains, Any-from_contains, IsEdge-grows}
+use Rattle.rv_event.proofs.Settled.{grows-push}
+use Rattle.rv_event.specs.Edges.{IsEdge}
+use Rattle.rv_event.specs.WellFormed.{WellFormedEvents}
+use Rattle.rv_event.specs.declared.event.Id.{Id}
+use Rattle.rv_event.specs.declared.event.Event.{Event}
+use Rattle.rv_event.specs.declared.event.Entry.{Entry}
+use Rattle.rv_event.specs.declared.memory_model.MemoryModel.{MemoryModel}
+use Rattle.rv_event.specs.declared.reason.Reason.{Reason}
+use Rattle.rv_edges.specs.Paths.{Covers}
+use Rattle.rv_edges.specs.declared.history.OwnLinks.{OwnLinks}
+use Rattle.rv_edges.specs.Kept.{Kept, kept_from, happened, grown, Joins, IsKept, Ties, IsTied}
+use Rattle.rv_edges.specs.Laws.{Either}
+use Rattle.rv_edges.specs.Histories.{Joined, IsHistory, IsCarried}
+use Rattle.rv_edges.proofs.Covering.{covered, path-map}
+use Rattle.rv_edges.proofs.Listed.{Contains-old, Contains-last, Contains-none}
+use Rattle.rv_edges.proofs.Sides.{kept_one, kept_from-push}
+
+pub happened-push : (h : List Kept) (k : Kept) → happened (h ++ k ∷ []) ≡ happened h ++ k.event ∷ []
+happened-push h k = map-append (λ (x : Kept). x.event) h (k ∷ [])
+
+-- events without faults over those before them are indexed
+events_sound : (log before rest : List Event) → WellFormedEvents log → log ≡ before ++ rest → AllSound before rest
+events_sound log before [] ok e = tt
+events_sound log before (x ∷ rest) ok e =
+    (sound_of before x (ok before rest x e), events_sound log (before ++ x ∷ []) rest ok (e ∙ sym (append_assoc before (x ∷ []) rest)))
+
+pub indexed_from_events : (log : List Event) → WellFormedEvents log → Indexed log
+indexed_from_events log ok = indexed-all [] log indexed-nil (events_sound log [] log ok refl)
+
+module _ (model : MemoryModel) where
+  all_sound : (h before rest : List Kept) → IsHistory model h → h ≡ before ++ rest → AllSound (happened before) (happened rest)
+  all_sound h before [] ok e = tt
+  all_sound h before (k ∷ rest) ok e =
+      let again : AllSound (happened (before ++ k ∷ [])) (happened rest) = all_sound h (before ++ k ∷ []) rest ok (e ∙ sym (append_assoc before (k ∷ []) rest)) in
+      (sound_of (happened before) k.event (ok before rest k e).sound, subst (λ (seen : List Event). AllSound seen (happened rest)) (happened-push before k) again)
+
+  pub indexed_from_IsHistory : (h : List Kept) → IsHistory model h → Indexed (happened h)
+  indexed_from_IsHistory h ok = indexed-all [] (happened h) indexed-nil (all_sound h [] h ok refl)
+
+  IsKept-old : (h : List Kept) (k : Kept) (i j : Id) (r : Reason) → IsKept h i r j → IsKept (h ++ k ∷ []) i r j
+  IsKept-old h k i j r any =
+      let a = Any-contains (λ x. Joins x i r j) h any in
+      Any-from_contains (λ x. Joins x i r j) (h ++ k ∷ []) a.0 (Contains-old h k a.0 a.1) a.2
+
+  IsKept-new : (h : List Kept) (k : Kept) (i j : Id) (r : Reason) → Joins k i r j → IsKept (h ++ k ∷ []) i r j
+  IsKept-new h k i j r is = Any-from_contains (λ x. Joins x i r j) (h ++ k ∷ []) k (Contains-last h k) is
+
+  IsKept-cases : (h : List Kept) (k : Kept) (i j : Id) (r : Reason) → IsKept (h ++ k ∷ []) i r j → IsKept h i r j ⊎ Joins k i r j
+  IsKept-cases h k i j r any =
+      let a = Any-contains (λ x. Joins x i r j) (h ++ k ∷ []) any in
+      elim (Contains-push_cases h k a.0 a.1) [
+        | inl old ↦ inl (Any-from_contains (λ x. Joins x i r j) h a.0 old a.2)
+        | inr is ↦ inr (subst (λ (x : Kept). Joins x i r j) (sym is) a.2)
+      ]
+
+  either_tied : (h : List Kept) (k : Kept) (i j : Id) → Either (IsTied h) (Ties k) i j → IsTied (h ++ k ∷ []) i j
+  either_tied h k i j (inl t) = (t.0, IsKept-old h k i j t.0 t.1)
+  either_tied h k i j (inr t) = (t.0, IsKept-new h k i j t.0 t.1)
+
+  -- the links of an event that joins a history cover its edges, with those kept
+  pub covered_with : (h : List Kept) (k : Kept) → Indexed (happened h) → Joined model h k → Covers model (happened h) (IsTied h) → Covers model (grown h k.event) (IsTied (h ++ k ∷ []))
+  covered_with h k known joined covers i j r other edge =
+      path-map Id (Either (IsTied h) (Ties k)) (IsTied (h ++ k ∷ [])) (either_tied h k) i j
+      (covered model (happened h) k.event (IsTied h) (Ties k) known (sound_of (happened h) k.event joined.sound) covers joined.linked.carried i j r other edge)
+
+  -- an event with such links keeps it so
+  IsCarried-push : (h : List Kept) (k : Kept) → Indexed (happened h) → Joined model h k → IsCarried model h → IsCarried model (h ++ k ∷ [])
+  IsCarried-push h k known joined ok =
+      let new = happened h ++ k.event ∷ [] in
+      let same = happened-push h k in
+      let known' : Indexed new = indexed-push (happened h) k.event known (sound_of (happened h) k.event joined.sound) in
+      record {
+        true_edges = λ i j r e. subst (λ (log : List Event). IsEdge model log i r j) (sym same) (elim (IsKept-cases h k i j r e) [
+          | inl old ↦ IsEdge-grows model (happened h) new (grows-push (happened h) k.event) known known' i j r (ok.true_edges i j r old)
+          | inr is ↦ joined.linked.listed i j r is
+        ]);
+        covered = subst (λ (log : List Event). Covers model log (IsTied (h ++ k ∷ []))) (sym same) (covered_with h k known joined ok.covered);
+      }
+
+  IsCarried-nil : IsCarried model []
+  IsCarried-nil = record {
+    true_edges = λ i j r e. absurd (Contains-none _ (Any-contains (λ x. Joins x i r j) [] e).1);
+    covered = λ i j r n e. absurd (none-some e.a e.from_named);
+  }
+
+  IsHistory-part : (before rest : List Kept) → IsHistory model (before ++ rest) → IsHistory model before
+  IsHistory-part before rest ok b a k e = ok b (a ++ rest) k (ap (λ (l : List Kept). l ++ rest) e ∙ append_assoc b (k ∷ a) rest)
+
+  carried_all : (before rest : List Kept) → IsHistory model (before ++ rest) → IsCarried model before → IsCarried model (before ++ rest)
+  carried_all before [] ok c = rw append-nil c
+  carried_all before (k ∷ rest) ok c =
+      let known = indexed_from_IsHistory before (IsHistory-part before (k ∷ rest) ok) in
+      let same = append_assoc before (k ∷ []) rest in
+      let step : IsCarried model (before ++ k ∷ []) = IsCarried-push before k known (ok before rest k refl) c in
+      subst (IsCarried model) same (carried_all (before ++ k ∷ []) rest (subst (IsHistory model) (sym same) ok) step)
+
+  pub carried_from_IsHistory : (h : List Kept) → IsHistory model h → IsCarried model h
+  carried_from_IsHistory h ok = carried_all [] h ok IsCarried-nil
+
+  pub IsHistory-nil : IsHistory model []
+  IsHistory-nil before after k e = absurd (omega (arith, ap length e, length-append before (k ∷ after)))
+
+  pub IsHistory-push : (h : List Kept) (k : Kept) → IsHistory model h → Joined model h k → IsHistory model (h ++ k ∷ [])
+  IsHistory-push h k ok joined before after y e = go (split_push h k before after y e)
+    where
+      go : ((h ≡ before) × (k ≡ y)) ⊎ ((rest : List Kept) × (h ≡ before ++ y ∷ rest)) → Joined model before y
+      go (inl (s, t)) = subst (λ (l : List Kept). Joined model l y) s (subst (λ (z : Kept). Joined model h z) t joined)
+      go (inr (rest, s)) = ok before rest y s
+
+  pub IsHistory-front : (h : List Kept) (k : Kept) → IsHistory model (h ++ k ∷ []) → IsHistory model h
+  IsHistory-front h k ok = IsHistory-part h (k ∷ []) ok
+
+  -- one more entry with its links
+  pub pushed_sides :
+      (xs new : List Entry) (ls more : List OwnLinks) (x : Entry) (l : OwnLinks) (k : Kept) → length xs ≡ length ls →
+      IsHistory model (kept_from xs ls) → Joined model (kept_from xs ls) k → kept_one x l ≡ k →
+      new ≡ xs ++ x ∷ [] → more ≡ ls ++ l ∷ [] →
+      (length new ≡ length more) × IsHistory model (kept_from new more) × (kept_from new more ≡ kept_from xs ls ++ k ∷ [])
+  pushed_sides xs new ls more x l k same ok joined is e f =
+      let cut : kept_from new more ≡ kept_from xs ls ++ k ∷ [] =
+      ap (λ (zs : List Entry). kept_from zs more) e ∙ ap (kept_from (xs ++ x ∷ [])) f ∙ kept_from-push xs ls x l same
+      ∙ ap (λ (z : Kept). kept_from xs ls ++ z ∷ []) is in (
+        omega (arith, same, ap length e, ap length f, length-append xs (x ∷ []), length-append ls (l ∷ [])),
+        subst (IsHistory model) (sym cut) (IsHistory-push (kept_from xs ls) k ok joined),
+        cut,
+      )

@@ -1,0 +1,52 @@
+-- Events that are kept with links to the events before them.
+use Rattle.std.specs.Prelude.{◌≡◌, ◌⊎◌, ◌++◌, List, [], ◌∷◌, map, Contains, Any}
+use Rattle.rv_event.specs.declared.event.Id.{Id}
+use Rattle.rv_event.specs.declared.event.Event.{Event}
+use Rattle.rv_event.specs.declared.event.Entry.{Entry}
+use Rattle.rv_event.specs.declared.memory_model.MemoryModel.{MemoryModel}
+use Rattle.rv_event.specs.declared.reason.Link.{Link}
+use Rattle.rv_event.specs.declared.reason.Reason.{Reason}
+use Rattle.rv_edges.specs.declared.history.OwnLinks.{OwnLinks}
+
+-- an event with links from events before it, and to events before it
+pub record Kept : Type 0 where
+  pub event : Event
+  pub before : List Link
+  pub after : List Link
+
+-- a history: a model, and events with their links
+pub record Past : Type 0 where
+  pub model : MemoryModel
+  pub kept : List Kept
+
+-- entries and links side by side
+abbrev pub kept_from : List Entry → List OwnLinks → List Kept
+kept_from [] links = []
+kept_from (x ∷ entries) [] = []
+kept_from (x ∷ entries) (own ∷ links) =
+    record { event = x.event; before = own.before; after = own.after } ∷ kept_from entries links
+
+-- the events of a history
+abbrev pub happened : List Kept → List Event
+happened kept = map (λ k. k.event) kept
+
+-- the events of a history and the new one
+abbrev pub grown : List Kept → Event → List Event
+grown kept e = happened kept ++ e ∷ []
+
+-- a link of the event leads from the one id to the other, with this reason
+abbrev pub Joins : Kept → Id → Reason → Id → Type 0
+Joins k i r j =
+    ((j ≡ k.event.id) × Contains k.before (record { id = i; reason = r }))
+    ⊎ ((i ≡ k.event.id) × Contains k.after (record { id = j; reason = r }))
+
+-- a link that some event keeps
+abbrev pub IsKept : List Kept → Id → Reason → Id → Type 0
+IsKept kept i r j = Any (λ k. Joins k i r j) kept
+
+-- a link of the event, or a kept one, with any reason
+abbrev pub Ties : Kept → Id → Id → Type 0
+Ties k i j = (r : Reason) × Joins k i r j
+
+abbrev pub IsTied : List Kept → Id → Id → Type 0
+IsTied kept i j = (r : Reason) × IsKept kept i r j

@@ -1,0 +1,6 @@
+pub mod Carries
+pub mod Histories
+pub mod Kept
+pub mod Laws
+pub mod Listing
+pub mod Paths

@@ -1,0 +1,7 @@
+use Rattle.std.proofs.Common.{take}
+use Rattle.rv_event.specs.WellFormed.{WellFormed}
+use Rattle.rv_event.proofs.faults.is_well_formed.Given as goal
+
+-- what was looked at is well formed
+abbrev pub invariant-loop-i : goal.invariant-loop-i
+invariant-loop-i l = WellFormed (take l.i l.log)
