@@ -53,7 +53,7 @@ module _ (model : MemoryModel) where
   IsKept-new : (h : List Kept) (k : Kept) (i j : Id) (r : Reason) → Joins k i r j → IsKept (h ++ k ∷ []) i r j
   IsKept-new h k i j r is = Any-from_contains (λ x. Joins x i r j) (h ++ k ∷ []) k (Contains-last h k) is
 
-  IsKept-cases : (h : List Kept) (k : Kept) (i j : Id) (r : Reason) → IsKept (h ++ k ∷ []) i r j → IsKept h i r j ⊎ Joins k i r j
+  pub IsKept-cases : (h : List Kept) (k : Kept) (i j : Id) (r : Reason) → IsKept (h ++ k ∷ []) i r j → IsKept h i r j ⊎ Joins k i r j
   IsKept-cases h k i j r any =
       let a = Any-contains (λ x. Joins x i r j) (h ++ k ∷ []) any in
       elim (Contains-push_cases h k a.0 a.1) [

@@ -125,6 +125,16 @@ impl History {
         })
     }
 
+    /// The events of the history and the new one, as entries of source 0: a log for the plain program.
+    ///
+    /// # Errors
+    /// `NoMemory` where the list or a copy could not be had; nothing changes.
+    pub fn entries_with(&self, event: &Event) -> Result<Vec<Entry>, NoMemory>
+        ensures { IfOk result (λ log. events log.items ≡ grown self.now.kept event.now) }
+    {
+        with_event(self.alloc, self.entries.as_slice(), event)
+    }
+
     /// Adds the event with its links, which are as `around` promises.
     ///
     /// # Errors

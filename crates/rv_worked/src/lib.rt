@@ -1,11 +1,15 @@
 //! The worked executions: small traces whose answer is known from outside the code, and what each part of the monitor
 //! says of them.
 //!
-//! It has tests alone. Its tables ([`circles`], [`histories`], [`malformed`], made of [`rows`]) stand in one place, so that
+//! It has tests alone. Its tables ([`allowed`], [`circles`], [`histories`], [`malformed`], made of [`rows`]) stand in one place, so that
 //! the plain program, the checker and all that is built above them are held to the same executions. It stands on each crate
 //! that it tests.
 #![tactic(auto)]
 
+#[cfg(test)]
+mod allowed;
+#[cfg(test)]
+mod books;
 #[cfg(test)]
 mod certificates;
 #[cfg(test)]

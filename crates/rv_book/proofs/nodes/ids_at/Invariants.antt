@@ -1,0 +1,6 @@
+use Rattle.std.proofs.Common.{◌≡◌, map, take}
+use Rattle.rv_book.specs.Arranged.{at}
+use Rattle.rv_book.proofs.nodes.ids_at.Given as goal
+
+abbrev pub invariant-loop-node : goal.invariant-loop-node
+invariant-loop-node l = l.found.items ≡ map (at l.ids) (take l.node-index l.nodes)

@@ -1,0 +1,16 @@
+-- What a book counts in its log.
+use Rattle.std.specs.Prelude.{ℕ, Bool, not, ◌&&◌, ◌==◌, List, count_by, is_none}
+use Rattle.rv_event.specs.Operations.{is_load, is_memory}
+use Rattle.rv_event.specs.Log.{events, writer}
+use Rattle.rv_event.specs.declared.event.Event.{Event}
+use Rattle.rv_event.specs.declared.event.Entry.{Entry}
+
+-- a load waits where it returned a version above 0 that no store of the log has written yet
+abbrev pub is_waiting : List Event → Event → Bool
+is_waiting log e = is_load e.op && (not (e.read == 0) && is_none (writer log e.word e.read))
+
+abbrev pub operations_of : List Entry → ℕ
+operations_of log = count_by (λ x. is_memory x.event.op) log
+
+abbrev pub waiting_of : List Entry → ℕ
+waiting_of log = count_by (λ x. is_waiting (events log) x.event) log

@@ -1,0 +1,5 @@
+pub mod Adding
+pub mod Arranged
+pub mod Booked
+pub mod Nodes
+pub mod Counts

@@ -1,0 +1,175 @@
+//! A history whose memory operations stand in an order that every edge respects.
+ghost use Rattle.std.specs.Prelude.{◌≡◌, ◌≢◌, ◌<◌, ◌≤◌, ◌∷◌, [], None, IfOk, OnErr, length, map, ℕ, All, AllPairs};
+ghost use Rattle.rv_event.specs.Faults.{event_fault};
+ghost use Rattle.rv_event.specs.Operations.{IsMemory};
+ghost use Rattle.rv_event.specs.Orders.{Lawful};
+ghost use Rattle.rv_event.specs.Edges.{IsStale};
+ghost use Rattle.rv_event.specs.declared.event.Id.{Id};
+ghost use Rattle.rv_cert.specs.Certificates.{Certifies};
+ghost use Rattle.rv_edges.specs.Kept.{happened, grown};
+ghost use Rattle.rv_edges.specs.Histories.{IsLinked, kept_of, HasOwnEdge};
+ghost use Rattle.rv_book.specs.Arranged.{at, EachLeads, IsOwn, order_of};
+
+use crate::closing::close;
+use crate::nodes::{ids_at, ids_of, nodes_of};
+use rv_cert::{Certificate, Circle};
+use rv_edges::{Around, History};
+use rv_event::{Event, Id, MemoryModel, NoMemory};
+use rv_rank::{Ranks, Refused};
+use std::alloc::Global;
+use std::marker::Model;
+
+/// Whether an event was taken.
+#[derive(Drop, Debug)]
+pub enum Added {
+    /// It joined the history.
+    Taken,
+    /// No order is lawful with it, as the certificate shows.
+    Refused(Certificate),
+}
+
+/// A history with an order of its memory operations that every edge respects.
+#[derive(Drop)]
+pub struct Arrangement {
+    alloc: Global,
+    history: History,
+    ranks: Ranks,
+    ids: Vec<Id>,
+}
+
+impl Model for Arrangement {
+    ghost use Rattle.rv_book.specs.Arranged.{Arranged, IsArranged};
+
+    ghost Value = { Arranged };
+
+    ghost view = { λ a. record {
+      model = a.history.model;
+      history = a.history.kept;
+      edges = a.ranks.edges;
+      ranks = a.ranks.ranks;
+      ids = a.ids.items;
+    } };
+
+    ghost invariant = { λ a. IsArranged (record {
+      model = a.history.model;
+      history = a.history.kept;
+      edges = a.ranks.edges;
+      ranks = a.ranks.ranks;
+      ids = a.ids.items;
+    }) };
+}
+
+impl Arrangement {
+    ghost use Rattle.rv_book.specs.Adding.{IsAdded};
+
+    /// No events.
+    pub fn new(alloc: Global, model: MemoryModel) -> Self
+        ensures model { result.model ≡ model }
+        ensures history { result.history ≡ [] }
+    {
+        Arrangement {
+            alloc,
+            history: History::new(alloc, model),
+            ranks: Ranks::new(alloc),
+            ids: Vec::new(alloc),
+        }
+    }
+
+    /// The memory model. The order is lawful for the history under it.
+    pub fn model(&self) -> MemoryModel
+        ensures value { result ≡ self.now.model }
+        ensures lawful { Lawful self.now.model (happened self.now.history) (order_of self.now.ranks self.now.ids) }
+    {
+        self.history.model()
+    }
+
+    /// The ids of the memory operations, in the order.
+    pub fn order(&self) -> Result<Vec<Id>, NoMemory>
+        ensures { IfOk result (λ ids. ids.items ≡ order_of self.now.ranks self.now.ids) }
+    {
+        let nodes = self.ranks.order()?;
+        ids_at(self.alloc, self.ids.as_slice(), nodes.as_slice())
+    }
+
+    /// Adds the event where some order is lawful with it.
+    pub fn add(&mut self, event: &Event) -> Result<Added, NoMemory>
+        requires sound { event_fault (happened self.old.history) event.now ≡ None }
+        requires room { length self.old.history < 65536 }
+        ensures added { IfOk result (IsAdded self.old self.new event.now) }
+        ensures unchanged { OnErr result (self.new ≡ self.old) }
+    {
+        let around = self.history.around(event)?;
+        if around.itself {
+            let circle = circle_of(self.alloc, &self.history, self.ids.as_slice(), event, &[])?;
+            return Ok(Added::Refused(circle));
+        }
+        if let Some(store) = around.stale {
+            return Ok(Added::Refused(Certificate::Stale {
+                load: event.id,
+                store,
+            }));
+        }
+        if event.is_memory() {
+            return self.place(event, &around);
+        }
+        self.history.push(event, &around)?;
+        Ok(Added::Taken)
+    }
+
+    /// Adds the memory operation where its edges close no circle.
+    fn place(&mut self, event: &Event, around: &Around) -> Result<Added, NoMemory>
+        requires sound { event_fault (happened self.old.history) event.now ≡ None }
+        requires room { length self.old.history < 65536 }
+        requires linked { IsLinked self.old.model self.old.history (kept_of event.now around.now) }
+        requires memory { IsMemory event.now }
+        requires none_own { HasOwnEdge self.old.model self.old.history event.now → ⊥ }
+        requires not_stale { (s : Id) → IsStale (grown self.old.history event.now) event.now.id s → ⊥ }
+        ensures added { IfOk result (IsAdded self.old self.new event.now) }
+        ensures unchanged { OnErr result (self.new ≡ self.old) }
+    {
+        self.ids.reserve(1)?;
+        let preds = nodes_of(self.alloc, self.ids.as_slice(), around.before.as_slice())?;
+        let succs = nodes_of(self.alloc, self.ids.as_slice(), around.after.as_slice())?;
+        self.history.push(event, around)?;
+        match self.ranks.place(preds.as_slice(), succs.as_slice()) {
+            Ok(_) => {
+                self.ids.push(event.id).unwrap();
+                Ok(Added::Taken)
+            }
+            Err(Refused::NoMemory) => {
+                self.history.pop();
+                Err(NoMemory)
+            }
+            Err(Refused::Circle(path)) => {
+                self.history.pop();
+                let circle = circle_of(
+                    self.alloc,
+                    &self.history,
+                    self.ids.as_slice(),
+                    event,
+                    path.as_slice(),
+                )?;
+                Ok(Added::Refused(circle))
+            }
+        }
+    }
+}
+
+/// The circle from the event through the nodes of the path.
+fn circle_of(
+    alloc: Global,
+    history: &History,
+    ids: &[Id],
+    event: &Event,
+    path: &[u32],
+) -> Result<Certificate, NoMemory>
+    requires low { All (λ a. a < length ids.now) path.now }
+    requires leads { EachLeads history.now.model (grown history.now.kept event.now) (event.now.id ∷ map (at ids.now) path.now) }
+    requires once { AllPairs (λ i j. i ≢ j) (event.now.id ∷ map (at ids.now) path.now) }
+    ensures { IfOk result (λ c. Certifies history.now.model (grown history.now.kept event.now) c × IsOwn event.now c) }
+{
+    let log = history.entries_with(event)?;
+    let walk = ids_of(alloc, event.id, ids, path)?;
+    let steps = close(alloc, history.model(), log.as_slice(), walk.as_slice())?;
+    Ok(Certificate::Circle(Circle::from_vec(steps)))
+}

@@ -1,0 +1,184 @@
+//! A well formed log with an order that is lawful for it.
+ghost use Rattle.std.specs.Prelude.{◌≡◌, ◌++◌, ◌∷◌, [], IfOk, OnErr, IsFalse, IsTrue, length};
+ghost use Rattle.rv_book.specs.Counts.{operations_of, waiting_of};
+ghost use Rattle.rv_event.specs.Log.{events};
+ghost use Rattle.rv_event.specs.Orders.{Lawful};
+ghost use Rattle.rv_event.specs.WellFormed.{WellFormed};
+
+use crate::arrangement::{Added, Arrangement};
+use crate::counts::{count_operations, count_waiting};
+use rv_cert::{Evidence, Forbidden, Malformed, Verdict};
+use rv_event::{Entry, Id, MemoryModel, NoMemory, find_fault};
+use std::alloc::Global;
+use std::marker::Model;
+
+/// What an offer came to. On all but `Accepted` the book's log and order are as they were.
+#[derive(Drop, Debug)]
+pub enum Offer {
+    /// The log has grown by the entry, and some order is lawful for it.
+    Accepted,
+    /// The entry has a fault over the log; the book has stopped.
+    Malformed(Verdict),
+    /// No order is lawful for the log followed by the entry; the book has stopped.
+    Forbidden(Verdict),
+    /// The book had stopped.
+    Stopped,
+    /// Memory was refused. The entry may be offered again.
+    NoMemory,
+}
+
+/// A log of accepted entries, and a global memory order that the model allows for them.
+///
+/// Its type keeps that the log is well formed and that the order is lawful for it.
+#[derive(Drop)]
+pub struct Book {
+    alloc: Global,
+    entries: Vec<Entry>,
+    arrangement: Arrangement,
+    stopped: bool,
+}
+
+impl Model for Book {
+    ghost use Rattle.rv_book.specs.Booked.{Booked, IsBooked, booked_of};
+
+    ghost Value = { Booked };
+
+    ghost view = { λ b. booked_of b.entries.items b.arrangement b.stopped };
+
+    ghost invariant = { λ b. IsBooked b.entries.items b.arrangement };
+}
+
+impl Book {
+    ghost use Rattle.rv_book.specs.Booked.{IsOffered, IsJudged};
+
+    /// The empty log under a memory model. It takes no memory; the allocator serves the calls to come.
+    pub fn new(alloc: Global, model: MemoryModel) -> Self
+        ensures model { result.model ≡ model }
+        ensures log { result.log ≡ [] }
+        ensures going { IsFalse result.stopped }
+    {
+        let arrangement = Arrangement::new(alloc, model);
+        let _model = arrangement.model();
+        Book {
+            alloc,
+            entries: Vec::new(alloc),
+            arrangement,
+            stopped: false,
+        }
+    }
+
+    /// The memory model. The order is lawful for the log under it.
+    pub fn model(&self) -> MemoryModel
+        ensures value { result ≡ self.now.model }
+        ensures lawful { Lawful self.now.model (events self.now.log) self.now.order }
+    {
+        self.arrangement.model()
+    }
+
+    /// The accepted entries, in the order in which they were offered.
+    pub fn log(&self) -> &[Entry]
+        ensures value { result.now ≡ self.now.log }
+        ensures well_formed { WellFormed self.now.log }
+    {
+        self.entries.as_slice()
+    }
+
+    /// Whether an entry was refused as malformed or forbidden.
+    pub fn stopped(&self) -> bool
+        ensures { result ≡ self.now.stopped }
+    {
+        self.stopped
+    }
+
+    /// How many entries were accepted. It takes no memory.
+    pub fn accepted(&self) -> usize
+        ensures { result ≡ length self.now.log }
+    {
+        self.entries.len()
+    }
+
+    /// How many of them are memory operations. It takes no memory, and costs one pass over the log.
+    pub fn operations(&self) -> usize
+        ensures { result ≡ operations_of self.now.log }
+    {
+        count_operations(self.entries.as_slice())
+    }
+
+    /// How many of them are loads whose store has not come. It takes no memory, and costs the square of the log's length.
+    pub fn waiting(&self) -> usize
+        ensures { result ≡ waiting_of self.now.log }
+    {
+        count_waiting(self.entries.as_slice())
+    }
+
+    /// The ids of the memory operations, in an order that is lawful for the log.
+    ///
+    /// # Errors
+    /// `NoMemory` where the list could not be had; the book stays as it is.
+    pub fn order(&self) -> Result<Vec<Id>, NoMemory>
+        ensures { IfOk result (λ ids. ids.items ≡ self.now.order) }
+    {
+        self.arrangement.order()
+    }
+
+    /// Takes the entry exactly where it has no fault over the log, and some order is lawful for the log with it.
+    ///
+    /// Faults are looked at before consistency. The evidence of a verdict is the log followed by the entry.
+    pub fn offer(&mut self, entry: &Entry) -> Offer
+        ensures { IsOffered self.old self.new entry.now result }
+    {
+        if self.stopped {
+            return Offer::Stopped;
+        }
+        match self.judge(entry) {
+            Ok(None) => Offer::Accepted,
+            Ok(Some(Verdict::Malformed(malformed))) => {
+                self.stopped = true;
+                Offer::Malformed(Verdict::Malformed(malformed))
+            }
+            Ok(Some(Verdict::Forbidden(forbidden))) => {
+                self.stopped = true;
+                Offer::Forbidden(Verdict::Forbidden(forbidden))
+            }
+            Err(NoMemory) => Offer::NoMemory,
+        }
+    }
+
+    /// Takes the entry, or says why not.
+    fn judge(&mut self, entry: &Entry) -> Result<Option<Verdict>, NoMemory>
+        ensures judged { IfOk result (IsJudged self.old self.new entry.now) }
+        ensures unchanged { OnErr result (self.new ≡ self.old) }
+    {
+        let model = self.arrangement.model();
+        if let Some(fault) = find_fault(self.entries.as_slice(), entry) {
+            let evidence = evidence_of(self.alloc, self.entries.as_slice(), entry)?;
+            return Ok(Some(Verdict::Malformed(Malformed::new(model, evidence, fault))));
+        }
+        self.entries.reserve(1)?;
+        let copy = entry.copy(self.alloc)?;
+        let added = self.arrangement.add(&entry.event)?;
+        let _model = self.arrangement.model();
+        match added {
+            Added::Taken => {
+                self.entries.push(copy).unwrap();
+                Ok(None)
+            }
+            Added::Refused(certificate) => {
+                let evidence = evidence_of(self.alloc, self.entries.as_slice(), entry)?;
+                Ok(Some(Verdict::Forbidden(Forbidden::new(model, evidence, certificate))))
+            }
+        }
+    }
+}
+
+/// The entries and the new one.
+fn evidence_of(alloc: Global, entries: &[Entry], entry: &Entry) -> Result<Evidence, NoMemory>
+    ensures { IfOk result (λ log. log ≡ entries.now ++ entry.now ∷ []) }
+{
+    let mut log = Vec::new(alloc);
+    for one in entries {
+        log.push(one.copy(alloc)?)?;
+    }
+    log.push(entry.copy(alloc)?)?;
+    Ok(Evidence::from_vec(log))
+}

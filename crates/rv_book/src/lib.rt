@@ -1,0 +1,20 @@
+//! The book: a log with a global memory order that is lawful for it, and exact answers to each entry offered.
+//!
+//! A [`Book`] takes an entry exactly where some order is lawful for the log with it. It refuses one that has a fault, or
+//! that leaves no lawful order, with a verdict whose evidence is the log followed by the entry; a forbidden one has a
+//! certificate that begins with the refused event. A refusal stops the book, and leaves log and order as they were.
+//!
+//! Inside, three layers: [`arrangement`] is a history whose memory operations are nodes of an order keeper, so that every
+//! edge goes forward; [`book`] adds the entries and the faults; [`closing`] and [`nodes`] make certificates and node lists.
+//!
+//! It stands on `rv_edges`, `rv_rank` and `rv_cert`. Its one contract to the others: the log is well formed, its order is
+//! lawful, and each answer is exact.
+#![tactic(auto)]
+
+mod arrangement;
+mod book;
+mod closing;
+mod counts;
+mod nodes;
+
+pub use book::{Book, Offer};

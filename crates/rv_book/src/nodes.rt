@@ -1,0 +1,62 @@
+//! Nodes and ids: node k is the memory operation that came k-th.
+ghost use Rattle.std.specs.Prelude.{◌≡◌, ◌<◌, ◌∷◌, ℕ, IfOk, length, map, All};
+ghost use Rattle.std.specs.List.{Contains};
+ghost use Rattle.rv_event.specs.declared.reason.Link.{Link};
+ghost use Rattle.rv_book.specs.Arranged.{at};
+ghost use Rattle.rv_book.specs.Nodes.{HasNode, AreNodes};
+
+use rv_event::{Id, Link, NoMemory};
+use std::alloc::Global;
+
+/// The node of the id.
+fn node_of(ids: &[Id], id: Id) -> u32
+    requires has { HasNode ids.now id }
+    requires small { length ids.now < 65536 }
+    ensures low { result < length ids.now }
+    ensures named { at ids.now result ≡ id }
+{
+    for k in 0..ids.len() {
+        if ids[k] == id {
+            return k as u32;
+        }
+    }
+    unreachable!()
+}
+
+/// The nodes of the links' ids.
+pub fn nodes_of(alloc: Global, ids: &[Id], links: &[Link]) -> Result<Vec<u32>, NoMemory>
+    requires has { (l : Link) → Contains links.now l → HasNode ids.now l.id }
+    requires small { length ids.now < 65536 }
+    ensures { IfOk result (λ nodes. AreNodes ids.now links.now nodes.items) }
+{
+    let mut nodes = Vec::new(alloc);
+    for link in links {
+        nodes.push(node_of(ids, link.id))?;
+    }
+    Ok(nodes)
+}
+
+/// The first id, and those of the path's nodes.
+pub fn ids_of(alloc: Global, first: Id, ids: &[Id], path: &[u32]) -> Result<Vec<Id>, NoMemory>
+    requires { All (λ a. a < length ids.now) path.now }
+    ensures { IfOk result (λ walk. walk.items ≡ first ∷ map (at ids.now) path.now) }
+{
+    let mut walk = Vec::new(alloc);
+    walk.push(first)?;
+    for node in path {
+        walk.push(ids[*node as usize])?;
+    }
+    Ok(walk)
+}
+
+/// The ids of the nodes.
+pub fn ids_at(alloc: Global, ids: &[Id], nodes: &[u32]) -> Result<Vec<Id>, NoMemory>
+    requires { All (λ a. a < length ids.now) nodes.now }
+    ensures { IfOk result (λ found. found.items ≡ map (at ids.now) nodes.now) }
+{
+    let mut found = Vec::new(alloc);
+    for node in nodes {
+        found.push(ids[*node as usize])?;
+    }
+    Ok(found)
+}

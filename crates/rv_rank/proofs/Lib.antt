@@ -1,0 +1,16 @@
+pub mod Lists
+pub mod Marks
+pub mod Listing
+pub mod Searching
+pub mod Tracing
+pub mod RowTables
+pub mod Growth
+pub mod Mirror
+pub mod Trail
+pub mod Finding
+pub mod Counting
+pub mod Slots
+pub mod Mending
+pub mod Moving
+pub mod Placement
+pub mod Members

@@ -1,0 +1,102 @@
+-- The nodes that pass a test, listed by rank.
+use Rattle.std.proofs.Common.{◌≡◌, ℕ, suc, ◌+◌, ◌<◌, ◌≤◌, Bool, true, false, cond, List, [], ◌∷◌, ◌++◌}
+use Rattle.std.proofs.Common.{length, get_or, take, drop, reverse, sym, ◌∙◌, arith, ap, refl, append-nil}
+use Rattle.std.proofs.Common.{length-drop}
+use Rattle.std.specs.List.{filter}
+use Rattle.std.proofs.Math.Seq.{drop-cons}
+use Rattle.std.proofs.lemmas.List.{get_or-take, get_or-drop, length-take, reverse-append, take-append-drop}
+use Rattle.std.proofs.lemmas.List.Elements.{filter_more, filter-append}
+use Rattle.std.proofs.lemmas.List.Sums.{length-filter, count_by-le-length}
+
+filter_same : (t u : ℕ → Bool) (xs : List ℕ) →
+    ((k : ℕ) → k < length xs → t (get_or xs k 0) ≡ u (get_or xs k 0)) → filter t xs ≡ filter u xs
+filter_same t u [] h = refl
+filter_same t u (x ∷ xs) h =
+    let rest = filter_same t u xs (λ k l. h (suc k) (omega arith)) in
+    ap (λ b. cond b (x ∷ filter t xs) (filter t xs)) (h 0 (omega arith)) ∙ ap (λ l. cond (u x) (x ∷ l) l) rest
+
+filter_none : (t : ℕ → Bool) (xs : List ℕ) → ((k : ℕ) → k < length xs → t (get_or xs k 0) ≡ false) → filter t xs ≡ []
+filter_none t [] h = refl
+filter_none t (x ∷ xs) h =
+    let rest = filter_none t xs (λ k l. h (suc k) (omega arith)) in
+    ap (λ b. cond b (x ∷ filter t xs) (filter t xs)) (h 0 (omega arith)) ∙ rest
+
+pub listed_all_few : (t : ℕ → Bool) (xs : List ℕ) → length (filter t xs) ≤ length xs
+listed_all_few t xs = omega (arith, length-filter t xs, count_by-le-length t xs)
+
+filter_take_same : (t u : ℕ → Bool) (xs : List ℕ) (r : ℕ) →
+    ((k : ℕ) → k < r → k < length xs → t (get_or xs k 0) ≡ u (get_or xs k 0)) →
+    filter t (take r xs) ≡ filter u (take r xs)
+filter_take_same t u xs r h = filter_same t u (take r xs) (λ k l.
+    let long = length-take r xs in
+    let q = get_or-take r xs k 0 (omega arith) in
+    rw q (h k (omega arith) (omega arith)))
+
+filter_drop_same : (t u : ℕ → Bool) (xs : List ℕ) (r : ℕ) →
+    ((k : ℕ) → r ≤ k → k < length xs → t (get_or xs k 0) ≡ u (get_or xs k 0)) →
+    filter t (drop r xs) ≡ filter u (drop r xs)
+filter_drop_same t u xs r h = filter_same t u (drop r xs) (λ k l.
+    let long = length-drop r xs in
+    let q = get_or-drop r xs k 0 in
+    rw q (h (r + k) (omega arith) (omega arith)))
+
+-- none of the first passes
+pub listed_none : (t : ℕ → Bool) (xs : List ℕ) (r : ℕ) →
+    ((k : ℕ) → k < r → k < length xs → t (get_or xs k 0) ≡ false) → filter t (take r xs) ≡ []
+listed_none t xs r h = filter_none t (take r xs) (λ k l.
+    let long = length-take r xs in
+    let q = get_or-take r xs k 0 (omega arith) in
+    rw q (h k (omega arith) (omega arith)))
+
+pub listed_more : (t u : ℕ → Bool) (xs : List ℕ) (r : ℕ) → r < length xs →
+    ((k : ℕ) → k < r → k < length xs → t (get_or xs k 0) ≡ u (get_or xs k 0)) → u (get_or xs r 0) ≡ true →
+    filter t (take r xs) ++ get_or xs r 0 ∷ [] ≡ filter u (take (r + 1) xs)
+listed_more t u xs r l h e =
+    let x = get_or xs r 0 in
+    ap (λ s. s ++ x ∷ []) (filter_take_same t u xs r h) ∙
+    ap (λ b. filter u (take r xs) ++ cond b (x ∷ []) []) (sym e) ∙ sym (filter_more u xs r 0 l)
+
+pub listed_skip : (t : ℕ → Bool) (xs : List ℕ) (r : ℕ) → r < length xs → t (get_or xs r 0) ≡ false →
+    filter t (take r xs) ≡ filter t (take (r + 1) xs)
+listed_skip t xs r l e =
+    let x = get_or xs r 0 in
+    sym (append-nil (filter t (take r xs))) ∙ ap (λ b. filter t (take r xs) ++ cond b (x ∷ []) []) (sym e) ∙
+    sym (filter_more t xs r 0 l)
+
+pub listed_few : (t : ℕ → Bool) (xs : List ℕ) (r : ℕ) → length (filter t (take r xs)) ≤ r
+listed_few t xs r = omega (arith, listed_all_few t (take r xs), length-take r xs)
+
+pub listed_down_more : (t u : ℕ → Bool) (xs : List ℕ) (r : ℕ) → r < length xs →
+    ((k : ℕ) → r + 1 ≤ k → k < length xs → t (get_or xs k 0) ≡ u (get_or xs k 0)) → u (get_or xs r 0) ≡ true →
+    reverse (filter t (drop (r + 1) xs)) ++ get_or xs r 0 ∷ [] ≡ reverse (filter u (drop r xs))
+listed_down_more t u xs r l h e =
+    let x = get_or xs r 0 in
+    let same = filter_drop_same t u xs (r + 1) h in
+    let next : suc r ≡ r + 1 = omega arith in
+    let open_up : filter u (drop r xs) ≡ x ∷ filter u (drop (r + 1) xs) =
+    ap (filter u) (drop-cons xs r 0 l ∙ ap (λ k. x ∷ drop k xs) next) ∙
+    ap (λ b. cond b (x ∷ filter u (drop (r + 1) xs)) (filter u (drop (r + 1) xs))) e in
+    ap (λ s. reverse s ++ x ∷ []) same ∙ sym (reverse-append (x ∷ []) (filter u (drop (r + 1) xs))) ∙
+    ap reverse (sym open_up)
+
+pub listed_down_skip : (t : ℕ → Bool) (xs : List ℕ) (r : ℕ) → r < length xs → t (get_or xs r 0) ≡ false →
+    reverse (filter t (drop (r + 1) xs)) ≡ reverse (filter t (drop r xs))
+listed_down_skip t xs r l e =
+    let x = get_or xs r 0 in
+    let next : suc r ≡ r + 1 = omega arith in
+    let open_up : filter t (drop r xs) ≡ filter t (drop (r + 1) xs) =
+    ap (filter t) (drop-cons xs r 0 l ∙ ap (λ k. x ∷ drop k xs) next) ∙
+    ap (λ b. cond b (x ∷ filter t (drop (r + 1) xs)) (filter t (drop (r + 1) xs))) e in
+    ap reverse (sym open_up)
+
+pub listed_down_few : (t : ℕ → Bool) (xs : List ℕ) (r : ℕ) → r ≤ length xs →
+    length (filter t (drop r xs)) + r ≤ length xs
+listed_down_few t xs r l = omega (arith, listed_all_few t (drop r xs), length-drop r xs)
+
+-- all that pass do so from place r on
+pub listed_from : (t : ℕ → Bool) (xs : List ℕ) (r : ℕ) →
+    ((k : ℕ) → k < r → k < length xs → t (get_or xs k 0) ≡ false) → filter t (drop r xs) ≡ filter t xs
+listed_from t xs r h =
+    let none = listed_none t xs r h in
+    ap (λ s. s ++ filter t (drop r xs)) (sym none) ∙ sym (filter-append t (take r xs) (drop r xs)) ∙
+    ap (filter t) (take-append-drop r xs)

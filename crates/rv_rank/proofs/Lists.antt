@@ -1,0 +1,38 @@
+-- Membership in the first elements of a list.
+use Rattle.std.proofs.lemmas.Bool.{cases_eq}
+use Rattle.std.proofs.Common.{◌≡◌, ℕ, zero, suc, ◌+◌, ◌<◌, ◌⊎◌, List, [], ◌∷◌, length, get_or, take, inl, inr, arith}
+use Rattle.std.specs.List.{Contains}
+use Rattle.std.proofs.lemmas.List.{take_more}
+use Rattle.std.proofs.lemmas.List.Elements.{Contains-push_cases, Contains-append_left, Contains-push}
+
+pub Contains-take_more : (xs : List ℕ) (i x : ℕ) → i < length xs → Contains (take (i + 1) xs) x →
+    Contains (take i xs) x ⊎ (get_or xs i 0 ≡ x)
+Contains-take_more xs i x l h =
+    let e = take_more xs i 0 l in
+    Contains-push_cases (take i xs) (get_or xs i 0) x (rw e at h)
+
+pub Contains-take_kept : (xs : List ℕ) (i x : ℕ) → i < length xs → Contains (take i xs) x →
+    Contains (take (i + 1) xs) x
+Contains-take_kept xs i x l h =
+    let e = take_more xs i 0 l in
+    rw e (Contains-append_left (take i xs) _ x h)
+
+pub Contains-take_last : (xs : List ℕ) (i : ℕ) → i < length xs → Contains (take (i + 1) xs) (get_or xs i 0)
+Contains-take_last xs i l =
+    let e = take_more xs i 0 l in
+    rw e (Contains-push (take i xs) (get_or xs i 0))
+
+Contains-cons_cases : (y x : ℕ) (ys : List ℕ) → Contains (y ∷ ys) x → (y ≡ x) ⊎ Contains ys x
+Contains-cons_cases y x ys (zero, l, e) = inl e
+Contains-cons_cases y x ys (suc k, l, e) = inr (k, omega arith, e)
+
+-- a list has a number or has it not
+pub contains_cases : (xs : List ℕ) (x : ℕ) → Contains xs x ⊎ (Contains xs x → ⊥)
+contains_cases [] x = inr (λ w. absurd (omega (arith, w.1)))
+contains_cases (y ∷ ys) x = elim (cases_eq y x) [
+  | inl e ↦ inl (0, omega arith, e)
+  | inr n ↦ elim (contains_cases ys x) [
+    | inl w ↦ inl (suc w.0, omega (arith, w.1), w.2)
+    | inr m ↦ inr (λ w. elim (Contains-cons_cases y x ys w) [ inl e ↦ n e | inr v ↦ m v ])
+  ]
+]

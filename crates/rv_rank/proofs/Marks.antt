@@ -1,0 +1,264 @@
+-- Marks that are kept by rank.
+use Rattle.std.proofs.Common.{◌≡◌, ◌≢◌, ℕ, ◌+◌, ◌-◌, ◌<◌, ◌≤◌, ◌⊎◌, ◌||◌, true, false, not, List}
+use Rattle.std.proofs.Common.{length, get_or, set, take, inl, inr, sym, ◌∙◌, arith, ap, refl, subst}
+use Rattle.std.specs.List.{Contains}
+use Rattle.std.specs.Prelude.{nat_lt}
+use Rattle.std.proofs.lemmas.List.{length-set, get_or-set_same, get_or-set_other, get_or_past, get_or_default}
+use Rattle.std.proofs.lemmas.Bool.{cases_eq, cases_lt, cond-true, cond-false, lt-ltb, le-ltb}
+use Rattle.rv_rank.specs.declared.search.Mark.{Mark}
+use Rattle.rv_rank.specs.declared.search.Mark.TheVariants.{Free, Start, After, Behind}
+use Rattle.rv_rank.specs.Order.{IsInverse}
+use Rattle.rv_rank.specs.Marks.{mark_at, mark_of, IsMarked, IsSpread, is_free, is_ahead, is_behind}
+use Rattle.rv_rank.specs.Marks.{is_slot}
+use Rattle.rv_rank.proofs.Lists.{Contains-take_more, Contains-take_kept, Contains-take_last}
+
+-- a mark is free or not
+pub cases_free : (m : Mark) → (m ≡ Free) ⊎ (m ≢ Free)
+cases_free Free = inl refl
+cases_free Start = inr (λ e. cc)
+cases_free (After u) = inr (λ e. cc)
+cases_free Behind = inr (λ e. cc)
+
+pub not_free : (m : Mark) → is_free m ≡ false → m ≢ Free
+not_free Free e = cc
+not_free Start e = λ q. cc
+not_free (After u) e = λ q. cc
+not_free Behind e = λ q. cc
+
+-- a mark that is neither free nor behind is ahead
+pub ahead_else : (m : Mark) → m ≢ Free → m ≢ Behind → is_ahead m ≡ true
+ahead_else Free f b = absurd (f refl)
+ahead_else Start f b = refl
+ahead_else (After u) f b = refl
+ahead_else Behind f b = absurd (b refl)
+
+pub ahead_marked : (m : Mark) → is_ahead m ≡ true → m ≢ Free
+ahead_marked Free e = cc
+ahead_marked Start e = λ q. cc
+ahead_marked (After u) e = λ q. cc
+ahead_marked Behind e = cc
+
+pub behind_is : (m : Mark) → is_behind m ≡ true → m ≡ Behind
+behind_is Free e = cc
+behind_is Start e = cc
+behind_is (After u) e = cc
+behind_is Behind e = refl
+
+pub not_behind : (m : Mark) → is_behind m ≡ false → m ≢ Behind
+not_behind Free e = λ q. cc
+not_behind Start e = λ q. cc
+not_behind (After u) e = λ q. cc
+not_behind Behind e = cc
+
+pub is_behind_no : (m : Mark) → m ≢ Behind → is_behind m ≡ false
+is_behind_no Free n = refl
+is_behind_no Start n = refl
+is_behind_no (After u) n = refl
+is_behind_no Behind n = absurd (n refl)
+
+pub behind_not_ahead : (m : Mark) → is_behind m ≡ true → is_ahead m ≡ false
+behind_not_ahead Free e = cc
+behind_not_ahead Start e = cc
+behind_not_ahead (After u) e = cc
+behind_not_ahead Behind e = refl
+
+-- what was found is behind or ahead
+pub found_either : (m : Mark) → not (is_free m) ≡ (is_behind m || is_ahead m)
+found_either Free = refl
+found_either Start = refl
+found_either (After u) = refl
+found_either Behind = refl
+
+pub mark_at-above : (low : ℕ) (marks : List Mark) (r : ℕ) → low ≤ r →
+    mark_at low marks r ≡ get_or marks (r - low) Free
+unfolding mark_at
+mark_at-above low marks r l = cond-false (nat_lt r low) Free (get_or marks (r - low) Free) (le-ltb r low l)
+
+pub mark_at-below : (low : ℕ) (marks : List Mark) (r : ℕ) → r < low → mark_at low marks r ≡ Free
+unfolding mark_at
+mark_at-below low marks r l = cond-true (nat_lt r low) Free (get_or marks (r - low) Free) (lt-ltb r low l)
+
+pub mark_at-past : (low : ℕ) (marks : List Mark) (r : ℕ) → low + length marks ≤ r → mark_at low marks r ≡ Free
+mark_at-past low marks r l = mark_at-above low marks r (omega arith) ∙ get_or_past marks (r - low) Free (omega arith)
+
+pub mark_at-set_same : (low : ℕ) (marks : List Mark) (r : ℕ) (m : Mark) → low ≤ r → r < low + length marks →
+    mark_at low (set marks (r - low) m) r ≡ m
+mark_at-set_same low marks r m l h = mark_at-above low (set marks (r - low) m) r l ∙
+    get_or-set_same marks (r - low) m Free (omega arith)
+
+pub mark_at-set_other : (low : ℕ) (marks : List Mark) (r s : ℕ) (m : Mark) → low ≤ s → r ≢ s →
+    mark_at low (set marks (s - low) m) r ≡ mark_at low marks r
+mark_at-set_other low marks r s m l n = elim (cases_lt r low) [
+  | inl b ↦ mark_at-below low (set marks (s - low) m) r b ∙ sym (mark_at-below low marks r b)
+  | inr p ↦
+      let differs : (r - low) ≢ (s - low) = λ e. n (omega arith) in
+      mark_at-above low (set marks (s - low) m) r p ∙
+      get_or-set_other marks (s - low) (r - low) m Free differs ∙ sym (mark_at-above low marks r p)
+]
+
+-- the mark of a node is that of its rank
+pub mark_of-node : (low : ℕ) (ranks : List ℕ) (marks : List Mark) (a : ℕ) → a < length ranks →
+    mark_of low ranks marks a ≡ mark_at low marks (get_or ranks a 0)
+mark_of-node low ranks marks a l = ap (mark_at low marks) (get_or_default ranks a (length ranks) 0 l)
+
+-- what is marked is a node of rank `low` or above
+pub marked_within : (low : ℕ) (ranks : List ℕ) (marks : List Mark) (a : ℕ) → low + length marks ≡ length ranks →
+    IsMarked low ranks marks a → (a < length ranks) × (low ≤ get_or ranks a 0) ×
+    (get_or ranks a 0 < length ranks)
+marked_within low ranks marks a long m = elim (cases_lt a (length ranks)) [
+  | inl l ↦
+      let at = mark_of-node low ranks marks a l in (
+        l,
+        elim (cases_lt (get_or ranks a 0) low) [
+          | inl b ↦ absurd
+              (m (at ∙ mark_at-below low marks (get_or ranks a 0) b))
+          | inr p ↦ p
+        ],
+        elim (cases_lt (get_or ranks a 0) (length ranks)) [
+          | inl b ↦ b
+          | inr p ↦ absurd
+              (m (at ∙ mark_at-past low marks (get_or ranks a 0) (omega arith)))
+        ],
+      )
+  | inr p ↦
+      let e = get_or_past ranks a (length ranks) p in
+      absurd (m (mark_at-past low marks (get_or ranks a (length ranks)) (omega (arith, e))))
+]
+
+abbrev pub IsOnce : List ℕ → Type 0
+IsOnce ranks = (a b : ℕ) → a < length ranks → b < length ranks → get_or ranks a 0 ≡ get_or ranks b 0 → a ≡ b
+
+mark_of-set_other : (low : ℕ) (ranks : List ℕ) (marks : List Mark) (a t : ℕ) (m : Mark) → IsOnce ranks →
+    t < length ranks → get_or ranks t 0 < length ranks → low ≤ get_or ranks t 0 → a ≢ t →
+    mark_of low ranks (set marks (get_or ranks t 0 - low) m) a ≡ mark_of low ranks marks a
+mark_of-set_other low ranks marks a t m once lt below high n =
+    let differs : get_or ranks a (length ranks) ≢ get_or ranks t 0 = λ e. elim (cases_lt a (length ranks)) [
+      | inl l ↦ n (once a t l lt (sym (get_or_default ranks a (length ranks) 0 l) ∙ e))
+      | inr p ↦ omega (arith, get_or_past ranks a (length ranks) p)
+    ] in
+    mark_at-set_other low marks (get_or ranks a (length ranks)) (get_or ranks t 0) m high differs
+
+pub IsSpread-more : (ranks : List ℕ) (low : ℕ) (old new : List Mark) (mark : Mark) (targets : List ℕ) (i : ℕ) →
+    IsOnce ranks → low + length old ≡ length ranks → mark ≢ Free →
+    IsSpread ranks low old new mark (take i targets) → i < length targets → get_or targets i 0 < length ranks →
+    get_or ranks (get_or targets i 0) 0 < length ranks → low ≤ get_or ranks (get_or targets i 0) 0 →
+    mark_of low ranks new (get_or targets i 0) ≡ Free →
+    IsSpread ranks low old (set new (get_or ranks (get_or targets i 0) 0 - low) mark) mark
+    (take (i + 1) targets)
+IsSpread-more ranks low old new mark targets i once long marks h l b below high f =
+    let t = get_or targets i 0 in
+    let next = set new (get_or ranks t 0 - low) mark in
+    let same : mark_of low ranks next t ≡ mark = mark_of-node low ranks next t b ∙
+    mark_at-set_same low new (get_or ranks t 0) mark high (omega (arith, h.long)) in
+    let other : (a : ℕ) → (a ≡ t → ⊥) → mark_of low ranks next a ≡ mark_of low ranks new a =
+    λ a n. mark_of-set_other low ranks new a t mark once b below high n in
+    record {
+      long = length-set new (get_or ranks t 0 - low) mark ∙ h.long;
+      kept = λ a m. elim (cases_eq a t) [
+        | inl e ↦ absurd (m (sym (h.kept a m) ∙ ap (mark_of low ranks new) e ∙
+            f))
+        | inr n ↦ other a n ∙ h.kept a m
+      ];
+      found = λ a w up free. elim (cases_eq a t) [
+        | inl e ↦ marks (sym same ∙ ap (mark_of low ranks next) (sym e) ∙ free)
+        | inr n ↦ elim (Contains-take_more targets i a l w) [
+          | inl v ↦ h.found a v up (sym (other a n) ∙
+              free)
+          | inr e ↦ n (sym e)
+        ]
+      ];
+      only = λ a free. elim (cases_eq a t) [
+        | inl e ↦ inr (ap (mark_of low ranks next) e ∙ same, rw e (Contains-take_last targets i l), rw e high)
+        | inr n ↦ elim (h.only a free) [
+          | inl e ↦ inl (other a n ∙ e)
+          | inr w ↦ inr (
+            other a n ∙ w.0,
+            Contains-take_kept targets i a l w.1,
+            w.2,
+          )
+        ]
+      ];
+    }
+
+pub IsSpread-skip : (ranks : List ℕ) (low : ℕ) (old new : List Mark) (mark : Mark) (targets : List ℕ) (i : ℕ) →
+    IsSpread ranks low old new mark (take i targets) → i < length targets →
+    (low ≤ get_or ranks (get_or targets i 0) 0 → IsMarked low ranks new (get_or targets i 0)) →
+    IsSpread ranks low old new mark (take (i + 1) targets)
+IsSpread-skip ranks low old new mark targets i h l f = record {
+  long = h.long;
+  kept = h.kept;
+  found = λ a w up. elim (Contains-take_more targets i a l w) [
+    | inl v ↦ h.found a v up
+    | inr e ↦ λ free. f
+        (subst (λ x. low ≤ get_or ranks x 0) (sym e) up) (ap (mark_of low ranks new) e ∙ free)
+  ];
+  only = λ a free. elim (h.only a free) [
+    | inl e ↦ inl e
+    | inr w ↦ inr (
+      w.0,
+      Contains-take_kept targets i a l w.1,
+      w.2,
+    )
+  ];
+}
+
+-- what is no target keeps its mark
+pub spread_same : (ranks : List ℕ) (low : ℕ) (old new : List Mark) (mark : Mark) (targets : List ℕ) →
+    IsSpread ranks low old new mark targets → (a : ℕ) → (Contains targets a → ⊥) →
+    mark_of low ranks new a ≡ mark_of low ranks old a
+spread_same ranks low old new mark targets h a n = elim (cases_free (mark_of low ranks old a)) [
+  | inl f ↦ elim (h.only a f) [ inl e ↦ e ∙ sym f | inr w ↦ absurd (n w.1) ]
+  | inr m ↦ h.kept a m
+]
+
+-- the node of a rank has the mark of that rank
+pub mark_of-rank : (low : ℕ) (nodes ranks : List ℕ) (marks : List Mark) (k : ℕ) → IsInverse nodes ranks →
+    k < length nodes → mark_of low ranks marks (get_or nodes k 0) ≡ mark_at low marks k
+mark_of-rank low nodes ranks marks k h l =
+    let i = h.there k l in
+    mark_of-node low ranks marks (get_or nodes k 0) i.0 ∙ ap (mark_at low marks) i.1
+
+pub below_free : (low : ℕ) (nodes ranks : List ℕ) (marks : List Mark) (k : ℕ) → IsInverse nodes ranks →
+    k < length nodes → k < low → mark_of low ranks marks (get_or nodes k 0) ≡ Free
+below_free low nodes ranks marks k h l b = mark_of-rank low nodes ranks marks k h l ∙ mark_at-below low marks k b
+
+-- what the code reads of a node's mark, at the node's rank r
+pub read_of : (low : ℕ) (ranks : List ℕ) (marks : List Mark) (a r : ℕ) → a < length ranks → low ≤ r →
+    r ≡ get_or ranks a 0 → mark_of low ranks marks a ≡ get_or marks (r - low) Free
+read_of low ranks marks a r l h e = mark_of-node low ranks marks a l ∙ ap (mark_at low marks) (sym e) ∙
+    mark_at-above low marks r h
+
+pub free_is : (m : Mark) → is_free m ≡ true → m ≡ Free
+free_is Free e = refl
+free_is Start e = cc
+free_is (After u) e = cc
+free_is Behind e = cc
+
+pub read_free : (low : ℕ) (ranks : List ℕ) (marks : List Mark) (a r : ℕ) → a < length ranks → low ≤ r →
+    r ≡ get_or ranks a 0 → is_free (get_or marks (r - low) Free) ≡ true → mark_of low ranks marks a ≡ Free
+read_free low ranks marks a r l h e f = read_of low ranks marks a r l h e ∙ free_is _ f
+
+pub read_marked : (low : ℕ) (ranks : List ℕ) (marks : List Mark) (a r : ℕ) → a < length ranks → low ≤ r →
+    r ≡ get_or ranks a 0 → is_free (get_or marks (r - low) Free) ≡ false → IsMarked low ranks marks a
+read_marked low ranks marks a r l h e f q = not_free _ f (sym (read_of low ranks marks a r l h e) ∙ q)
+
+-- a node of a rank below the lowest is free
+pub low_free : (low : ℕ) (ranks : List ℕ) (marks : List Mark) (a : ℕ) → low + length marks ≡ length ranks →
+    get_or ranks a 0 < low → mark_of low ranks marks a ≡ Free
+low_free low ranks marks a long l =
+    elim (cases_free (mark_of low ranks marks a)) [
+      | inl f ↦ f
+      | inr m ↦ absurd
+          (omega (arith, (marked_within low ranks marks a long m).1))
+    ]
+
+-- where no mark is kept, all nodes are free
+pub all_free : (low : ℕ) (ranks : List ℕ) (marks : List Mark) → ((k : ℕ) → get_or marks k Free ≡ Free) →
+    (a : ℕ) → mark_of low ranks marks a ≡ Free
+all_free low ranks marks h a = elim (cases_lt (get_or ranks a (length ranks)) low) [
+  | inl b ↦ mark_at-below low marks (get_or ranks a (length ranks)) b
+  | inr p ↦ mark_at-above low marks (get_or ranks a (length ranks)) p ∙ h _
+]
+
+pub slot_below : (low : ℕ) (marks : List Mark) (k : ℕ) → k < low → is_slot low marks k ≡ false
+slot_below low marks k l = ap (λ m. not (is_free m)) (mark_at-below low marks k l)

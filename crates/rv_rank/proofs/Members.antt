@@ -1,0 +1,153 @@
+-- The members of a placement, as the visits tell them.
+use Rattle.std.proofs.Common.{◌≡◌, ◌≢◌, ℕ, ◌+◌, ◌<◌, ◌≤◌, ◌||◌, Bool, true, false, List, [], ◌∷◌, ◌++◌}
+use Rattle.std.proofs.Common.{length, get_or, set, take, reverse, inl, inr, sym, ◌∙◌, arith, ap}
+use Rattle.std.proofs.Common.{length-append}
+use Rattle.std.specs.List.{All, filter}
+use Rattle.std.proofs.Math.Seq.{drop-append_seam, take-append_seam}
+use Rattle.std.proofs.lemmas.List.{reverse-reverse, get_or_default}
+use Rattle.rv_rank.specs.declared.search.Mark.{Mark}
+use Rattle.rv_rank.specs.declared.search.Mark.TheVariants.{Free}
+use Rattle.rv_rank.specs.Order.{IsInverse}
+use Rattle.rv_rank.specs.Marks.{mark_at, mark_of, is_ahead, is_behind, is_ahead_of, is_behind_of, is_slot}
+use Rattle.rv_rank.specs.Mended.{count_below, members_of, IsMended}
+use Rattle.rv_rank.specs.declared.search.Found.{Found}
+use Rattle.rv_rank.specs.Plan.{IsPlan, IsRoster}
+use Rattle.rv_rank.specs.Local.{IsLocal}
+use Rattle.rv_rank.proofs.Marks.{cases_free, marked_within, ahead_marked, behind_is, behind_not_ahead}
+use Rattle.rv_rank.proofs.Marks.{found_either, mark_of-rank}
+use Rattle.rv_rank.proofs.Tracing.{behind_marked}
+use Rattle.rv_rank.proofs.Counting.{count_to, count_below-count_to}
+use Rattle.rv_rank.proofs.Slots.{members_of-long}
+use Rattle.rv_rank.proofs.Mending.{either_of, members_long, members_apart, members_below, mended_inverse}
+use Rattle.rv_rank.proofs.Mending.{mended_local}
+
+members_of-found : (first back : List ℕ) (node : ℕ) →
+    members_of (first ++ reverse back) (length first) node ≡ back ++ node ∷ first
+members_of-found first back node =
+    ap (λ x. reverse x ++ node ∷ take (length first) (first ++ reverse back))
+    (drop-append_seam first (reverse back)) ∙
+    ap (λ x. x ++ node ∷ take (length first) (first ++ reverse back)) (reverse-reverse back) ∙
+    ap (λ x. back ++ node ∷ x) (take-append_seam first (reverse back))
+
+module _ (found : Found) (nodes ranks visits : List ℕ) (inverse : IsInverse nodes ranks)
+    (plan : IsPlan found nodes ranks visits) where
+  abbrev low : ℕ
+  low = found.low
+
+  abbrev marks : List Mark
+  marks = found.marks.items
+
+  abbrev split : ℕ
+  split = found.split
+
+  abbrev b : ℕ → Bool
+  b = is_behind_of low ranks marks
+
+  abbrev f : ℕ → Bool
+  f = is_ahead_of low ranks marks
+
+  long_ranks : low + length marks ≡ length ranks
+  long_ranks = omega (arith, plan.long, inverse.long)
+
+  apart : (a : ℕ) → b a ≡ true → f a ≡ false
+  apart a e = behind_not_ahead (mark_of low ranks marks a) e
+
+  -- the new node was not found
+  new_free : mark_of low ranks marks (length nodes) ≡ Free
+  new_free =
+      elim (cases_free (mark_of low ranks marks (length nodes))) [
+        | inl e ↦ e
+        | inr m ↦ absurd
+            (omega (arith, (marked_within low ranks marks (length nodes) long_ranks m).0, inverse.long))
+      ]
+
+  new_b : b (length nodes) ≡ false
+  new_b = ap is_behind new_free
+
+  new_f : f (length nodes) ≡ false
+  new_f = ap is_ahead new_free
+
+  tests : (k : ℕ) → k < length nodes → is_slot low marks k ≡ either_of b f (get_or nodes k 0)
+  tests k l = found_either (mark_at low marks k) ∙
+      ap (λ m. is_behind m || is_ahead m) (sym (mark_of-rank low nodes ranks marks k inverse l))
+
+  above_b : (a : ℕ) → a < length nodes → b a ≡ true → low ≤ get_or ranks a 0
+  above_b a l e =
+      (marked_within low ranks marks a long_ranks (behind_marked _ (behind_is (mark_of low ranks marks a) e))).1
+
+  above_f : (a : ℕ) → a < length nodes → f a ≡ true → low ≤ get_or ranks a 0
+  above_f a l e = (marked_within low ranks marks a long_ranks (ahead_marked (mark_of low ranks marks a) e)).1
+
+  first_slot : low < length nodes → f (get_or nodes low 0) ≡ true
+  first_slot l =
+      let s = plan.lowest l in
+      let i = inverse.back s.0 (omega (arith, s.1, inverse.long)) in
+      ap f (ap (λ k. get_or nodes k 0) (sym s.3) ∙ i.1) ∙ s.2
+
+  same_members : members_of visits split (length nodes) ≡ filter b nodes ++ length nodes ∷ filter f nodes
+  same_members = ap (λ v. members_of v split (length nodes)) plan.listed ∙
+      ap (λ k. members_of (filter f nodes ++ reverse (filter b nodes)) k (length nodes)) plan.split ∙
+      members_of-found (filter f nodes) (filter b nodes) (length nodes)
+
+  split_within : split ≤ length visits
+  split_within =
+      omega (
+        arith,
+        plan.split,
+        ap length plan.listed,
+        length-append (filter f nodes) (reverse (filter b nodes)),
+      )
+
+  count_listed : length visits ≡ count_to (either_of b f) nodes (length nodes)
+  count_listed = omega (
+    arith,
+    members_of-long visits split (length nodes) split_within,
+    ap length same_members,
+    members_long b f nodes ranks inverse apart new_b new_f,
+  )
+
+  count_slots : length visits ≡ count_below (is_slot low marks) (length nodes)
+  count_slots =
+      count_listed ∙
+      sym (count_below-count_to (is_slot low marks) (either_of b f) nodes (length nodes) tests (omega arith))
+
+  members_placed : All (λ a. a < length nodes + 1) (members_of visits split (length nodes))
+  members_placed = rw same_members (λ k d l.
+      let e = get_or_default (filter b nodes ++ length nodes ∷ filter f nodes) k d 0 l in
+      rw e (members_below b f nodes ranks inverse apart new_b new_f k l))
+
+  members_once : (i j : ℕ) → i < j → j < length visits + 1 →
+      get_or (members_of visits split (length nodes)) i 0 ≢ get_or (members_of visits split (length nodes)) j 0
+  members_once i j l m =
+      rw same_members (members_apart b f nodes ranks inverse apart new_b new_f i j l
+      (omega (arith, ap length same_members, members_of-long visits split (length nodes) split_within)))
+
+  pub roster : (ranks0 : List ℕ) → length ranks0 ≡ length nodes + 1 → IsRoster found nodes ranks0 visits
+  roster ranks0 e = record {
+    long = plan.long;
+    split = split_within;
+    count = count_slots;
+    placed = rw e members_placed;
+    apart = members_once;
+  }
+
+  module _ (ranks0 nodes1 ranks1 : List ℕ) (last : ℕ) (begun : ranks0 ≡ ranks ++ length nodes ∷ [])
+      (is_last : last ≡ get_or (members_of visits split (length nodes)) (length visits) 0)
+      (h : IsMended (is_slot low marks) (members_of visits split (length nodes)) nodes ranks0 nodes1 ranks1
+      (length nodes)) where
+    last_is : last ≡ get_or (filter b nodes ++ length nodes ∷ filter f nodes)
+        (count_to (either_of b f) nodes (length nodes)) 0
+    last_is = is_last ∙ ap (λ x. get_or x (length visits) 0) same_members ∙
+        ap (λ k. get_or (filter b nodes ++ length nodes ∷ filter f nodes) k 0) count_listed
+
+    pub final_inverse : IsInverse (nodes1 ++ last ∷ []) (set ranks1 last (length nodes))
+    final_inverse =
+        let m = rw same_members at h in
+        rw last_is (mended_inverse b f nodes ranks inverse apart new_b new_f (is_slot low marks) tests low
+        (omega (arith, plan.long)) first_slot above_b above_f ranks0 nodes1 ranks1 begun m)
+
+    pub final_local : IsLocal b f low ranks (set ranks1 last (length nodes))
+    final_local =
+        let m = rw same_members at h in
+        rw last_is (mended_local b f nodes ranks inverse apart new_b new_f (is_slot low marks) tests low
+        (omega (arith, plan.long)) first_slot above_b above_f ranks0 nodes1 ranks1 begun m)

@@ -1,0 +1,132 @@
+-- The search forward, by rising rank, marks just what edges reach.
+use Rattle.std.proofs.Common.{◌≡◌, ◌≢◌, ℕ, zero, suc, ◌+◌, ◌<◌, ◌≤◌, ◌⊎◌, List, [], length, get_or, inl, inr}
+use Rattle.std.proofs.Common.{sym, ◌∙◌, arith, ap, refl, subst}
+use Rattle.std.specs.List.{All}
+use Rattle.std.proofs.lemmas.List.Elements.{Contains-get_or, All-contains}
+use Rattle.std.proofs.lemmas.List.{get_or_past}
+use Rattle.std.proofs.lemmas.Bool.{cases_eq, cases_lt}
+use Rattle.rv_rank.specs.declared.search.Mark.{Mark}
+use Rattle.rv_rank.specs.declared.search.Mark.TheVariants.{Free, Start, After, Behind}
+use Rattle.rv_rank.specs.Graph.{Edge, Reaches, here, step, IsOrder}
+use Rattle.rv_rank.specs.Placing.{IsAhead}
+use Rattle.rv_rank.specs.Marks.{mark_of, IsMarked, IsSpread, IsSearched}
+use Rattle.rv_rank.proofs.Marks.{cases_free, marked_within}
+
+-- an edge leads to a node
+pub edge_below : (edges : List (List ℕ)) (ranks : List ℕ) → IsOrder edges ranks → (a b : ℕ) → Edge edges a b →
+    b < length ranks
+edge_below edges ranks o a b e = elim (cases_lt b (length ranks)) [
+  | inl l ↦ l
+  | inr p ↦ absurd (omega (arith, o.forward a b e, get_or_past ranks b 0 p))
+]
+
+pub targets_below : (edges : List (List ℕ)) (ranks : List ℕ) → IsOrder edges ranks → (a : ℕ) →
+    All (λ t. t < length ranks) (get_or edges a [])
+targets_below edges ranks o a k d l = edge_below edges ranks o a _ (Contains-get_or (get_or edges a []) k d l)
+
+pub IsSearched-begin : (edges : List (List ℕ)) (ranks succs : List ℕ) (low : ℕ) (old new : List Mark) →
+    low + length old ≡ length ranks → ((a : ℕ) → mark_of low ranks old a ≡ Free) →
+    All (λ s. low ≤ get_or ranks s 0) succs → IsSpread ranks low old new Start succs →
+    IsSearched edges ranks succs low new low
+IsSearched-begin edges ranks succs low old new l free least h =
+    let long : low + length new ≡ length ranks = omega (arith, h.long) in
+    record {
+      long = long;
+      begun = λ a w. h.found a w (All-contains (λ s. low ≤ get_or ranks s 0) succs a least w);
+      closed = λ a b below m. absurd (omega (arith, (marked_within low ranks new a long m).1));
+      start = λ a e. elim (h.only a (free a)) [ inl n ↦ cc | inr w ↦ w.1 ];
+      after = λ a u e. elim (h.only a (free a)) [ inl n ↦ cc | inr w ↦ cc ];
+      forward = λ a e. elim (h.only a (free a)) [ inl n ↦ cc | inr w ↦ cc ];
+    }
+
+pub IsSearched-more : (edges : List (List ℕ)) (ranks succs : List ℕ) (low : ℕ) (old new : List Mark) (r v : ℕ) →
+    IsOrder edges ranks → IsSearched edges ranks succs low old r → low ≤ r → get_or ranks v 0 ≡ r →
+    v < length ranks → IsMarked low ranks old v → IsSpread ranks low old new (After v) (get_or edges v []) →
+    IsSearched edges ranks succs low new (r + 1)
+IsSearched-more edges ranks succs low old new r v o h from at below m s =
+    let kept : (a : ℕ) → IsMarked low ranks old a → IsMarked low ranks new a = λ a k e. k (sym (s.kept a k) ∙ e) in
+    record {
+      long = omega (arith, s.long, h.long);
+      begun = λ a w. kept a (h.begun a w);
+      closed = λ a b lt k e. elim (cases_eq a v) [
+        | inl same ↦ s.found b (rw same at e) (omega (arith, o.forward a b e, ap (λ x. get_or ranks x 0) same))
+        | inr other ↦ elim (cases_free (mark_of low ranks old a)) [
+          | inl free ↦ elim (s.only a free) [
+            | inl n ↦ absurd (k n)
+            | inr w ↦ absurd (omega (arith, o.forward v a w.1))
+          ]
+          | inr was ↦
+              let differs : get_or ranks a 0 ≢ r =
+              λ e. other (o.once a v (marked_within low ranks old a h.long was).0 below (e ∙ sym at)) in
+              kept b (h.closed a b (omega arith) was e)
+        ]
+      ];
+      start = λ a e. elim (cases_free (mark_of low ranks old a)) [
+        | inl free ↦ elim (s.only a free) [ inl n ↦ cc | inr w ↦ cc ]
+        | inr was ↦ h.start a (sym (s.kept a was) ∙ e)
+      ];
+      after = λ a u e. elim (cases_free (mark_of low ranks old a)) [
+        | inl free ↦ elim (s.only a free) [
+          | inl n ↦ cc
+          | inr w ↦ let both : After v ≡ After u =
+              sym w.0 ∙ e in let same : v ≡ u =
+              cc in (
+                subst (λ x. Edge edges x a) same w.1,
+                subst (λ x. IsMarked low ranks new x) same (kept v m),
+              )
+        ]
+        | inr was ↦ let p = h.after a u (sym (s.kept a was) ∙ e) in (p.0, kept u p.1)
+      ];
+      forward = λ a e. elim (cases_free (mark_of low ranks old a)) [
+        | inl free ↦ elim (s.only a free) [ inl n ↦ cc | inr w ↦ cc ]
+        | inr was ↦ h.forward a (sym (s.kept a was) ∙ e)
+      ];
+    }
+
+pub IsSearched-skip : (edges : List (List ℕ)) (ranks succs : List ℕ) (low : ℕ) (marks : List Mark) (r v : ℕ) →
+    IsOrder edges ranks → IsSearched edges ranks succs low marks r → get_or ranks v 0 ≡ r → v < length ranks →
+    mark_of low ranks marks v ≡ Free → IsSearched edges ranks succs low marks (r + 1)
+IsSearched-skip edges ranks succs low marks r v o h at below free = record {
+  long = h.long;
+  begun = h.begun;
+  closed = λ a b lt k e.
+      let differs : get_or ranks a 0 ≢ r =
+      λ e. k (ap (mark_of low ranks marks) (o.once a v (marked_within low ranks marks a h.long k).0 below
+      (e ∙ sym at)) ∙ free) in
+      h.closed a b (omega arith) k e;
+  start = h.start;
+  after = h.after;
+  forward = h.forward;
+}
+
+-- what is reached from a marked node is marked
+pub reached_marked : (edges : List (List ℕ)) (ranks succs : List ℕ) (low : ℕ) (marks : List Mark) →
+    IsSearched edges ranks succs low marks (length ranks) → (a b : ℕ) → Reaches edges a b →
+    IsMarked low ranks marks a → IsMarked low ranks marks b
+reached_marked edges ranks succs low marks h a b here m = m
+reached_marked edges ranks succs low marks h a b (step {b = x} e p) m =
+    reached_marked edges ranks succs low marks h x b p (h.closed a x (marked_within low ranks marks a h.long m).2 m e)
+
+pub reaches_append : (edges : List (List ℕ)) (a b c : ℕ) → Reaches edges a b → Edge edges b c → Reaches edges a c
+reaches_append edges a b c here e = step e here
+reaches_append edges a b c (step {b = x} f p) e = step f (reaches_append edges x b c p e)
+
+mark_cases : (m : Mark) → m ≢ Free → m ≢ Behind → (m ≡ Start) ⊎ ((u : ℕ) × (m ≡ After u))
+mark_cases Free f b = absurd (f refl)
+mark_cases Start f b = inl refl
+mark_cases (After u) f b = inr (u, refl)
+mark_cases Behind f b = absurd (b refl)
+
+-- what is marked is reached
+pub marked_reached : (edges : List (List ℕ)) (ranks succs : List ℕ) (low : ℕ) (marks : List Mark) (n : ℕ) →
+    IsOrder edges ranks → IsSearched edges ranks succs low marks (length ranks) → (a : ℕ) →
+    get_or ranks a 0 < n → IsMarked low ranks marks a → IsAhead edges succs a
+marked_reached edges ranks succs low marks zero o h a l m = absurd (omega arith)
+marked_reached edges ranks succs low marks (suc n) o h a l m =
+    elim (mark_cases (mark_of low ranks marks a) m (h.forward a)) [
+      | inl s ↦ (a, h.start a s, here)
+      | inr w ↦
+          let p = h.after a w.0 w.1 in
+          let q = marked_reached edges ranks succs low marks n o h w.0 (omega (arith, o.forward w.0 a p.0)) p.1 in
+          (q.0, q.1, reaches_append edges q.0 w.0 a q.2 p.0)
+    ]

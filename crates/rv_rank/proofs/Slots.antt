@@ -1,0 +1,123 @@
+-- The slots of an order, filled one after another.
+use Rattle.std.proofs.Common.{◌≡◌, ◌≢◌, ℕ, zero, suc, ◌+◌, ◌-◌, ◌<◌, ◌≤◌, Bool, true, false, cond, List, ◌∷◌}
+use Rattle.std.proofs.Common.{length, get_or, set, take, drop, reverse, length-append, length-drop, inl, inr}
+use Rattle.std.proofs.Common.{sym, ◌∙◌, arith, ap, refl}
+use Rattle.std.proofs.lemmas.List.{get_or-set_same, get_or-set_other, length-set, length-reverse, length-take}
+use Rattle.std.proofs.lemmas.Bool.{cases_eq, false≢true}
+use Rattle.rv_rank.specs.Mended.{count_below, members_of, IsMended}
+
+pub below_yes : (s : ℕ → Bool) (k : ℕ) → s k ≡ true → count_below s (k + 1) ≡ count_below s k + 1
+below_yes s k e = let q : k + 1 ≡ suc k =
+    omega arith in rw q (ap (λ b. cond b (suc (count_below s k)) (count_below s k)) e ∙ omega arith)
+
+pub below_no : (s : ℕ → Bool) (k : ℕ) → s k ≡ false → count_below s (k + 1) ≡ count_below s k
+below_no s k e = let q : k + 1 ≡ suc k =
+    omega arith in rw q (ap (λ b. cond b (suc (count_below s k)) (count_below s k)) e)
+
+below_step : (s : ℕ → Bool) (k : ℕ) → count_below s k ≤ count_below s (suc k)
+below_step s k =
+    elim (s k) as (λ b. count_below s k ≤ cond b (suc (count_below s k)) (count_below s k)) [
+      | true ↦ omega
+          arith
+      | false ↦ omega arith
+    ]
+
+below_along : (s : ℕ → Bool) (k d : ℕ) → count_below s k ≤ count_below s (k + d)
+below_along s k zero = let e : k + zero ≡ k = omega arith in rw e (omega arith)
+below_along s k (suc d) = let e : k + suc d ≡ suc (k + d) =
+    omega arith in rw e (omega (arith, below_along s k d, below_step s (k + d)))
+
+pub below_mono : (s : ℕ → Bool) (j k : ℕ) → j ≤ k → count_below s j ≤ count_below s k
+below_mono s j k l = let e : j + (k - j) ≡ k = omega arith in let h = below_along s j (k - j) in rw e at h
+
+pub below_strict : (s : ℕ → Bool) (j k : ℕ) → s j ≡ true → j < k → count_below s j < count_below s k
+below_strict s j k e l = omega (arith, below_yes s j e, below_mono s (j + 1) k (omega arith))
+
+pub below_none : (s : ℕ → Bool) (r : ℕ) → ((k : ℕ) → k < r → s k ≡ false) → count_below s r ≡ 0
+below_none s zero n = refl
+below_none s (suc r) n = ap (λ b. cond b (suc (count_below s r)) (count_below s r)) (n r (omega arith)) ∙
+    below_none s r (λ k l. n k (omega arith))
+
+pub below_few : (s : ℕ → Bool) (k : ℕ) → count_below s k ≤ k
+below_few s zero = omega arith
+below_few s (suc k) =
+    let h = below_few s k in
+    elim (s k) as (λ b. cond b (suc (count_below s k)) (count_below s k) ≤ suc k) [
+      | true ↦ omega (
+        arith,
+        h,
+      )
+      | false ↦ omega (arith, h)
+    ]
+
+pub IsMended-skip : (slot : ℕ → Bool) (members nodes ranks new_nodes new_ranks : List ℕ) (r : ℕ) →
+    IsMended slot members nodes ranks new_nodes new_ranks r → slot r ≡ false →
+    IsMended slot members nodes ranks new_nodes new_ranks (r + 1)
+IsMended-skip slot members nodes ranks new_nodes new_ranks r h f = record {
+  long_nodes = h.long_nodes;
+  long_ranks = h.long_ranks;
+  filled = λ k l e. elim (cases_eq k r) [
+    | inl q ↦ absurd (false≢true (sym f ∙ ap slot (sym q) ∙ e))
+    | inr
+        n ↦ h.filled k (omega arith) e
+  ];
+  spared = λ k l e. elim (cases_eq k r) [ inl q ↦ h.ahead k (omega arith) | inr n ↦ h.spared k (omega arith) e ];
+  ahead = λ k l. h.ahead k (omega arith);
+  others = h.others;
+}
+
+pub IsMended-more : (slot : ℕ → Bool) (members nodes ranks new_nodes new_ranks : List ℕ) (r : ℕ) →
+    IsMended slot members nodes ranks new_nodes new_ranks r → r < length nodes → slot r ≡ true →
+    count_below slot r < length members → get_or members (count_below slot r) 0 < length ranks →
+    ((i j : ℕ) → i < j → j < length members → get_or members i 0 ≢ get_or members j 0) →
+    IsMended slot members nodes ranks (set new_nodes r (get_or members (count_below slot r) 0))
+    (set new_ranks (get_or members (count_below slot r) 0) r) (r + 1)
+IsMended-more slot members nodes ranks new_nodes new_ranks r h b e m within apart =
+    let i = count_below slot r in
+    let v = get_or members i 0 in
+    let here = get_or-set_same new_nodes r v 0 (omega (arith, h.long_nodes)) in
+    let there : (k : ℕ) → k ≢ r → get_or (set new_nodes r v) k 0 ≡ get_or new_nodes k 0 =
+    λ k n. get_or-set_other new_nodes r k v 0 n in
+    let rank_here = get_or-set_same new_ranks v r 0 (omega (arith, h.long_ranks)) in
+    let rank_there : (a : ℕ) → a ≢ v → get_or (set new_ranks v r) a 0 ≡ get_or new_ranks a 0 =
+    λ a n. get_or-set_other new_ranks v a r 0 n in
+    record {
+      long_nodes = length-set new_nodes r v ∙ h.long_nodes;
+      long_ranks = length-set new_ranks v r ∙ h.long_ranks;
+      filled = λ k l f. elim (cases_eq k r) [
+        | inl q ↦ rw q (here, rank_here)
+        | inr n ↦
+            let p = h.filled k (omega arith) f in
+            let less = below_strict slot k r f (omega arith) in
+            let d = apart (count_below slot k) i less m in
+            (there k n ∙ p.0, rank_there _ d ∙ p.1)
+      ];
+      spared = λ k l f. elim (cases_eq k r) [
+        | inl q ↦ absurd (false≢true (sym f ∙ ap slot q ∙ e))
+        | inr n ↦ there k n ∙ h.spared k (omega arith) f
+      ];
+      ahead = λ k l. there k (λ q. omega arith) ∙ h.ahead k (omega arith);
+      others = λ a n. rank_there a (λ q. n i m (sym q)) ∙ h.others a n;
+    }
+
+pub IsMended-none : (slot : ℕ → Bool) (members nodes ranks : List ℕ) (low : ℕ) →
+    ((k : ℕ) → k < low → slot k ≡ false) → IsMended slot members nodes ranks nodes ranks low
+IsMended-none slot members nodes ranks low below = record {
+  long_nodes = refl;
+  long_ranks = refl;
+  filled = λ k l e. absurd (false≢true (sym (below k l) ∙ e));
+  spared = λ k l e. refl;
+  ahead = λ k l. refl;
+  others = λ a n. refl;
+}
+
+pub members_of-long : (visits : List ℕ) (split node : ℕ) → split ≤ length visits →
+    length (members_of visits split node) ≡ length visits + 1
+members_of-long visits split node l =
+    omega (
+      arith,
+      length-append (reverse (drop split visits)) (node ∷ take split visits),
+      length-reverse (drop split visits),
+      length-drop split visits,
+      length-take split visits,
+    )

@@ -1,0 +1,86 @@
+use Rattle.std.proofs.Common.{rules, arith, length, ◌<◌, sym, ◌∙◌}
+use Rattle.rv_rank.specs.Marks.{is_slot}
+use Rattle.rv_rank.specs.Mended.{members_of}
+use Rattle.rv_rank.proofs.Marks.{slot_below}
+use Rattle.rv_rank.proofs.Slots.{below_yes, below_no, below_mono, below_none, below_few}
+use Rattle.rv_rank.proofs.Slots.{members_of-long, IsMended-none, IsMended-more, IsMended-skip}
+use Rattle.rv_rank.proofs.order.mend.Goals as goal
+use Rattle.rv_rank.proofs.order.mend.Goals.{then-is_slot, else-is_slot}
+
+pub loop-rank-init : goal.loop-rank-init
+loop-rank-init c =
+    let low = c.args.found.now.low in
+    let marks = c.args.found.now.marks.items in
+    let below = slot_below low marks in
+    record {
+      mended = IsMended-none (is_slot low marks) (members_of c.args.visits.now c.args.found.now.split
+          (length c.args.nodes.now)) c.args.nodes.now c.args.ranks.now low below;
+      next = sym (below_none (is_slot low marks) low below);
+    }
+
+pub member-node-requires-clause-place : goal.member-node-requires-clause-place
+member-node-requires-clause-place c =
+    let slot = is_slot c.args.found.now.low c.args.found.now.marks.items in
+    omega (
+      arith,
+      c.loop-rank.invariant.next,
+      below_mono slot c.loop-rank.rank (length c.args.nodes.now)
+          (omega arith),
+      c.requires.roster.count,
+    )
+
+pub bounds-ranks-node : goal.bounds-ranks-node
+bounds-ranks-node c =
+    let slot = is_slot c.args.found.now.low c.args.found.now.marks.items in
+    let few = below_mono slot c.loop-rank.rank (length c.args.nodes.now) (omega arith) in
+    let long = members_of-long c.args.visits.now c.args.found.now.split (length c.args.nodes.now)
+    c.requires.roster.split in
+    omega (
+      arith,
+      c.member-node.ensures,
+      c.requires.roster.placed c.loop-rank.next 0 (omega (
+        arith,
+        c.loop-rank.invariant.next,
+        few,
+        long,
+        c.requires.roster.count,
+      )),
+    )
+
+pub overflow_add-next : goal.overflow_add-next
+overflow_add-next c =
+    let few = below_few (is_slot c.args.found.now.low c.args.found.now.marks.items) c.loop-rank.rank in
+    let small : c.loop-rank.next < 65536 = omega (arith, c.loop-rank.invariant.next) in
+    search rules
+
+pub loop-rank-preserved : goal.loop-rank-preserved
+loop-rank-preserved c =
+    let slot = is_slot c.args.found.now.low c.args.found.now.marks.items in
+    let nodes = c.args.nodes.now in
+    let rank = c.loop-rank.rank in
+    let members = members_of c.args.visits.now c.args.found.now.split (length nodes) in
+    let inv = c.loop-rank.invariant in
+    let count = inv.next in
+    let long = members_of-long c.args.visits.now c.args.found.now.split (length nodes) c.requires.roster.split in
+    let few = below_mono slot rank (length nodes) (omega arith) in
+    elim c.if-is_slot.branch [
+      | then-is_slot w ↦
+          let passes = sym c.is_slot.ensures ∙ w.if-is_slot.true in
+          let m : c.loop-rank.next < length members = omega (arith, count, few, long, c.requires.roster.count) in
+          let p = c.requires.roster.placed c.loop-rank.next 0 m in
+          let b = rw count at m in
+          let q = rw count at p in
+          let apart = rw (← long) at c.requires.roster.apart in
+          rw (w.nodes-is, w.ranks-is, w.next-is, w.member-node.ensures, count) (record {
+            mended = IsMended-more slot members nodes c.args.ranks.now c.loop-rank.nodes c.loop-rank.ranks rank
+                inv.mended (omega arith) passes b q apart;
+            next = sym (below_yes slot rank passes);
+          })
+      | else-is_slot w ↦
+          let fails = sym c.is_slot.ensures ∙ w.if-is_slot.false in
+          rw (w.nodes-is, w.ranks-is, w.next-is) (record {
+            mended = IsMended-skip slot members nodes c.args.ranks.now c.loop-rank.nodes c.loop-rank.ranks rank
+                inv.mended fails;
+            next = count ∙ sym (below_no slot rank fails);
+          })
+    ]

@@ -1,0 +1,11 @@
+use Rattle.std.proofs.Common.{◌≡◌, length}
+use Rattle.rv_rank.specs.Mended.{count_below, IsMended}
+use Rattle.rv_rank.specs.Plan.{slot_in, members_in}
+use Rattle.rv_rank.proofs.order.mend.Given as goal
+
+abbrev pub invariant-loop-rank : goal.invariant-loop-rank
+invariant-loop-rank l = record {
+  mended : IsMended (slot_in l.found) (members_in l.found l.visits (length l.initial.nodes)) l.initial.nodes
+      l.initial.ranks l.nodes l.ranks l.rank;
+  next : l.next ≡ count_below (slot_in l.found) l.rank;
+}

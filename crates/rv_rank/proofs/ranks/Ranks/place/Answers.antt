@@ -1,0 +1,126 @@
+use Rattle.std.proofs.Common.{rules, arith, length, reverse, ◌≡◌, ◌<◌, ◌^◌, ap, sym, ◌∙◌, length-append}
+use Rattle.std.proofs.lemmas.List.{length-reverse}
+use Rattle.std.proofs.lemmas.Result.{err_from_is_err_and}
+use Rattle.rv_rank.specs.Marks.{is_ahead_of, is_behind_of}
+use Rattle.rv_rank.specs.Found.{found_ahead, found_behind}
+use Rattle.rv_rank.proofs.Listing.{listed_all_few}
+use Rattle.rv_rank.proofs.Placement.{found_plan, visits_only, visits_listed, ordered, spared, exchanged}
+use Rattle.rv_rank.proofs.Placement.{taken, greatest, still, moved, refused_round}
+use Rattle.rv_rank.proofs.ranks.Ranks.place.Goals as goal
+
+pub returns-in_err-found-clause-round : goal.returns-in_err-found-clause-round
+returns-in_err-found-clause-round c =
+    let next = c.search.ensures.same.rounds ∙ c.in_ok-begin.ensures.rounds in
+    let only = rw c.in_ok-begin.ensures.edges at c.in_err-found.ensures.affected in
+    let p = err_from_is_err_and c.from_residual-in_err-found.result c.from_residual-in_err-found.ensures.1 in
+    rw (p.1, ← c.self.view_is) (refused_round _ c.search.new.walk.edges c.self.inside.order.ranks
+    c.search.new.walk.visits c.search.new.walk.rounds _ _ p.0 next only)
+
+pub returns-in_err-reserve-clause-round : goal.returns-in_err-reserve-clause-round
+returns-in_err-reserve-clause-round c =
+    let found = rw c.in_ok-begin.ensures.edges at c.in_ok-found.ensures.found in
+    let next = c.search.ensures.same.rounds ∙ c.in_ok-begin.ensures.rounds in
+    let only = visits_only c.self.inside.walk.edges c.self.inside.order c.args.preds.now c.args.succs.now
+    c.in_ok-found.found.low c.in_ok-found.found.marks.items c.in_ok-found.found.split
+    c.search.new.walk.visits c.self.invariant c.len-node.ensures.inverse found in
+    let p = err_from_is_err_and c.from_residual-in_err-reserve.result c.from_residual-in_err-reserve.ensures.1 in
+    rw (p.1, ← c.self.view_is) (refused_round _ c.search.new.walk.edges c.reserve.new.self.ranks
+    c.search.new.walk.visits c.search.new.walk.rounds _ _ p.0 next only)
+
+pub returns-in_err-add-clause-round : goal.returns-in_err-add-clause-round
+returns-in_err-add-clause-round c =
+    let found = rw c.in_ok-begin.ensures.edges at c.in_ok-found.ensures.found in
+    let next = c.in_err-add.ensures.rounds ∙ c.search.ensures.same.rounds ∙ c.in_ok-begin.ensures.rounds in
+    let only = visits_only c.self.inside.walk.edges c.self.inside.order c.args.preds.now c.args.succs.now
+    c.in_ok-found.found.low c.in_ok-found.found.marks.items c.in_ok-found.found.split
+    c.search.new.walk.visits c.self.invariant c.len-node.ensures.inverse found in
+    let p = err_from_is_err_and c.from_residual-in_err-add.result c.from_residual-in_err-add.ensures.1 in
+    rw (p.1, ← c.self.view_is) (refused_round _ c.add.new.self.edges c.reserve.new.self.ranks
+    c.add.new.self.visits c.add.new.self.rounds _ _ p.0 next (rw c.in_err-add.ensures.visits only))
+
+pub mend-requires-clause-plan : goal.mend-requires-clause-plan
+mend-requires-clause-plan c =
+    let found = rw c.in_ok-begin.ensures.edges at c.in_ok-found.ensures.found in
+    let visits : c.visits.result.now ≡ c.search.new.walk.visits = c.visits.ensures ∙ c.in_ok-add.ensures.visits in
+    rw (
+      c.in_ok-reserve.ensures.nodes,
+      c.in_ok-reserve.ensures.ranks,
+      visits,
+    ) (found_plan c.self.inside.walk.edges c.self.inside.order c.args.preds.now c.args.succs.now
+    c.in_ok-found.found c.search.new.walk.visits c.self.invariant c.len-node.ensures.inverse found)
+
+pub overflow_cast-visited : goal.overflow_cast-visited
+overflow_cast-visited c =
+    let order = c.self.inside.order in
+    let low = c.in_ok-found.found.low in
+    let marks = c.in_ok-found.found.marks.items in
+    let first = found_ahead low order marks in
+    let back = found_behind low order marks in
+    let room = rw (← c.self.view_is) at c.requires.room in
+    let small : length c.visits-2.result.now < 2 ^ 32 =
+    omega (
+      arith,
+      ap length (c.visits-2.ensures ∙ c.in_ok-add.ensures.visits ∙
+          c.in_ok-found.ensures.found.visits),
+      length-append first (reverse back),
+      length-reverse back,
+      listed_all_few (is_ahead_of low order.ranks marks) order.nodes,
+      listed_all_few (is_behind_of low order.ranks marks) order.nodes,
+      c.len-node.ensures.inverse.long,
+      room,
+    ) in
+    search rules
+
+pub invariant_of-self-2 : goal.invariant_of-self-2
+invariant_of-self-2 c =
+    let found = rw c.in_ok-begin.ensures.edges at c.in_ok-found.ensures.found in
+    let grown = rw (c.search.ensures.same.edges, c.in_ok-begin.ensures.edges) at c.in_ok-add.ensures.ok in
+    let local = rw c.in_ok-reserve.ensures.ranks at c.mend.ensures in
+    let low_preds = rw (← c.self.view_is) at c.requires.preds in
+    let low_succs = rw (← c.self.view_is) at c.requires.succs in
+    ordered c.self.inside.walk.edges c.self.inside.order c.args.preds.now c.args.succs.now
+    c.in_ok-found.found.low c.in_ok-found.found.marks.items c.in_ok-found.found.split
+    c.search.new.walk.visits c.self.invariant c.len-node.ensures.inverse found c.add.new.self.edges
+    c.mend.new.self.ranks low_preds low_succs grown local
+
+pub returns-clause-placed : goal.returns-clause-placed
+returns-clause-placed c =
+    let edges = c.self.inside.walk.edges in
+    let order = c.self.inside.order in
+    let preds = c.args.preds.now in
+    let succs = c.args.succs.now in
+    let low = c.in_ok-found.found.low in
+    let marks = c.in_ok-found.found.marks.items in
+    let split = c.in_ok-found.found.split in
+    let list = c.search.new.walk.visits in
+    let o = c.self.invariant in
+    let inverse = c.len-node.ensures.inverse in
+    let found = rw c.in_ok-begin.ensures.edges at c.in_ok-found.ensures.found in
+    let grown = rw (c.search.ensures.same.edges, c.in_ok-begin.ensures.edges) at c.in_ok-add.ensures.ok in
+    let local = rw c.in_ok-reserve.ensures.ranks at c.mend.ensures in
+    let low_preds = rw (← c.self.view_is) at c.requires.preds in
+    let low_succs = rw (← c.self.view_is) at c.requires.succs in
+    let new_edges = c.add.new.self.edges in
+    let new = c.mend.new.self.ranks in
+    let visited : c.visits-2.result.now ≡ list = c.visits-2.ensures ∙ c.in_ok-add.ensures.visits in
+    rw (← c.self.view_is, visited) (record {
+      node = c.len-node.ensures.count;
+      moved = sym (moved edges order preds succs low marks split list o inverse found new_edges new low_preds
+          low_succs grown local);
+      visited = ap length (sym c.in_ok-add.ensures.visits);
+      free = found.free;
+      grown = grown;
+      ordered = invariant_of-self-2 c;
+      spared = spared edges order preds succs low marks split list o inverse found new_edges new low_preds
+          low_succs grown local;
+      exchanged = exchanged edges order preds succs low marks split list o inverse found new_edges new low_preds
+          low_succs grown local;
+      taken = taken edges order preds succs low marks split list o inverse found new_edges new low_preds low_succs grown local;
+      visits = rw c.in_ok-add.ensures.visits (visits_listed edges order preds succs low marks split list o
+          inverse found);
+      rounds = c.in_ok-add.ensures.rounds ∙ c.search.ensures.same.rounds ∙ c.in_ok-begin.ensures.rounds;
+      greatest = greatest edges order preds succs low marks split list o inverse found new_edges new low_preds
+          low_succs grown local;
+      still = λ e. let none = still edges order preds succs low marks split list o inverse found new_edges new
+          low_preds low_succs grown local e in (none, none);
+    })

@@ -1,0 +1,165 @@
+use Rattle.std.proofs.Common.{arith, get_or, [], ◌∷◌, ◌++◌, length, ◌≡◌, ◌<◌, ◌≤◌, ◌+◌, ◌-◌, ◌∙◌, refl, ap}
+use Rattle.std.proofs.Common.{sym, ℕ, true, drop, reverse, append-nil, append_assoc, length-append}
+use Rattle.std.specs.List.{filter}
+use Rattle.std.proofs.Math.Seq.{drop-length}
+use Rattle.std.proofs.lemmas.List.{length-reverse}
+use Rattle.std.proofs.lemmas.List.Elements.{Contains-get_or}
+use Rattle.rv_rank.specs.Marks.{mark_of, is_behind, is_behind_of}
+use Rattle.rv_rank.specs.declared.search.Mark.TheVariants.{Behind}
+use Rattle.rv_rank.proofs.Marks.{below_free, read_of, spread_same, behind_is, not_behind, is_behind_no}
+use Rattle.rv_rank.proofs.Listing.{listed_down_few, listed_down_more, listed_down_skip, listed_from}
+use Rattle.rv_rank.proofs.Growth.{edge_from}
+use Rattle.rv_rank.proofs.Tracing.{behind_marked, IsTraced-begin, IsTraced-more, IsTraced-skip}
+use Rattle.rv_rank.proofs.search.sweep_backward.Goals as goal
+
+pub loop-rank-init : goal.loop-rank-init
+loop-rank-init c =
+    let edges = c.args.walk.now.edges in
+    let nodes = c.args.order.now.nodes in
+    let ranks = c.args.order.now.ranks in
+    let new = c.mark_above.new.marks in
+    let behind = is_behind_of c.args.low ranks new in
+    let none : drop (length ranks) nodes ≡ [] = ap (λ k. drop k nodes) (sym c.requires.inverse.long) ∙
+    drop-length nodes in
+    rw c.len-rank.ensures.count (record {
+      traced = IsTraced-begin edges ranks c.requires.searched.0 c.args.preds.now c.args.low c.args.marks.now
+          c.requires.ordered c.requires.searched.1 new c.requires.free c.mark_above.ensures;
+      visits = sym (ap (λ x. c.args.walk.now.visits ++ reverse (filter behind x)) none ∙
+          append-nil c.args.walk.now.visits);
+      same = record { edges = refl; rounds = refl; room = omega arith };
+      above = omega (arith, c.requires.searched.1.long);
+      within = omega arith;
+    })
+
+pub backward-requires-clause-room : goal.backward-requires-clause-room
+backward-requires-clause-room c =
+    let inv = c.loop-rank.invariant in
+    let nodes = c.args.order.now.nodes in
+    let behind = is_behind_of c.args.low c.args.order.now.ranks c.loop-rank.marks in
+    let list = filter behind (drop c.loop-rank.rank nodes) in
+    let few = listed_down_few behind nodes c.loop-rank.rank (omega (arith, c.requires.inverse.long, inv.within)) in
+    omega (
+      arith,
+      ap length inv.visits,
+      length-append c.args.walk.now.visits (reverse list),
+      length-reverse list,
+      few,
+      inv.same.room,
+      c.requires.room,
+      c.requires.few,
+      c.requires.ordered.long,
+      c.requires.inverse.long,
+    )
+
+pub mark_above-requires-then-is_behind-clause-placed :
+    goal.mark_above-requires-then-is_behind-clause-placed
+mark_above-requires-then-is_behind-clause-placed c = λ k d l.
+    let a = get_or c.backward.result.now k d in
+    let e = (c.backward.ensures.value a).0 (Contains-get_or c.backward.result.now k d l) in
+    let b = edge_from c.loop-rank.walk.edges a c.node_at-node.result e in
+    omega (arith, b, ap length c.loop-rank.invariant.same.edges, c.requires.ordered.long)
+
+pub loop-rank-preserved-then-is_behind : goal.loop-rank-preserved-then-is_behind
+loop-rank-preserved-then-is_behind c =
+    let edges = c.args.walk.now.edges in
+    let nodes = c.args.order.now.nodes in
+    let ranks = c.args.order.now.ranks in
+    let low = c.args.low in
+    let old = c.loop-rank.marks in
+    let new = c.mark_above-then-is_behind.new.marks in
+    let r = c.loop-rank.rank - 1 in
+    let inv = c.loop-rank.invariant in
+    let o = c.requires.ordered in
+    let v = c.node_at-node.result in
+    let at = c.node_at-node.ensures.ranked in
+    let below = c.node_at-node.ensures.below in
+    let is = c.node_at-node.ensures.value in
+    let visited = c.backward.follows.holds-at-none in
+    let sources = c.backward.result.now in
+    let both = rw inv.same.edges at c.backward.ensures.value in
+    let up : c.loop-rank.rank ≡ r + 1 = omega arith in
+    let high : low ≤ r = omega arith in
+    let l : r < length nodes = omega (arith, c.requires.inverse.long) in
+    let traced = rw up at inv.traced in
+    let listed = rw up at inv.visits in
+    let spread = c.mark_above-then-is_behind.ensures in
+    let taken = read_of low ranks old v r below high (sym at) ∙
+    behind_is (get_or old (r - low) _) (sym c.is_behind.ensures.value ∙ c.if-is_behind.true) in
+    let same : (k : ℕ) → r + 1 ≤ k → k < length nodes →
+    is_behind_of low ranks old (get_or nodes k 0) ≡ is_behind_of low ranks new (get_or nodes k 0) =
+    λ k b m. ap is_behind (sym (spread_same ranks low old new Behind sources spread (get_or nodes k 0)
+    (λ e. omega (
+      arith,
+      o.forward (get_or nodes k 0) v ((both (get_or nodes k 0)).0 e),
+      (c.requires.inverse.there k m).1,
+    )))) in
+    let behind : is_behind_of low ranks new v ≡ true =
+    ap is_behind (spread.kept v (λ f. behind_marked _ taken f) ∙ taken) in
+    let more = listed_down_more (is_behind_of low ranks old) (is_behind_of low ranks new) nodes r l same
+    (ap (is_behind_of low ranks new) (sym is) ∙ behind) in
+    let first = c.args.walk.now.visits in
+    let list = reverse (filter (is_behind_of low ranks old) (drop (r + 1) nodes)) in
+    record {
+      traced = IsTraced-more edges ranks c.requires.searched.0 c.args.preds.now low c.args.marks.now o
+          c.requires.searched.1 old new r v sources (λ a w. (both a).0 w) (λ a e. (both a).1 e) traced at below
+          taken spread;
+      visits = visited.visits ∙ ap (λ x. x ++ v ∷ []) listed ∙ append_assoc first list (v ∷ []) ∙
+          ap (λ x. first ++ (list ++ x ∷ [])) is ∙ ap (λ x. first ++ x) more;
+      same = record {
+        edges = visited.edges ∙ inv.same.edges;
+        rounds = visited.rounds ∙ inv.same.rounds;
+        room =
+            omega (arith, visited.room, inv.same.room);
+      };
+      above = high;
+      within = omega (arith, inv.within);
+    }
+
+pub loop-rank-preserved : goal.loop-rank-preserved
+loop-rank-preserved c =
+    let edges = c.args.walk.now.edges in
+    let nodes = c.args.order.now.nodes in
+    let ranks = c.args.order.now.ranks in
+    let low = c.args.low in
+    let marks = c.loop-rank.marks in
+    let r = c.loop-rank.rank - 1 in
+    let inv = c.loop-rank.invariant in
+    let up : c.loop-rank.rank ≡ r + 1 = omega arith in
+    let high : low ≤ r = omega arith in
+    let l : r < length nodes = omega (arith, c.requires.inverse.long, inv.within) in
+    let here = c.requires.inverse.there r l in
+    let v = get_or nodes r 0 in
+    let traced = rw up at inv.traced in
+    let listed = rw up at inv.visits in
+    let read = read_of low ranks marks v r here.0 high (sym here.1) in
+    let free = not_behind (get_or marks (r - low) _) (sym c.is_behind.ensures.value ∙ c.if-is_behind.false) in
+    let other : mark_of low ranks marks v ≡ Behind → ⊥ = λ e. free (sym read ∙ e) in
+    record {
+      traced = IsTraced-skip edges ranks c.requires.searched.0 c.args.preds.now low c.args.marks.now
+          c.requires.ordered c.requires.searched.1 marks r v traced here.1 here.0 other;
+      visits = listed ∙
+          ap (λ x. c.args.walk.now.visits ++ x) (listed_down_skip (is_behind_of low ranks marks) nodes r l
+          (is_behind_no (mark_of low ranks marks v) other));
+      same = inv.same;
+      above = high;
+      within = omega (arith, inv.within);
+    }
+
+pub returns-clause-traced : goal.returns-clause-traced
+returns-clause-traced c =
+    let e : c.loop-rank.rank ≡ c.args.low = omega (arith, c.loop-rank.invariant.above) in
+    rw e at c.loop-rank.invariant.traced
+
+pub returns-clause-visits : goal.returns-clause-visits
+returns-clause-visits c =
+    let nodes = c.args.order.now.nodes in
+    let ranks = c.args.order.now.ranks in
+    let low = c.args.low in
+    let marks = c.loop-rank.marks in
+    let inv = c.loop-rank.invariant in
+    let e : c.loop-rank.rank ≡ low = omega (arith, inv.above) in
+    let listed = rw e at inv.visits in
+    let all =
+    listed_from (is_behind_of low ranks marks) nodes low
+    (λ k b l. ap is_behind (below_free low nodes ranks marks k c.requires.inverse l b)) in
+    listed ∙ ap (λ x. c.args.walk.now.visits ++ reverse x) all

@@ -1,0 +1,18 @@
+use Rattle.std.proofs.Common.{◌≡◌, ◌≤◌, ◌++◌, length, drop, reverse}
+use Rattle.std.specs.List.{filter}
+use Rattle.rv_rank.specs.Marks.{IsTraced, is_behind_of}
+use Rattle.rv_rank.specs.Found.{IsSameGraph}
+use Rattle.rv_rank.proofs.search.sweep_backward.Given as goal
+
+abbrev pub invariant-loop-rank : goal.invariant-loop-rank
+invariant-loop-rank l = record {
+  traced : IsTraced l.initial.walk.edges l.order.ranks l.preds l.low l.fn.marks l.marks l.rank;
+  visits : l.walk.visits ≡ l.initial.walk.visits ++ reverse (filter (is_behind_of l.low l.order.ranks l.marks)
+      (drop l.rank l.order.nodes));
+  same : IsSameGraph l.initial.walk l.walk;
+  above : l.low ≤ l.rank;
+  within : l.rank ≤ length l.order.ranks;
+}
+
+abbrev pub decreases-loop-rank : goal.decreases-loop-rank
+decreases-loop-rank l = l.rank

@@ -1,0 +1,106 @@
+use Rattle.std.proofs.Common.{arith, get_or, [], ◌∷◌, ◌++◌, length, ◌≡◌, ◌<◌, ◌≤◌, ◌∙◌, refl, ap, sym, ℕ, true, take}
+use Rattle.std.specs.List.{filter}
+use Rattle.rv_rank.specs.Marks.{mark_of, is_ahead, is_ahead_of}
+use Rattle.rv_rank.specs.declared.search.Mark.TheVariants.{After}
+use Rattle.rv_rank.proofs.Marks.{below_free, read_free, read_marked, spread_same, ahead_else}
+use Rattle.rv_rank.proofs.Listing.{listed_none, listed_few, listed_more, listed_skip}
+use Rattle.rv_rank.proofs.Searching.{IsSearched-begin, IsSearched-more, IsSearched-skip, targets_below}
+use Rattle.rv_rank.proofs.search.sweep_forward.Goals as goal
+use Rattle.rv_rank.proofs.search.sweep_forward.Goals.{then-not-is_free, else-not-is_free}
+
+pub loop-rank-init : goal.loop-rank-init
+loop-rank-init c =
+    let nodes = c.args.order.now.nodes in
+    let ranks = c.args.order.now.ranks in
+    let low = c.args.low in
+    let new = c.mark_above.new.marks in
+    let none =
+    listed_none (is_ahead_of low ranks new) nodes low
+    (λ k b l. ap is_ahead (below_free low nodes ranks new k c.requires.inverse l b)) in
+    record {
+      searched = IsSearched-begin c.args.walk.now.edges ranks c.args.succs.now low c.args.marks.now new
+          c.requires.long c.requires.free c.requires.low c.mark_above.ensures;
+      visits = c.requires.begun ∙ sym none;
+      same = record { edges = refl; rounds = refl; room = omega arith };
+    }
+
+pub forward-requires-clause-room : goal.forward-requires-clause-room
+forward-requires-clause-room c =
+    let inv = c.loop-rank.invariant in
+    omega (
+      arith,
+      ap length inv.visits,
+      listed_few (is_ahead_of c.args.low c.args.order.now.ranks c.loop-rank.marks) c.args.order.now.nodes
+          c.loop-rank.rank,
+      inv.same.room,
+      c.requires.ordered.long,
+    )
+
+pub mark_above-requires-then-not-is_free-clause-placed :
+    goal.mark_above-requires-then-not-is_free-clause-placed
+mark_above-requires-then-not-is_free-clause-placed c =
+    let below = targets_below c.args.walk.now.edges c.args.order.now.ranks c.requires.ordered c.node_at-node.result in
+    rw (c.forward.ensures.value, c.loop-rank.invariant.same.edges) below
+
+pub loop-rank-preserved : goal.loop-rank-preserved
+loop-rank-preserved c =
+    let edges = c.args.walk.now.edges in
+    let nodes = c.args.order.now.nodes in
+    let ranks = c.args.order.now.ranks in
+    let succs = c.args.succs.now in
+    let low = c.args.low in
+    let old = c.loop-rank.marks in
+    let r = c.loop-rank.rank in
+    let inv = c.loop-rank.invariant in
+    let o = c.requires.ordered in
+    let high : low ≤ r = omega arith in
+    let l : r < length nodes = omega (arith, c.requires.inverse.long) in
+    let here = c.requires.inverse.there r l in
+    elim c.if-not-is_free.branch [
+      | then-not-is_free w ↦
+          let v = w.node_at-node.result in
+          let at = w.node_at-node.ensures.ranked in
+          let below = w.node_at-node.ensures.below in
+          let new = w.mark_above-then-not-is_free.new.marks in
+          let visited = w.forward.follows.holds-at-none in
+          let taken = read_marked low ranks old v r below high (sym at) (sym c.is_free.ensures.value ∙
+          w.if-not-is_free.true) in
+          let spread = rw (w.forward.ensures.value, inv.same.edges) at w.mark_above-then-not-is_free.ensures in
+          let searched = IsSearched-more edges ranks succs low old new r v o inv.searched high at below taken
+          spread in
+          let same : (k : ℕ) → k < r → k < length nodes →
+          is_ahead_of low ranks old (get_or nodes k 0) ≡ is_ahead_of low ranks new (get_or nodes k 0) =
+          λ k b m. ap is_ahead (sym (spread_same ranks low old new (After v) (get_or edges v []) spread
+          (get_or nodes k 0) (λ e. omega (
+            arith,
+            o.forward v (get_or nodes k 0) e,
+            (c.requires.inverse.there k m).1,
+          )))) in
+          let ahead : is_ahead_of low ranks new v ≡ true =
+          ahead_else (mark_of low ranks new v) (λ f. taken (sym (spread.kept v taken) ∙ f))
+          (searched.forward v) in
+          let is = w.node_at-node.ensures.value in
+          let more = listed_more (is_ahead_of low ranks old) (is_ahead_of low ranks new) nodes r l same
+          (ap (is_ahead_of low ranks new) (sym is) ∙ ahead) in
+          rw (w.marks-is, w.walk-is) (record {
+            searched = searched;
+            visits = visited.visits ∙ ap (λ x. x ++ v ∷ []) inv.visits ∙
+                ap (λ x. filter (is_ahead_of low ranks old) (take r nodes) ++ x ∷ []) is ∙ more;
+            same = record {
+              edges = visited.edges ∙ inv.same.edges;
+              rounds =
+                  visited.rounds ∙ inv.same.rounds;
+              room = omega (arith, visited.room, inv.same.room);
+            };
+          })
+      | else-not-is_free w ↦
+          let free =
+          read_free low ranks old (get_or nodes r 0) r here.0 high (sym here.1)
+          (sym c.is_free.ensures.value ∙ w.if-not-is_free.false) in
+          rw (w.marks-is, w.walk-is) (record {
+            searched = IsSearched-skip edges ranks succs low old r (get_or nodes r 0) o inv.searched here.1
+                here.0 free;
+            visits = inv.visits ∙ listed_skip (is_ahead_of low ranks old) nodes r l (ap is_ahead free);
+            same = inv.same;
+          })
+    ]

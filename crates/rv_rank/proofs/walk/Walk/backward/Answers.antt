@@ -1,0 +1,41 @@
+use Rattle.std.proofs.Common.{arith, get_or, map, [], length, ◌<◌, ◌≡◌, sym, ◌∙◌, ap, refl, ◌++◌, ◌∷◌}
+use Rattle.std.proofs.lemmas.List.{get_or-map, length-map}
+use Rattle.std.proofs.lemmas.Grind.{common_steps}
+use Rattle.rv_rank.proofs.walk.Walk.backward.Goals as goal
+
+pub returns : goal.returns
+returns c =
+    let incoming = c.self.inside.incoming.items in
+    let outgoing = c.self.inside.outgoing.items in
+    let placed = rw (← c.self.view_is) at c.requires.placed in
+    let within : c.args.node < length incoming =
+    omega (
+      arith,
+      placed,
+      c.self.invariant.long,
+      length-map incoming (λ v. v.items),
+      length-map outgoing (λ v. v.items),
+    ) in
+    let row : c.as_slice.result.now ≡ get_or (map (λ v. v.items) incoming) c.args.node [] =
+    c.as_slice.ensures.value ∙ ap (λ v. v.items) c.index.ensures ∙
+    sym (get_or-map (λ v. v.items) incoming c.args.node c.index.result.now [] within) in
+    let pushed : c.push.new.self.items ≡ c.self.inside.visits.items ++ c.args.node ∷ [] =
+    grind (arith, common_steps) in
+    rw (← c.self.view_is) (
+      (
+        refl,
+        λ _. tt,
+        record {
+          edges = refl;
+          visits = pushed;
+          rounds = refl;
+          room =
+              omega (arith, c.push.ensures.capacity);
+        },
+      ),
+      record {
+        visited = tt;
+        value =
+            λ a. rw row (λ w. c.self.invariant.forth a c.args.node w, λ e. c.self.invariant.back a c.args.node e);
+      },
+    )

@@ -1,0 +1,13 @@
+pub mod Graph
+pub mod Ranking
+pub mod Placing
+pub mod Walking
+pub mod Visits
+pub mod Rows
+pub mod Order
+pub mod Ordering
+pub mod Marks
+pub mod Found
+pub mod Mended
+pub mod Plan
+pub mod Local

@@ -1,0 +1,225 @@
+//! Worked placements, and every placement in some small graphs beside brute force.
+use super::*;
+use std::alloc::Global;
+use std::process::Abort;
+
+/// For each node in turn its predecessors and its successors.
+type Graph = [(&'static [u32], &'static [u32]); 4];
+
+/// Graphs of four nodes whose orders differ: no edge, two paths, a fork, a join, two pairs, and one that is
+/// placed from its end.
+const GRAPHS: [Graph; 7] = [
+    [(&[], &[]), (&[], &[]), (&[], &[]), (&[], &[])],
+    [(&[], &[]), (&[0], &[]), (&[1], &[]), (&[2], &[])],
+    [(&[], &[]), (&[], &[0]), (&[], &[1]), (&[], &[2])],
+    [(&[], &[]), (&[0], &[]), (&[0], &[]), (&[], &[0])],
+    [(&[], &[]), (&[], &[]), (&[0, 1], &[]), (&[1], &[])],
+    [(&[], &[]), (&[], &[]), (&[0], &[]), (&[1], &[])],
+    [(&[], &[]), (&[], &[]), (&[1], &[0]), (&[], &[2])],
+];
+
+/// Places a node whose neighbours are tested to be placed.
+fn place(
+    rt: &impl Abort,
+    ranks: &mut Ranks,
+    preds: &[u32],
+    succs: &[u32],
+) -> Result<Placed, Refused> {
+    assert!(rt; ranks.len() < 65536);
+    assert!(rt; preds.iter().all(|p| (*p as usize) < ranks.len()));
+    assert!(rt; succs.iter().all(|s| (*s as usize) < ranks.len()));
+    ranks.place(preds, succs)
+}
+
+fn check_order(rt: &impl Abort, ranks: &Ranks, want: &[u32]) {
+    let nodes = ranks.order().expect(rt, "memory");
+    assert_eq!(rt; nodes.as_slice(), want);
+}
+
+#[test]
+fn worked_rows(rt: HostRuntime) {
+    let mut ranks = Ranks::new(rt.alloc());
+    assert!(rt; ranks.is_empty());
+    for node in 0..4 {
+        let placed = place(&rt, &mut ranks, &[], &[]).expect(&rt, "placed");
+        assert_eq!(rt; (placed.node, placed.moved, placed.visited), (node, 0, 0));
+    }
+    check_order(&rt, &ranks, &[0, 1, 2, 3]);
+    let rows: [(&[u32], &[u32], (u32, u32, u32), &[u32], &[u32]); 5] = [
+        (&[3], &[1], (4, 2, 2), &[], &[0, 3, 2, 4, 1]),
+        (&[1], &[3], (0, 0, 0), &[3, 4, 1], &[0, 3, 2, 4, 1]),
+        (&[0], &[2], (5, 1, 1), &[], &[0, 3, 5, 4, 1, 2]),
+        (&[0], &[0], (0, 0, 0), &[0], &[0, 3, 5, 4, 1, 2]),
+        (&[2], &[], (6, 0, 0), &[], &[0, 3, 5, 4, 1, 2, 6]),
+    ];
+    for (preds, succs, counts, circle, order) in rows {
+        match place(&rt, &mut ranks, preds, succs) {
+            Ok(placed) => {
+                assert_eq!(rt; (placed.node, placed.moved, placed.visited), counts);
+                assert!(rt; circle.is_empty());
+            }
+            Err(Refused::Circle(path)) => assert_eq!(rt; path.as_slice(), circle),
+            Err(Refused::NoMemory) => assert!(rt; false),
+        }
+        check_order(&rt, &ranks, order);
+    }
+    assert_eq!(rt; ranks.len(), 7);
+    assert!(rt; 5 < ranks.len());
+    assert_eq!(rt; ranks.rank(5), 2);
+    assert!(rt; ranks.before(5, 4));
+    assert!(rt; !ranks.before(4, 5));
+}
+
+/// The edges of a graph, each from its first node to its second.
+fn edges_of(rt: &impl Abort, alloc: Global, graph: &Graph) -> Vec<(u32, u32)> {
+    let mut edges = Vec::new(alloc);
+    for (place, (preds, succs)) in graph.iter().enumerate() {
+        let node = place as u32;
+        for pred in *preds {
+            edges.push((*pred, node)).expect(rt, "memory");
+        }
+        for succ in *succs {
+            edges.push((node, *succ)).expect(rt, "memory");
+        }
+    }
+    edges
+}
+
+/// The starts and what edges lead to from them, by going over all edges as often as there are nodes.
+fn reached(rt: &impl Abort, alloc: Global, edges: &[(u32, u32)], starts: &[u32]) -> Vec<u32> {
+    let mut seen = Vec::from_slice(alloc, starts).expect(rt, "memory");
+    for _ in 0..4 {
+        for (from, to) in edges {
+            if seen.contains(from) && !seen.contains(to) {
+                seen.push(*to).expect(rt, "memory");
+            }
+        }
+    }
+    seen
+}
+
+/// The starts and what leads to them, of the nodes given.
+fn reaching(
+    rt: &impl Abort,
+    alloc: Global,
+    edges: &[(u32, u32)],
+    starts: &[u32],
+    of: &[u32],
+) -> Vec<u32> {
+    let mut turned = Vec::new(alloc);
+    for (from, to) in edges {
+        turned.push((*to, *from)).expect(rt, "memory");
+    }
+    let mut nodes = reached(rt, alloc, &turned, starts);
+    nodes.retain(|node| of.contains(node));
+    nodes
+}
+
+/// The order after a placement: at the places of both sets, and at one more, the nodes of the backward set, the
+/// new node, and those of the forward set.
+fn mended(
+    rt: &impl Abort,
+    alloc: Global,
+    order: &[u32],
+    behind: &[u32],
+    ahead: &[u32],
+) -> Vec<u32> {
+    let mut members = Vec::new(alloc);
+    for node in order {
+        if behind.contains(node) {
+            members.push(*node).expect(rt, "memory");
+        }
+    }
+    members.push(4).expect(rt, "memory");
+    for node in order {
+        if ahead.contains(node) {
+            members.push(*node).expect(rt, "memory");
+        }
+    }
+    let mut next = members.iter();
+    let mut new = Vec::new(alloc);
+    for node in order {
+        let affected = behind.contains(node) || ahead.contains(node);
+        let here = if affected {
+            next.next().expect(rt, "a member")
+        } else {
+            node
+        };
+        new.push(*here).expect(rt, "memory");
+    }
+    new.push(*next.next().expect(rt, "the last member"))
+        .expect(rt, "memory");
+    new
+}
+
+fn check_circle(rt: &impl Abort, edges: &[(u32, u32)], preds: &[u32], succs: &[u32], path: &[u32]) {
+    assert!(rt; path.first().is_some_and(|node| succs.contains(node)));
+    assert!(rt; path.last().is_some_and(|node| preds.contains(node)));
+    for (from, to) in path.iter().zip(path.iter().skip(1)) {
+        assert!(rt; edges.contains(&(*from, *to)));
+    }
+    for node in path {
+        assert_eq!(rt; path.iter().filter(|other| *other == node).count(), 1);
+    }
+}
+
+/// Places a fifth node in a graph, and compares the answer and the order with brute force.
+fn check_placement(rt: &impl Abort, alloc: Global, graph: &Graph, preds: &[u32], succs: &[u32]) {
+    let mut ranks = Ranks::new(alloc);
+    for (preds, succs) in graph {
+        assert!(rt; place(rt, &mut ranks, preds, succs).is_ok());
+    }
+    let before = ranks.order().expect(rt, "memory");
+    let edges = edges_of(rt, alloc, graph);
+    let ahead = reached(rt, alloc, &edges, succs);
+    match place(rt, &mut ranks, preds, succs) {
+        Ok(placed) => {
+            assert!(rt; !preds.iter().any(|pred| ahead.contains(pred)));
+            let mut high = Vec::new(alloc);
+            for node in before.iter().skip_while(|node| !succs.contains(node)) {
+                high.push(*node).expect(rt, "memory");
+            }
+            let behind = reaching(rt, alloc, &edges, preds, &high);
+            let want = mended(rt, alloc, &before, &behind, &ahead);
+            check_order(rt, &ranks, &want);
+            let moved = before
+                .iter()
+                .zip(&want)
+                .filter(|(one, two)| one != two)
+                .count();
+            assert_eq!(rt; (placed.node, placed.moved as usize), (4, moved));
+            assert_eq!(rt;
+                placed.visited as usize,
+                behind.iter().chain(&ahead).count()
+            );
+        }
+        Err(Refused::Circle(path)) => {
+            assert!(rt; preds.iter().any(|pred| ahead.contains(pred)));
+            check_circle(rt, &edges, preds, succs, &path);
+            check_order(rt, &ranks, &before);
+        }
+        Err(Refused::NoMemory) => assert!(rt; false),
+    }
+}
+
+/// The nodes below 4 that a number's binary digits name.
+fn subset(rt: &impl Abort, alloc: Global, digits: u32) -> Vec<u32> {
+    let mut nodes = Vec::new(alloc);
+    for node in 0..4 {
+        if (digits >> node) & 1 == 1 {
+            nodes.push(node).expect(rt, "memory");
+        }
+    }
+    nodes
+}
+
+#[test]
+fn each_placement_in_small_graphs(rt: HostRuntime) {
+    for graph in &GRAPHS {
+        for digits in 0..256 {
+            let preds = subset(&rt, rt.alloc(), digits / 16);
+            let succs = subset(&rt, rt.alloc(), digits % 16);
+            check_placement(&rt, rt.alloc(), graph, &preds, &succs);
+        }
+    }
+}

@@ -1,0 +1,5 @@
+pub mod Digits
+pub mod Parts
+pub mod Records
+pub mod Rests
+pub mod Streams

@@ -1,0 +1,13 @@
+use Rattle.std.proofs.Common.{◌≡◌, drop, length}
+use Rattle.rv_event.specs.Chunks.{AreSmall}
+use Rattle.rv_trace.specs.Dependencies.{each_dependency, parts}
+use Rattle.rv_trace.proofs.Parts.{with_front}
+use Rattle.rv_trace.proofs.dependency.each_of.Given as goal
+
+abbrev pub invariant-loop-part : goal.invariant-loop-part
+invariant-loop-part l = record {
+  said : with_front l.list.items (each_dependency l.columns (drop (length l.yielded) (parts l.text))) ≡
+      each_dependency l.columns (parts l.text);
+  count : length l.list.items ≡ length l.yielded;
+  small : AreSmall l.list.items;
+}

@@ -1,0 +1,72 @@
+-- What a source still gives in chunks.
+use Rattle.std.specs.Prelude.{◌≡◌, ◌⊎◌, ◌++◌, ◌+◌, ◌*◌, ◌<◌, ◌≤◌, List, length, ℕ, Bool, true, false, Option, Some}
+use Rattle.std.specs.Prelude.{None, option_map, ⊤}
+use Rattle.rv_event.specs.declared.event.Event.{Event}
+use Rattle.rv_trace.specs.declared.fault.TraceFault.{TraceFault}
+use Rattle.rv_trace.specs.Calls.{IsAtEnd}
+use Rattle.rv_trace.specs.Faults.{IsOutside, is_of_text}
+use Rattle.rv_trace.specs.Source.{Stream, source_says}
+use Rattle.rv_trace.specs.Trace.{TraceLeft}
+
+-- Chunks: their source's number; the number of the next chunk; how many events the chunks given have; what is still
+-- given, where the reader tells its bytes; whether the end has come; the fault that is repeated; and whether the last
+-- read failed since the reader underneath refused.
+pub record ChunksLeft : Type 0 where
+  pub source : ℕ
+  pub number : ℕ
+  pub given : ℕ
+  pub stream : Option Stream
+  pub ended : Bool
+  pub fault : Option TraceFault
+  pub refused : Bool
+
+abbrev pub chunks_left : ℕ → ℕ → Option TraceFault → TraceLeft → ChunksLeft
+chunks_left source number fault trace = record {
+  source = source;
+  number = number;
+  given = trace.given;
+  stream = trace.stream;
+  ended = trace.ended;
+  fault = fault;
+  refused = trace.refused;
+}
+
+-- of which nothing was read yet, by the bytes of its reader where they are known
+abbrev pub fresh_chunks : ℕ → Option (List ℕ) → ChunksLeft
+fresh_chunks source known = record {
+  source = source;
+  number = 0;
+  given = 0;
+  stream = option_map source_says known;
+  ended = false;
+  fault = None;
+  refused = false;
+}
+
+-- between two chunks: each chunk given so far has eight events, but for one at the end
+pub record IsBetween (number : ℕ) (trace : TraceLeft) : Type 0 where
+  pub good : trace.fault ≡ None
+  pub unrefused : trace.refused ≡ false
+  pub place : (trace.given ≡ 8 * number) ⊎ (trace.ended ≡ true)
+  pub few : number ≤ trace.given
+  pub rows : trace.given ≤ 65536
+
+-- a chunk has eight events, or the end has come
+abbrev pub IsFullOrLast : List Event → ChunksLeft → Type 0
+IsFullOrLast events left = (length events ≡ 8) ⊎ IsAtEnd left.ended left.stream
+
+-- these events of a known stream were taken
+abbrev pub TakesEvents : Option Stream → Option Stream → List Event → Type 0
+TakesEvents None new es = ⊤
+TakesEvents (Some s) None es = ⊥
+TakesEvents (Some s) (Some t) es = s ≡ record { events = es ++ t.events; end = t.end }
+
+-- a fault is the one that a known stream ends in before its eighth event, or one of reading or memory
+abbrev pub IsFaultWithin : Option Stream → TraceFault → Type 0
+IsFaultWithin None f = (is_of_text f.kind ≡ true) ⊎ IsOutside f.kind
+IsFaultWithin (Some s) f =
+    ((is_of_text f.kind ≡ true) × (length s.events < 8) × (s.end ≡ Some f)) ⊎ IsOutside f.kind
+
+-- the row of a fault: one of the eight rows after those given, or the header where none was given
+abbrev pub IsNearRow : ℕ → TraceFault → Type 0
+IsNearRow given f = ((given < f.row) × (f.row ≤ given + 8)) ⊎ ((f.row ≡ 0) × (given ≡ 0))

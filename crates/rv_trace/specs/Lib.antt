@@ -1,0 +1,12 @@
+pub mod Calls
+pub mod Chunks
+pub mod Counted
+pub mod Dependencies
+pub mod Faults
+pub mod Numbers
+pub mod Operations
+pub mod Row
+pub mod Rows
+pub mod Source
+pub mod Steps
+pub mod Trace

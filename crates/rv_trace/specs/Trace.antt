@@ -1,0 +1,99 @@
+-- What a trace has left to give.
+use Rattle.std.specs.Prelude.{◌≡◌, ◌⊎◌, ◌∷◌, ◌+◌, ◌≤◌, ◌&&◌, List, ℕ, Bool, true, false, Option, Some, None}
+use Rattle.std.specs.Prelude.{option_map, ⊤}
+use Rattle.rv_event.specs.declared.event.Event.{Event}
+use Rattle.rv_trace.specs.declared.fault.TraceFault.{TraceFault}
+use Rattle.rv_trace.specs.declared.trace.Stage.{Stage}
+use Rattle.rv_trace.specs.declared.trace.Stage.TheVariants as stage
+use Rattle.rv_trace.specs.Faults.{IsOutside, NeverCsv, is_of_text}
+use Rattle.rv_trace.specs.Row.{Fields}
+use Rattle.rv_trace.specs.Rows.{RowsLeft}
+use Rattle.rv_trace.specs.Source.{Stream, fails_at, records_say, rows_say, source_says, whole}
+
+-- A trace: its source's number; how many events it has given; what it still gives, where the reader tells its bytes;
+-- whether it has come to the end; the fault that it repeats; and whether its last read failed since the reader
+-- underneath refused.
+pub record TraceLeft : Type 0 where
+  pub source : ℕ
+  pub given : ℕ
+  pub stream : Option Stream
+  pub ended : Bool
+  pub fault : Option TraceFault
+  pub refused : Bool
+
+-- of which nothing was read yet, by the bytes of its reader where they are known
+abbrev pub fresh_trace : ℕ → Option (List ℕ) → TraceLeft
+fresh_trace source known = record {
+  source = source;
+  given = 0;
+  stream = option_map source_says known;
+  ended = false;
+  fault = None;
+  refused = false;
+}
+
+-- the reader underneath refused a read, and the CSV reader failed
+abbrev pub refused_in : RowsLeft → Bool
+refused_in rows = rows.failed && rows.refused
+
+-- what the records left say at a stage
+abbrev pub stream_left : Stage → ℕ → Option (List Fields) → Option Stream
+stream_left stage.Start given left = option_map records_say left
+stream_left stage.Rows given left = option_map (rows_say (given + 1)) left
+stream_left stage.Ended given left = Some whole
+stream_left (stage.Failed f) given left = None
+
+abbrev pub has_ended : Stage → Bool
+has_ended stage.Start = false
+has_ended stage.Rows = false
+has_ended stage.Ended = true
+has_ended (stage.Failed f) = false
+
+abbrev pub fault_kept : Stage → Option TraceFault
+fault_kept stage.Start = None
+fault_kept stage.Rows = None
+fault_kept stage.Ended = None
+fault_kept (stage.Failed f) = Some f
+
+abbrev pub trace_left : ℕ → ℕ → Stage → RowsLeft → TraceLeft
+trace_left source given s rows = record {
+  source = source;
+  given = given;
+  stream = stream_left s given rows.left;
+  ended = has_ended s;
+  fault = fault_kept s;
+  refused = refused_in rows;
+}
+
+-- while records are read, the reader has not stopped; no event was given before the header
+abbrev pub InStage : Stage → ℕ → RowsLeft → Type 0
+InStage stage.Start given rows = (rows.stopped ≡ false) × (given ≡ 0) × (rows.failed ≡ false)
+InStage stage.Rows given rows = (rows.stopped ≡ false) × (given ≤ 65536) × (rows.failed ≡ false)
+InStage stage.Ended given rows = rows.failed ≡ false
+InStage (stage.Failed f) given rows = NeverCsv f
+
+-- a known stream goes on as another
+abbrev pub GoesOn : Option Stream → Option Stream → Type 0
+GoesOn None new = ⊤
+GoesOn (Some s) None = ⊥
+GoesOn (Some s) (Some t) = s ≡ t
+
+-- the next event of a known stream was taken
+abbrev pub TakesEvent : Option Stream → Option Stream → Event → Type 0
+TakesEvent None new e = ⊤
+TakesEvent (Some s) None e = ⊥
+TakesEvent (Some s) (Some t) e = s ≡ record { events = e ∷ t.events; end = t.end }
+
+-- a known stream is at its whole end
+abbrev pub IsWhole : Option Stream → Type 0
+IsWhole None = ⊤
+IsWhole (Some s) = s ≡ whole
+
+-- a fault is the one that a known stream ends in at once, or one of reading or memory
+abbrev pub IsFaultOf : Option Stream → TraceFault → Type 0
+IsFaultOf None f = (is_of_text f.kind ≡ true) ⊎ IsOutside f.kind
+IsFaultOf (Some s) f = ((is_of_text f.kind ≡ true) × (s ≡ fails_at f.kind f.row)) ⊎ IsOutside f.kind
+
+-- the row of a fault: the row after those given, or the header where none was given
+abbrev pub IsAtRow : ℕ → TraceFault → Type 0
+IsAtRow given f = (f.row ≡ given + 1) ⊎ ((f.row ≡ 0) × (given ≡ 0))

@@ -1,0 +1,28 @@
+//! The rows of a CSV text as events, one at a time ([`Trace`]) or eight to a chunk ([`Chunks`]).
+//!
+//! - [`fault`]: what is wrong with a source, and in which row.
+//! - `number`, `operation`, `dependency`, `row`: what one record says: an event, or its first fault from the left.
+//! - `counted`, `rows`: the records of a reader that may take no more than so many bytes and calls.
+//! - [`trace`], [`chunks`]: the events of a source, and the same in chunks.
+//! - `specs/`: the grammar of a row by cases, and what the bytes of a source say as a whole: its events in order, and
+//!   how it ends.
+//!
+//! It stands on `rv_event` for events and chunks, and on the kit's `csv` and `thiserror`. Its one contract to all others:
+//! what is given is what the grammar makes of the records of the source, in order, up to its first fault.
+#![tactic(auto)]
+
+mod chunks;
+mod counted;
+mod dependency;
+mod fault;
+mod number;
+mod operation;
+mod row;
+mod rows;
+#[cfg(test)]
+mod tests;
+mod trace;
+
+pub use chunks::Chunks;
+pub use fault::{FaultKind, TraceFault};
+pub use trace::Trace;

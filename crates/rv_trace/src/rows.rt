@@ -1,0 +1,96 @@
+//! The records of a reader, one at a time. The only module that knows the CSV reader.
+ghost use Rattle.std.specs.Prelude.{◌≡◌, true, false, IfOk, IfErr, OnOk, OnErr, option_map};
+ghost use Rattle.rv_trace.specs.Faults.{read_fault};
+ghost use Rattle.rv_trace.specs.Rows.{TakesRow, NoRow};
+ghost use Rattle.rv_trace.specs.Source.{text_records};
+
+use crate::counted::Counted;
+use crate::fault::FaultKind;
+use csv::{ByteRecord, Reader, ReaderBuilder};
+use std::alloc::Global;
+use std::io::Read;
+use std::marker::Model;
+
+/// The records of a reader. After the last one, and after a failure, it has stopped.
+#[derive(Drop)]
+pub struct Rows<R: Read> {
+    reader: Reader<Counted<R>>,
+    row: ByteRecord,
+    stopped: bool,
+}
+
+impl<R: Read> Model for Rows<R> {
+    ghost use Rattle.rv_trace.specs.Rows.{RowsLeft, rows_left, IsPlain};
+    ghost use Rattle.csv.specs.Reading.{has_failed, source_of, reader_source, reader_state};
+    ghost use Rattle.rv_trace.specs.Counted.{last_refused};
+    ghost use Rattle.std.specs.Prelude.{◌≡◌, false};
+
+    ghost Value = { RowsLeft };
+
+    ghost view = { λ a. rows_left
+        a.stopped
+        (has_failed a.reader)
+        (last_refused (reader_source a.reader))
+        (reader_state a.reader)
+        (source_of (λ c. R.remaining c.inner) a.reader)
+        a.row };
+
+    ghost invariant = { λ a. a.stopped ≡ false → IsPlain a.reader };
+}
+
+impl<R: Read> Rows<R> {
+    /// The records of `reader`, of which nothing is read yet. It takes no memory.
+    pub fn new(alloc: Global, reader: R) -> Rows<R>
+        ensures left { result.left ≡ option_map text_records (R.remaining reader) }
+        ensures stopped { result.stopped ≡ false }
+        ensures failed { result.failed ≡ false }
+        ensures refused { result.refused ≡ false }
+    {
+        Rows {
+            reader: ReaderBuilder::new()
+                .has_headers(false)
+                .flexible(true)
+                .from_reader(alloc, Counted::new(reader)),
+            row: ByteRecord::new(alloc),
+            stopped: false,
+        }
+    }
+
+    /// Reads the next record. `false` where there is none.
+    ///
+    /// # Errors
+    /// `Read` where the reader underneath refused its last read, else `NoMemory`. Either way the CSV reader has failed in
+    /// this call, and no record comes after it.
+    pub fn next_row(&mut self) -> Result<bool, FaultKind>
+        requires { self.old.stopped ≡ false }
+        ensures found { IfOk result
+            (λ found. found ≡ true → TakesRow self.old.left self.new.left self.new.row) }
+        ensures end { IfOk result (λ found. found ≡ false → NoRow self.old.left) }
+        ensures goes { IfOk result (λ found. found ≡ true → self.new.stopped ≡ false) }
+        ensures fault { IfErr result (λ k. k ≡ read_fault self.new.refused) }
+        ensures fails { OnErr result ((self.old.failed ≡ false) × (self.new.failed ≡ true)) }
+        ensures good { OnOk result (self.new.failed ≡ false) }
+    {
+        match self.reader.read_byte_record(&mut self.row) {
+            Ok(found) => {
+                self.stopped = !found;
+                Ok(found)
+            }
+            Err(_) => {
+                self.stopped = true;
+                if self.reader.get_ref().last_refused() {
+                    Err(FaultKind::Read)
+                } else {
+                    Err(FaultKind::NoMemory)
+                }
+            }
+        }
+    }
+
+    /// The record that was read last.
+    pub fn row(&self) -> &ByteRecord
+        ensures { result.now ≡ self.now.row }
+    {
+        &self.row
+    }
+}

@@ -1,0 +1,122 @@
+//! The book over the worked executions: what it accepts, what it refuses, and with which certificate.
+use crate::allowed::ALLOWED;
+use crate::circles::{CIRCLES, TOTAL_STORE_CIRCLES, WorkedCircle};
+use crate::rows::{Bits, Row, X, event_of, id, load, row, store};
+use rv_book::{Book, Offer};
+use rv_cert::{Certificate, Verdict, check};
+use rv_event::{Entry, Fault, Id, MemoryModel, Op};
+use std::alloc::Global;
+use std::process::Abort;
+
+/// The row as an entry of source 0.
+fn entry_of(rt: &impl Abort, alloc: Global, row: &Row) -> Entry {
+    let event = event_of(alloc, row).expect(rt, "memory");
+    Entry { source: 0, event }
+}
+
+/// A book that has accepted the rows.
+fn book_of(rt: &impl Abort, alloc: Global, model: MemoryModel, rows: &[Row]) -> Book {
+    let mut book = Book::new(alloc, model);
+    for row in rows {
+        let entry = entry_of(rt, alloc, row);
+        assert!(rt; matches!(book.offer(&entry), Offer::Accepted));
+    }
+    book
+}
+
+#[test]
+fn allowed_executions_are_accepted_and_counted(rt: HostRuntime) {
+    for worked in ALLOWED {
+        let book = book_of(&rt, rt.alloc(), worked.model, worked.rows);
+        assert_eq!(rt; book.accepted(), worked.rows.len(), "{}", worked.name);
+        assert_eq!(rt; book.operations(), worked.operations, "{}", worked.name);
+        assert_eq!(rt; book.waiting(), worked.waiting, "{}", worked.name);
+        assert!(rt;
+            !book.stopped() && book.model() == worked.model,
+            "{}",
+            worked.name
+        );
+        let order = book.order().expect(&rt, "memory");
+        assert_eq!(rt; order.len(), worked.operations, "{}", worked.name);
+    }
+}
+
+/// Whether the verdict is forbidden by a circle of just these steps, which the checker takes.
+fn is_forbidden_by(verdict: &Verdict, steps: &[(Id, rv_event::Reason)]) -> bool {
+    let Verdict::Forbidden(forbidden) = verdict else {
+        return false;
+    };
+    let Certificate::Circle(circle) = forbidden.certificate() else {
+        return false;
+    };
+    circle.as_slice() == steps
+        && check(
+            forbidden.model(),
+            forbidden.evidence(),
+            forbidden.certificate(),
+        )
+}
+
+/// The book accepts all rows but the last, refuses that one, and is stopped from then on.
+fn assert_refused(rt: &impl Abort, alloc: Global, circle: &WorkedCircle) {
+    let [before @ .., last] = circle.rows else {
+        return;
+    };
+    let mut book = book_of(rt, alloc, circle.model, before);
+    let entry = entry_of(rt, alloc, last);
+    let Offer::Forbidden(verdict) = book.offer(&entry) else {
+        assert!(rt; false, "{}: not forbidden", circle.name);
+        return;
+    };
+    assert!(rt; is_forbidden_by(&verdict, circle.edges), "{}", circle.name);
+    assert!(rt;
+        book.stopped() && book.accepted() == before.len(),
+        "{}",
+        circle.name
+    );
+    assert!(rt;
+        matches!(book.offer(&entry), Offer::Stopped),
+        "{}",
+        circle.name
+    );
+}
+
+#[test]
+fn forbidden_executions_are_refused_with_their_circle(rt: HostRuntime) {
+    for circle in CIRCLES {
+        if circle.name != "no forwarding from an AMO, by the higher rule" {
+            assert_refused(&rt, rt.alloc(), circle);
+        }
+    }
+    for circle in TOTAL_STORE_CIRCLES {
+        assert_refused(&rt, rt.alloc(), circle);
+    }
+}
+
+#[test]
+fn a_stale_load_is_refused_with_its_store(rt: HostRuntime) {
+    let mut book = book_of(&rt, rt.alloc(), MemoryModel::Rvwmo, &[store!(0: 0, X = 1)]);
+    let entry = entry_of(&rt, rt.alloc(), &load!(0: 1, X = 0));
+    let Offer::Forbidden(Verdict::Forbidden(forbidden)) = book.offer(&entry) else {
+        assert!(rt; false, "not forbidden");
+        return;
+    };
+    let Certificate::Stale { load, store } = forbidden.certificate() else {
+        assert!(rt; false, "not stale");
+        return;
+    };
+    assert_eq!(rt; (*load, *store), (id!(0: 1), id!(0: 0)));
+    assert_eq!(rt; forbidden.refused(), id!(0: 1));
+}
+
+#[test]
+fn a_malformed_entry_is_refused_with_its_fault(rt: HostRuntime) {
+    let mut book = book_of(&rt, rt.alloc(), MemoryModel::Rvwmo, &[store!(0: 0, X = 3)]);
+    let entry = entry_of(&rt, rt.alloc(), &store!(1: 0, X = 3));
+    let Offer::Malformed(Verdict::Malformed(malformed)) = book.offer(&entry) else {
+        assert!(rt; false, "not malformed");
+        return;
+    };
+    assert_eq!(rt; malformed.fault(), Fault::VersionTaken(id!(0: 0)));
+    assert!(rt; book.stopped() && book.accepted() == 1);
+}
