@@ -3,3 +3,4 @@ pub mod Arranged
 pub mod Booked
 pub mod Nodes
 pub mod Counts
+pub mod Chunked

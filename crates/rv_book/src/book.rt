@@ -6,9 +6,9 @@ ghost use Rattle.rv_event.specs.Orders.{Lawful};
 ghost use Rattle.rv_event.specs.WellFormed.{WellFormed};
 
 use crate::arrangement::{Added, Arrangement};
-use crate::counts::{count_operations, count_waiting};
+use crate::counts::{count_of_source, count_operations, count_waiting};
 use rv_cert::{Evidence, Forbidden, Malformed, Verdict};
-use rv_event::{Entry, Id, MemoryModel, NoMemory, find_fault};
+use rv_event::{Chunk, Entry, Event, Id, MemoryModel, NoMemory, find_fault, unpack};
 use std::alloc::Global;
 use std::marker::Model;
 
@@ -24,6 +24,23 @@ pub enum Offer {
     /// The book had stopped.
     Stopped,
     /// Memory was refused. The entry may be offered again.
+    NoMemory,
+}
+
+/// What an offered chunk came to.
+#[derive(Drop, Debug)]
+pub enum ChunkOffer {
+    /// So many of its events were accepted, and with them the log holds all of the chunk.
+    Applied(usize),
+    /// An earlier chunk of the source is missing: so many of the source's events are in the log. Nothing changed.
+    NotYet(usize),
+    /// The log holds all of the chunk. Nothing changed.
+    Already,
+    /// An event was malformed or forbidden; those before it stay accepted, and the book has stopped.
+    Halted(Verdict),
+    /// The book had stopped. Nothing changed.
+    Stopped,
+    /// Memory was refused. The events accepted before stay so, and the chunk may be offered again.
     NoMemory,
 }
 
@@ -50,6 +67,7 @@ impl Model for Book {
 
 impl Book {
     ghost use Rattle.rv_book.specs.Booked.{IsOffered, IsJudged};
+    ghost use Rattle.rv_book.specs.Chunked.{IsChunkOffered, IsOfferedAll};
 
     /// The empty log under a memory model. It takes no memory; the allocator serves the calls to come.
     pub fn new(alloc: Global, model: MemoryModel) -> Self
@@ -142,6 +160,53 @@ impl Book {
             }
             Err(NoMemory) => Offer::NoMemory,
         }
+    }
+
+    /// Takes the events of the chunk that its source has not given yet, one after the other.
+    ///
+    /// Where the log has c events of the source, and the chunk has n events and the number k, the answer is `NotYet(c)`
+    /// where c is below 8k, `Already` where c is 8k + n or more, and else the events from place c - 8k on are offered.
+    /// So a chunk may come twice, and after `NoMemory` the same chunk goes on where it stopped.
+    pub fn offer_chunk(&mut self, chunk: &Chunk) -> ChunkOffer
+        ensures { IsChunkOffered self.old self.new chunk.now result }
+    {
+        if self.stopped {
+            return ChunkOffer::Stopped;
+        }
+        let count = count_of_source(self.entries.as_slice(), chunk.source());
+        let first = 8 * chunk.number() as usize;
+        if count < first {
+            return ChunkOffer::NotYet(count);
+        }
+        if count >= first + chunk.count() {
+            return ChunkOffer::Already;
+        }
+        match unpack(self.alloc, chunk) {
+            Ok(mut events) => {
+                events.drain(..count - first);
+                self.offer_all(chunk.source(), events)
+            }
+            Err(NoMemory) => ChunkOffer::NoMemory,
+        }
+    }
+
+    /// Offers the events in order, as entries of a source, to a book that goes on.
+    fn offer_all(&mut self, source: u8, events: Vec<Event>) -> ChunkOffer
+        requires { IsFalse self.old.stopped }
+        ensures { IsOfferedAll self.old self.new source events.items result }
+    {
+        let count = events.len();
+        for event in events {
+            match self.offer(&Entry { source, event }) {
+                Offer::Accepted => {}
+                Offer::Malformed(verdict) | Offer::Forbidden(verdict) => {
+                    return ChunkOffer::Halted(verdict);
+                }
+                Offer::Stopped => unreachable!(),
+                Offer::NoMemory => return ChunkOffer::NoMemory,
+            }
+        }
+        ChunkOffer::Applied(count)
     }
 
     /// Takes the entry, or says why not.

@@ -1,5 +1,5 @@
 //! What a book counts in its log.
-ghost use Rattle.std.specs.Prelude.{◌≡◌};
+ghost use Rattle.std.specs.Prelude.{◌≡◌, ◌==◌, count_by};
 ghost use Rattle.rv_event.specs.Log.{events};
 ghost use Rattle.rv_book.specs.Counts.{is_waiting, operations_of, waiting_of};
 
@@ -24,4 +24,11 @@ pub fn count_waiting(log: &[Entry]) -> usize
     ensures { result ≡ waiting_of log.now }
 {
     log.iter().filter(|x| is_waiting(log, &x.event)).count()
+}
+
+/// How many entries are of the source.
+pub fn count_of_source(log: &[Entry], source: u8) -> usize
+    ensures { result ≡ count_by (λ x. source == x.source) log.now }
+{
+    log.iter().filter(|x| source == x.source).count()
 }

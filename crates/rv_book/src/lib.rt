@@ -15,6 +15,8 @@ mod arrangement;
 mod book;
 mod closing;
 mod counts;
+mod laws;
 mod nodes;
 
-pub use book::{Book, Offer};
+pub use book::{Book, ChunkOffer, Offer};
+pub use laws::chunks_continue;

@@ -1,6 +1,6 @@
 //! Executions that a memory model allows, with their counts.
 use crate::rows::{
-    A1, Bits, FENCE_ALL, FENCE_STORES, Row, X, Y, amo, load, lr, other, row, sc, store,
+    ADDRESS_1, Bits, FENCE_ALL, FENCE_STORES, Row, X, Y, amo, load, lr, other, row, sc, store,
 };
 use rv_event::{MemoryModel, Op};
 
@@ -109,7 +109,7 @@ pub const ALLOWED: &[WorkedAllowed] = &[
         rows: &[
             store!(0: 0, X = 1),
             load!(0: 1, X = 1),
-            load!(0: 2, Y = 0, A1),
+            load!(0: 2, Y = 0, ADDRESS_1),
             store!(1: 0, Y = 1),
             other!(1: 1, FENCE_ALL),
             load!(1: 2, X = 0),

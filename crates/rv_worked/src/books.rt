@@ -41,6 +41,42 @@ fn allowed_executions_are_accepted_and_counted(rt: HostRuntime) {
     }
 }
 
+/// The rows with those of the highest hart first.
+fn from_the_last_hart(rt: &impl Abort, alloc: Global, rows: &[Row]) -> Vec<Row> {
+    let mut sorted = Vec::new(alloc);
+    for hart in (0..16).rev() {
+        for row in rows.iter().filter(|row| row.hart == hart) {
+            sorted.push(*row).expect(rt, "memory");
+        }
+    }
+    sorted
+}
+
+/// The rows by their numbers in their harts: the first row of each hart, then the second of each, and so on.
+fn in_turn(rt: &impl Abort, alloc: Global, rows: &[Row]) -> Vec<Row> {
+    let mut sorted = Vec::new(alloc);
+    for seq in 0..8 {
+        for row in rows.iter().filter(|row| row.seq == seq) {
+            sorted.push(*row).expect(rt, "memory");
+        }
+    }
+    sorted
+}
+
+#[test]
+fn allowed_executions_are_accepted_in_other_orders_too(rt: HostRuntime) {
+    for worked in ALLOWED {
+        for rows in [
+            from_the_last_hart(&rt, rt.alloc(), worked.rows),
+            in_turn(&rt, rt.alloc(), worked.rows),
+        ] {
+            let book = book_of(&rt, rt.alloc(), worked.model, rows.as_slice());
+            assert_eq!(rt; book.accepted(), worked.rows.len(), "{}", worked.name);
+            assert_eq!(rt; book.waiting(), worked.waiting, "{}", worked.name);
+        }
+    }
+}
+
 /// Whether the verdict is forbidden by a circle of just these steps, which the checker takes.
 fn is_forbidden_by(verdict: &Verdict, steps: &[(Id, rv_event::Reason)]) -> bool {
     let Verdict::Forbidden(forbidden) = verdict else {

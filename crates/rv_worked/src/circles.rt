@@ -1,7 +1,8 @@
 //! Executions that a memory model forbids, each with the circle of edges, or the stale pair, that shows it.
 use crate::rows::{
-    A0, A1, A2, Bits, C0, D0, D2, FENCE_ALL, FENCE_LOADS, FENCE_STORES, FENCE_STORES_LOADS, Row, X,
-    Y, Z, amo, id, load, log_of, lr, other, row, sc, store,
+    ADDRESS_0, ADDRESS_1, ADDRESS_2, Bits, CONTROL_0, DATA_0, DATA_2, FENCE_ALL, FENCE_LOADS,
+    FENCE_STORES, FENCE_STORES_LOADS, Row, X, Y, Z, amo, id, load, log_of, lr, other, row, sc,
+    store,
 };
 use rv_event::{Entry, Id, MemoryModel, Op, Reason, is_edge, is_stale};
 
@@ -40,7 +41,7 @@ pub const CIRCLES: &[WorkedCircle] = &[
             other!(0: 1, FENCE_STORES),
             store!(0: 2, Y = 1),
             load!(1: 0, Y = 1),
-            load!(1: 1, X = 0, A0),
+            load!(1: 1, X = 0, ADDRESS_0),
         ],
         edges: &[
             (id!(1: 1), Reason::FromRead),
@@ -54,9 +55,9 @@ pub const CIRCLES: &[WorkedCircle] = &[
         model: MemoryModel::Rvwmo,
         rows: &[
             load!(0: 0, X = 1),
-            store!(0: 1, Y = 1, D0),
+            store!(0: 1, Y = 1, DATA_0),
             load!(1: 0, Y = 1),
-            store!(1: 1, X = 1, D0),
+            store!(1: 1, X = 1, DATA_0),
         ],
         edges: &[
             (id!(1: 1), Reason::ReadsFrom),
@@ -106,7 +107,7 @@ pub const CIRCLES: &[WorkedCircle] = &[
             lr!(0: 1, X = 1),
             sc!(0: 2, Y = 1),
             load!(1: 0, Y = 1),
-            load!(1: 1, X = 0, A0),
+            load!(1: 1, X = 0, ADDRESS_0),
         ],
         edges: &[
             (id!(1: 1), Reason::FromRead),
@@ -143,7 +144,7 @@ pub const CIRCLES: &[WorkedCircle] = &[
             lr!(0: 0, X = 0),
             sc!(0: 1, X = 1),
             load!(0: 2, X = 1),
-            load!(0: 3, Y = 0, A2),
+            load!(0: 3, Y = 0, ADDRESS_2),
             store!(1: 0, Y = 1),
             other!(1: 1, FENCE_ALL),
             load!(1: 2, X = 0),
@@ -162,7 +163,7 @@ pub const CIRCLES: &[WorkedCircle] = &[
         rows: &[
             amo!(0: 0, X, 0, 1),
             load!(0: 1, X = 1),
-            load!(0: 2, Y = 0, A1),
+            load!(0: 2, Y = 0, ADDRESS_1),
             store!(1: 0, Y = 1),
             other!(1: 1, FENCE_ALL),
             load!(1: 2, X = 0),
@@ -181,7 +182,7 @@ pub const CIRCLES: &[WorkedCircle] = &[
         rows: &[
             amo!(0: 0, X, 0, 1),
             load!(0: 1, X = 1),
-            load!(0: 2, Y = 0, A1),
+            load!(0: 2, Y = 0, ADDRESS_1),
             store!(1: 0, Y = 1),
             other!(1: 1, FENCE_ALL),
             load!(1: 2, X = 0),
@@ -199,11 +200,11 @@ pub const CIRCLES: &[WorkedCircle] = &[
         model: MemoryModel::Rvwmo,
         rows: &[
             load!(0: 0, X = 1),
-            store!(0: 1, Y = 1, D0),
+            store!(0: 1, Y = 1, DATA_0),
             load!(0: 2, Y = 1),
-            store!(0: 3, Z = 1, D2),
+            store!(0: 3, Z = 1, DATA_2),
             load!(1: 0, Z = 1),
-            store!(1: 1, X = 1, D0),
+            store!(1: 1, X = 1, DATA_0),
         ],
         edges: &[
             (id!(1: 1), Reason::ReadsFrom),
@@ -218,10 +219,10 @@ pub const CIRCLES: &[WorkedCircle] = &[
         model: MemoryModel::Rvwmo,
         rows: &[
             load!(0: 0, X = 1),
-            load!(0: 1, Z = 0, A0),
+            load!(0: 1, Z = 0, ADDRESS_0),
             store!(0: 2, Y = 1),
             load!(1: 0, Y = 1),
-            store!(1: 1, X = 1, D0),
+            store!(1: 1, X = 1, DATA_0),
         ],
         edges: &[
             (id!(1: 1), Reason::ReadsFrom),
@@ -235,10 +236,10 @@ pub const CIRCLES: &[WorkedCircle] = &[
         model: MemoryModel::Rvwmo,
         rows: &[
             load!(0: 0, X = 1),
-            other!(0: 1, Op::Branch, C0),
+            other!(0: 1, Op::Branch, CONTROL_0),
             store!(0: 2, Y = 1),
             load!(1: 0, Y = 1),
-            store!(1: 1, X = 1, D0),
+            store!(1: 1, X = 1, DATA_0),
         ],
         edges: &[
             (id!(1: 1), Reason::ReadsFrom),

@@ -1,7 +1,7 @@
 //! The rule of preserved program order between two events of small histories.
 use crate::rows::{
-    A0, Bits, C0, D0, FENCE_ALL, FENCE_LOADS, FENCE_STORES, Row, X, Y, Z, amo, id, load, log_of,
-    lr, other, row, sc, store,
+    ADDRESS_0, Bits, CONTROL_0, DATA_0, FENCE_ALL, FENCE_LOADS, FENCE_STORES, Row, X, Y, Z, amo,
+    id, load, log_of, lr, other, row, sc, store,
 };
 use rv_event::{Id, MemoryModel, Op, is_preserved_by, lowest_rule};
 
@@ -59,7 +59,7 @@ pub const HISTORIES: &[WorkedHistory] = &[
     WorkedHistory {
         name: "an address that depends on a load",
         model: MemoryModel::Rvwmo,
-        rows: &[load!(0: 0, X = 0), load!(0: 1, Y = 0, A0)],
+        rows: &[load!(0: 0, X = 0), load!(0: 1, Y = 0, ADDRESS_0)],
         from: 0,
         to: 1,
         rule: 9,
@@ -67,7 +67,7 @@ pub const HISTORIES: &[WorkedHistory] = &[
     WorkedHistory {
         name: "data that depend on a load",
         model: MemoryModel::Rvwmo,
-        rows: &[load!(0: 0, X = 0), store!(0: 1, Y = 1, D0)],
+        rows: &[load!(0: 0, X = 0), store!(0: 1, Y = 1, DATA_0)],
         from: 0,
         to: 1,
         rule: 10,
@@ -77,7 +77,7 @@ pub const HISTORIES: &[WorkedHistory] = &[
         model: MemoryModel::Rvwmo,
         rows: &[
             load!(0: 0, X = 0),
-            other!(0: 1, Op::Branch, C0),
+            other!(0: 1, Op::Branch, CONTROL_0),
             store!(0: 2, Y = 1),
         ],
         from: 0,
@@ -89,7 +89,7 @@ pub const HISTORIES: &[WorkedHistory] = &[
         model: MemoryModel::Rvwmo,
         rows: &[
             load!(0: 0, X = 0),
-            other!(0: 1, Op::Branch, C0),
+            other!(0: 1, Op::Branch, CONTROL_0),
             store!(0: 2, Y = 1),
         ],
         from: 0,
@@ -101,7 +101,7 @@ pub const HISTORIES: &[WorkedHistory] = &[
         model: MemoryModel::Rvwmo,
         rows: &[
             load!(0: 0, X = 1),
-            store!(0: 1, Y = 1, D0),
+            store!(0: 1, Y = 1, DATA_0),
             load!(0: 2, Y = 1),
         ],
         from: 0,
@@ -113,7 +113,7 @@ pub const HISTORIES: &[WorkedHistory] = &[
         model: MemoryModel::Rvwmo,
         rows: &[
             load!(0: 0, X = 1),
-            store!(0: 1, Y = 1, D0),
+            store!(0: 1, Y = 1, DATA_0),
             load!(0: 2, Y = 1),
         ],
         from: 1,
@@ -125,7 +125,7 @@ pub const HISTORIES: &[WorkedHistory] = &[
         model: MemoryModel::Rvwmo,
         rows: &[
             load!(0: 0, X = 0),
-            load!(0: 1, Z = 0, A0),
+            load!(0: 1, Z = 0, ADDRESS_0),
             store!(0: 2, Y = 1),
         ],
         from: 0,
@@ -137,7 +137,7 @@ pub const HISTORIES: &[WorkedHistory] = &[
         model: MemoryModel::Rvwmo,
         rows: &[
             load!(0: 0, X = 0),
-            load!(0: 1, Z = 0, A0),
+            load!(0: 1, Z = 0, ADDRESS_0),
             store!(0: 2, Y = 1),
         ],
         from: 1,

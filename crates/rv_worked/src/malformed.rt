@@ -1,5 +1,7 @@
 //! Logs whose next entry has a fault.
-use crate::rows::{A0, Bits, Row, X, Y, event_of, id, load, log_of, lr, other, row, sc, store};
+use crate::rows::{
+    ADDRESS_0, Bits, Row, X, Y, event_of, id, load, log_of, lr, other, row, sc, store,
+};
 use rv_event::{Dep, DepKind, Deps, Entry, Event, Fault, Id, NoMemory, Op, find_fault};
 use std::alloc::Global;
 use std::process::Abort;
@@ -37,7 +39,7 @@ const MALFORMED: &[Malformed] = &[
     },
     Malformed {
         rows: &[store!(0: 0, X = 1)],
-        next: load!(0: 1, Y = 0, A0),
+        next: load!(0: 1, Y = 0, ADDRESS_0),
         source: 0,
         fault: Fault::Dependency,
         text: "dependency",

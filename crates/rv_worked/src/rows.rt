@@ -10,32 +10,32 @@ pub const Y: u32 = 1;
 pub const Z: u32 = 2;
 
 /// Dependencies: of the address, of the data or of a branch, on the event with the number named.
-pub const A0: Dep = Dep {
+pub const ADDRESS_0: Dep = Dep {
     kind: DepKind::Addr,
     seq: 0,
 };
 
-pub const A1: Dep = Dep {
+pub const ADDRESS_1: Dep = Dep {
     kind: DepKind::Addr,
     seq: 1,
 };
 
-pub const A2: Dep = Dep {
+pub const ADDRESS_2: Dep = Dep {
     kind: DepKind::Addr,
     seq: 2,
 };
 
-pub const D0: Dep = Dep {
+pub const DATA_0: Dep = Dep {
     kind: DepKind::DataOf,
     seq: 0,
 };
 
-pub const D2: Dep = Dep {
+pub const DATA_2: Dep = Dep {
     kind: DepKind::DataOf,
     seq: 2,
 };
 
-pub const C0: Dep = Dep {
+pub const CONTROL_0: Dep = Dep {
     kind: DepKind::Ctrl,
     seq: 0,
 };

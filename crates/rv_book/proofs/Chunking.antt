@@ -1,0 +1,149 @@
+-- A book that has taken the first of some events.
+use Rattle.std.proofs.Common.{◌≡◌, ℕ, ◌<◌, ◌+◌, ◌-◌, List, [], ◌∷◌, ◌++◌, length, take, sym, ap, ◌∙◌, subst, arith, refl, IsTrue, ◌⊎◌, inl, inr, IsFalse}
+use Rattle.std.proofs.Math.Seq.{take-append_seam, take-append-add, take-length}
+use Rattle.std.specs.Prelude.{◌==◌, count_by}
+use Rattle.std.proofs.lemmas.List.Sums.{length-filter}
+use Rattle.rv_event.specs.Merges.{from_source}
+use Rattle.std.proofs.lemmas.List.{length-map, append-nil, append_assoc, map-append, nil_from_length, length-append, length-drop}
+use Rattle.rv_event.specs.declared.event.Event.{Event}
+use Rattle.rv_event.specs.declared.event.Entry.{Entry}
+use Rattle.rv_event.specs.declared.memory_model.MemoryModel.{MemoryModel}
+use Rattle.rv_cert.specs.declared.verdict.Verdict.{Verdict}
+use Rattle.rv_cert.specs.declared.verdict.Verdict.TheVariants as verdict
+use Rattle.rv_book.specs.Booked.{Booked, IsTaken, IsOffered, IsVerdictOn, IsMalformedOn, IsForbiddenOn, Unchanged}
+use Rattle.rv_book.specs.declared.book.Offer.{Offer}
+use Rattle.rv_book.specs.declared.book.Offer.TheVariants.{Malformed, Forbidden}
+use Rattle.rv_event.specs.Packing.{Content}
+use Rattle.rv_book.specs.Chunked.{count_of_source, entries_of, HasTaken, StopsAt, IsTurn, IsOfferedAll, IsAnswered, rest_of, first_of}
+use Rattle.rv_book.specs.declared.book.ChunkOffer.{ChunkOffer}
+use Rattle.rv_book.specs.declared.book.ChunkOffer.TheVariants.{Applied, NotYet, Already, Halted, Stopped, NoMemory}
+
+-- a book with the events of the first list, where the second is still to come
+pub record IsWithin (old new : Booked) (source : ℕ) (done rest events : List Event) (left : ℕ) : Type 0 where
+  pub model : new.model ≡ old.model
+  pub log : new.log ≡ old.log ++ entries_of source done
+  pub split : done ++ rest ≡ events
+  pub left_is : left ≡ length rest
+
+pub within-begin : (old : Booked) (source : ℕ) (events rest : List Event) (left : ℕ) → rest ≡ events → left ≡ length events → IsWithin old old source [] rest events left
+within-begin old source events rest left same long = record {
+  model = refl;
+  log = sym (append-nil old.log);
+  split = same;
+  left_is = long ∙ sym (ap (λ (es : List Event). length es) same);
+}
+
+pub within-turn :
+    (old mid new : Booked) (source : ℕ) (done rest more events : List Event) (e : Event) (left less : ℕ) →
+    IsWithin old mid source done rest events left → rest ≡ e ∷ more → less + 1 ≡ left →
+    IsTaken mid new (record { source = source; event = e }) → IsWithin old new source (done ++ e ∷ []) more events less
+within-turn old mid new source done rest more events e left less w front count taken = record {
+  model = taken.model ∙ w.model;
+  log = taken.log ∙ ap (λ (l : List Entry). l ++ record { source = source; event = e } ∷ []) w.log
+      ∙ append_assoc old.log (entries_of source done) (record { source = source; event = e } ∷ [])
+      ∙ ap (λ (l : List Entry). old.log ++ l) (sym (map-append (λ (x : Event). record { source = source; event = x }) done (e ∷ [])));
+  split = append_assoc done (e ∷ []) more ∙ ap (λ (es : List Event). done ++ es) (sym front) ∙ w.split;
+  left_is = omega (arith, count, w.left_is, ap (λ (es : List Event). length es) front);
+}
+
+pub within-stops :
+    (old mid new : Booked) (source : ℕ) (done rest more events : List Event) (e : Event) (left : ℕ) →
+    IsWithin old mid source done rest events left → rest ≡ e ∷ more → new.model ≡ mid.model → new.log ≡ mid.log →
+    StopsAt old new source events (length done) e
+within-stops old mid new source done rest more events e left w front model log =
+    let whole : done ++ e ∷ more ≡ events = ap (λ (es : List Event). done ++ es) (sym front) ∙ w.split in
+    let first : take (length done) events ≡ done = ap (λ (es : List Event). take (length done) es) (sym whole) ∙ take-append_seam done (e ∷ more) in
+    let two : take (length done + 1) events ≡ done ++ e ∷ [] = ap (λ (es : List Event). take (length done + 1) es) (sym whole) ∙ take-append-add done (e ∷ more) 1 in
+    record {
+      taken = record {
+        model = model ∙ w.model;
+        log = log ∙ w.log ∙ ap (λ (es : List Event). old.log ++ entries_of source es) (sym first);
+      };
+      within = omega (arith, sym (length-append done (e ∷ more)), ap (λ (es : List Event). length es) whole);
+      follows = two ∙ ap (λ (es : List Event). es ++ e ∷ []) (sym first);
+    }
+
+pub within-end :
+    (old new : Booked) (source : ℕ) (done rest events : List Event) (left count : ℕ) →
+    IsWithin old new source done rest events left → left ≡ 0 → count ≡ length events → HasTaken old new source events count
+within-end old new source done rest events left count w none long =
+    let nil : rest ≡ [] = nil_from_length rest (sym w.left_is ∙ none) in
+    let whole : done ≡ events = sym (append-nil done) ∙ ap (λ (es : List Event). done ++ es) (sym nil) ∙ w.split in
+    let all : take count events ≡ events = ap (λ (n : ℕ). take n events) long ∙ take-length events in
+    record {
+      model = w.model;
+      log = w.log ∙ ap (λ (es : List Event). old.log ++ entries_of source es) (whole ∙ sym all);
+    }
+
+-- what an offer that stopped the book tells
+pub record Halts (old new : Booked) (x : Entry) (v : Verdict) : Type 0 where
+  pub stopped : IsTrue new.stopped
+  pub model : new.model ≡ old.model
+  pub log : new.log ≡ old.log
+  pub told : IsVerdictOn new.model new.log x v
+
+malformed-verdict : (model : MemoryModel) (log : List Entry) (x : Entry) (v : Verdict) → IsMalformedOn model log x v → IsVerdictOn model log x v
+malformed-verdict model log x (verdict.Malformed m) p = p
+malformed-verdict model log x (verdict.Forbidden f) none = absurd none
+
+forbidden-verdict : (model : MemoryModel) (log : List Entry) (x : Entry) (v : Verdict) → IsForbiddenOn model log x v → IsVerdictOn model log x v
+forbidden-verdict model log x (verdict.Malformed m) none = absurd none
+forbidden-verdict model log x (verdict.Forbidden f) p = p
+
+halts : (old new : Booked) (x : Entry) (v : Verdict) → IsTrue new.stopped → Unchanged old new → IsVerdictOn old.model old.log x v → Halts old new x v
+halts old new x v stopped same told = record {
+  stopped = stopped;
+  model = same.model;
+  log = same.log;
+  told = subst (λ (m : MemoryModel). IsVerdictOn m new.log x v) (sym same.model)
+      (subst (λ (l : List Entry). IsVerdictOn old.model l x v) (sym same.log) told);
+}
+
+pub offer-halts :
+    (old new : Booked) (x : Entry) (o : Offer) (v : Verdict) → IsOffered old new x o →
+    (o ≡ Malformed v) ⊎ (o ≡ Forbidden v) → Halts old new x v
+offer-halts old new x o v told (inl is) =
+    let t : IsOffered old new x (Malformed v) = subst (IsOffered old new x) is told in
+    halts old new x v t.1 t.2 (malformed-verdict old.model old.log x v t.3)
+offer-halts old new x o v told (inr is) =
+    let t : IsOffered old new x (Forbidden v) = subst (IsOffered old new x) is told in
+    halts old new x v t.1 t.2 (forbidden-verdict old.model old.log x v t.3)
+
+-- nothing was taken yet, and something is to come
+pub stops-first :
+    (old : Booked) (source : ℕ) (events : List Event) → 0 < length events →
+    (count : ℕ) × (next : Event) × StopsAt old old source events count next
+stops-first old source [] low = absurd (omega (arith, low))
+stops-first old source (e ∷ rest) low = (
+  0,
+  e,
+  record {
+    taken = record { model = refl; log = sym (append-nil old.log) };
+    within = low;
+    follows = refl;
+  },
+)
+
+-- how long the rest of a chunk is in its turn
+pub turn-rest : (count : ℕ) (chunk : Content) → IsTurn count chunk → 0 < length (rest_of count chunk)
+turn-rest count chunk turn = omega (arith, turn.0, turn.1, length-drop (count - first_of chunk) chunk.events)
+
+pub answered-rest :
+    (count : ℕ) (old new : Booked) (chunk : Content) (o : ChunkOffer) → IsFalse old.stopped → IsTurn count chunk →
+    IsOfferedAll old new chunk.source (rest_of count chunk) o → IsAnswered count old new chunk o
+answered-rest count old new chunk (Applied n) going turn told = (going, turn, told)
+answered-rest count old new chunk (Halted v) going turn told = (going, turn, told)
+answered-rest count old new chunk NoMemory going turn told = (going, turn, told)
+answered-rest count old new chunk (NotYet n) going turn told = absurd told
+answered-rest count old new chunk Already going turn told = absurd told
+answered-rest count old new chunk Stopped going turn told = absurd told
+
+-- how many entries of the log pass the test for the chunk's source is how many events the source has given
+pub counted :
+    (n source : ℕ) (seen : List Entry) (old : Booked) (chunk : Content) → n ≡ count_by (λ x. source == x.source) seen →
+    seen ≡ old.log → source ≡ chunk.source → n ≡ count_of_source old.log chunk.source
+counted n source seen old chunk is log from =
+    is
+    ∙ sym (length-map (from_source source seen) (λ (x : Entry). x.event) ∙ length-filter (λ (x : Entry). source == x.source) seen)
+    ∙ ap (λ (l : List Entry). count_of_source l source) log
+    ∙ ap (λ (s : ℕ). count_of_source old.log s) from
