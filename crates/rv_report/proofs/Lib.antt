@@ -1,0 +1,6 @@
+mod Circles
+mod JsonEdges
+mod JsonText
+mod Pieces
+mod Plain
+mod Refused

@@ -1,0 +1,5 @@
+pub mod Json
+pub mod JsonData
+pub mod Outcomes
+pub mod Texts
+pub mod Writing

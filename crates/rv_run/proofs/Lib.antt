@@ -1,0 +1,4 @@
+pub mod Passing
+pub mod Exact
+pub mod Taking
+pub mod Several

@@ -1,0 +1,38 @@
+//! One pass over a list of entries.
+ghost use Rattle.std.specs.Prelude.{IfOk};
+ghost use Rattle.rv_run.specs.Replays.{IsReplayed};
+
+use rv_book::{Book, Offer};
+use rv_event::{Entry, MemoryModel, NoMemory};
+use rv_report::Outcome;
+use std::alloc::Global;
+
+/// What the entries come to under the model, judged one by one in their order, in one thread.
+///
+/// `Allowed` exactly where they are a well formed log that has a lawful order, with the numbers of the entries, of the memory
+/// operations among them and of the loads whose store is not there. Else the evidence is the shortest beginning of the list
+/// whose last entry has a fault (`Malformed`), or that has no lawful order (`Forbidden`); where both hold, `Malformed`.
+///
+/// # Errors
+/// `NoMemory` where a growth was refused; nothing is left of the pass.
+pub fn replay(alloc: Global, model: MemoryModel, entries: &[Entry]) -> Result<Outcome, NoMemory>
+    ensures { IfOk result (IsReplayed model entries.now) }
+{
+    let mut book = Book::new(alloc, model);
+    let _model = book.model();
+    for entry in entries {
+        match book.offer(entry) {
+            Offer::Accepted => {}
+            Offer::Malformed(verdict) | Offer::Forbidden(verdict) => {
+                return Ok(Outcome::from(verdict));
+            }
+            Offer::Stopped => unreachable!(),
+            Offer::NoMemory => return Err(NoMemory),
+        }
+    }
+    Ok(Outcome::Allowed {
+        events: book.accepted(),
+        operations: book.operations(),
+        waiting: book.waiting(),
+    })
+}
