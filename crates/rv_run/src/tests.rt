@@ -1,6 +1,6 @@
 //! Small traces, read from their text and replayed.
 use crate::{Outcome, RunFault, read_source, replay, run_in_turn};
-use rv_event::{Entry, Fault, Id, MemoryModel};
+use rv_event::{Dep, DepKind, Deps, Entry, Event, Fault, Id, MemoryModel, Op};
 use rv_trace::{FaultKind, TraceFault};
 use std::alloc::Global;
 use std::process::Abort;
@@ -158,4 +158,62 @@ fn the_lowest_source_with_a_fault_is_named(rt: HostRuntime) {
             Err(RunFault::Trace { source: 1, fault: found }) if found == fault
         )
     );
+}
+
+/// An event of hart 0 on word 0.
+fn event_of(seq: u32, op: Op, wrote: u32, deps: Vec<Dep>) -> Event {
+    Event {
+        id: Id { hart: 0, seq },
+        op,
+        word: 0,
+        read: 0,
+        wrote,
+        acquire: false,
+        release: false,
+        deps: Deps::from_vec(deps),
+    }
+}
+
+/// The fault of a malformed outcome.
+fn fault_in(outcome: &Outcome) -> Option<Fault> {
+    match outcome {
+        Outcome::Malformed(malformed) => Some(malformed.fault()),
+        _ => None,
+    }
+}
+
+#[test]
+fn a_hart_is_of_one_source(rt: HostRuntime) {
+    let alloc = rt.alloc();
+    let mut entries = Vec::new(alloc);
+    for (source, seq, wrote) in [(0, 0, 1), (1, 1, 2)] {
+        let event = event_of(seq, Op::Store, wrote, Vec::new(alloc));
+        entries.push(Entry { source, event }).expect(&rt, "memory");
+    }
+    let outcome = replay(alloc, MemoryModel::Rvwmo, entries.as_slice()).expect(&rt, "memory");
+    assert_eq!(rt; fault_in(&outcome), Some(Fault::OtherSource));
+}
+
+#[test]
+fn an_event_has_at_most_eight_dependencies(rt: HostRuntime) {
+    let alloc = rt.alloc();
+    let mut entries = Vec::new(alloc);
+    let mut deps = Vec::new(alloc);
+    for seq in 0..9 {
+        let event = event_of(seq, Op::Load, 0, Vec::new(alloc));
+        entries
+            .push(Entry { source: 0, event })
+            .expect(&rt, "memory");
+        deps.push(Dep {
+            kind: DepKind::Addr,
+            seq,
+        })
+        .expect(&rt, "memory");
+    }
+    let event = event_of(9, Op::Load, 0, deps);
+    entries
+        .push(Entry { source: 0, event })
+        .expect(&rt, "memory");
+    let outcome = replay(alloc, MemoryModel::Rvwmo, entries.as_slice()).expect(&rt, "memory");
+    assert_eq!(rt; fault_in(&outcome), Some(Fault::TooManyDeps));
 }

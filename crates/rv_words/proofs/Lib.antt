@@ -1,0 +1,5 @@
+pub mod Entries
+pub mod Getters
+pub mod Options
+pub mod Places
+pub mod Values

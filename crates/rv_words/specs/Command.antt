@@ -1,0 +1,65 @@
+-- The command of the program, for clap's definitions: one rule an argument.
+use Rattle.std.specs.Prelude.{◌≡◌, List, [], ◌∷◌, Some, true, codes, pos}
+use Rattle.std.specs.Borrow.{Bor}
+use Rattle.clap.specs.Walk.{texts}
+use Rattle.clap.specs.Words.{App, Rule, Text, new_app, new_rule, with_rule}
+use Rattle.clap.specs.declared.builder.action.ArgAction.TheVariants.{Append, Set, SetTrue}
+use Rattle.clap.specs.declared.builder.value_parser.ValueParser.TheVariants as parser
+
+-- a number of 1 to 24, 4 where it is not given
+abbrev pub workers_rule : Rule
+workers_rule = record (new_rule (codes "workers")) {
+  long = Some (codes "workers");
+  action = Some Set;
+  value_names = 1;
+  parser = Some (parser.Signed (pos 1) (pos 24));
+  defaults = codes "4" ∷ [];
+}
+
+-- a number of 2 to 16, 8 where it is not given
+abbrev pub slots_rule : Rule
+slots_rule = record (new_rule (codes "slots")) {
+  long = Some (codes "slots");
+  action = Some Set;
+  value_names = 1;
+  parser = Some (parser.Signed (pos 2) (pos 16));
+  defaults = codes "8" ∷ [];
+}
+
+-- the list of texts that a parser refers to; where they lie is of no account
+abbrev pub Names : Type 0
+Names = Bor (List (Bor Text))
+
+abbrev pub ListsModels : Names → Type 0
+ListsModels names = texts names.now ≡ codes "rvwmo" ∷ codes "tso" ∷ []
+
+-- one of the listed names, rvwmo where it is not given
+abbrev pub model_rule : Names → Rule
+model_rule names = record (new_rule (codes "model")) {
+  long = Some (codes "model");
+  action = Some Set;
+  value_names = 1;
+  parser = Some (parser.Names names);
+  defaults = codes "rvwmo" ∷ [];
+}
+
+-- a flag
+abbrev pub json_rule : Rule
+json_rule = record (new_rule (codes "json")) { long = Some (codes "json"); action = Some SetTrue }
+
+-- any number of texts, by their place
+abbrev pub files_rule : Rule
+files_rule = record (new_rule (codes "FILE")) { action = Some Append }
+
+-- rvmon, whose words come without the program's name
+abbrev pub bare_app : App
+bare_app = let app = new_app (codes "rvmon") in record app { top = record app.top { no_binary_name = true } }
+
+abbrev pub app_over : Names → App
+app_over names =
+    with_rule (with_rule (with_rule (with_rule (with_rule bare_app workers_rule) slots_rule)
+    (model_rule names)) json_rule) files_rule
+
+-- it is the command of the program
+abbrev pub IsCommand : App → Type 0
+IsCommand app = (names : Names) × ListsModels names × (app ≡ app_over names)

@@ -1,0 +1,4 @@
+pub mod Answers
+pub mod Asked
+pub mod Command
+pub mod Parsed

@@ -1,0 +1,51 @@
+-- What the program prints at its end, and its exit status.
+use Rattle.std.specs.Prelude.{◌≡◌, ◌⊎◌, ℕ, List, Bool, true, false, Option, ⊤}
+use Rattle.std.specs.Io.KnownBytes.{Appends}
+use Rattle.rv_event.specs.Texts.{◌⋯◌}
+use Rattle.rv_report.specs.Json.{json_text}
+use Rattle.rv_report.specs.Texts.{report_text, line_feed}
+use Rattle.rv_report.specs.declared.outcome.Outcome.{Outcome}
+use Rattle.rv_report.specs.declared.outcome.Outcome.TheVariants as outcome
+use Rattle.rv_run.specs.declared.fault.RunFault.TheVariants as fault
+use Rattle.rv_trace.specs.declared.fault.FaultKind.{FaultKind}
+use Rattle.rv_trace.specs.declared.fault.FaultKind.TheVariants as kind
+use Rattle.rvmon.specs.declared.ending.Ending.{Ending}
+use Rattle.rvmon.specs.declared.ending.Ending.TheVariants.{Ran, Failed, Words, NotText, NotOpened}
+
+-- 0 for allowed, 1 for forbidden, 2 for malformed
+abbrev pub status_of : Outcome → ℕ
+status_of (outcome.Allowed events operations waiting) = 0
+status_of (outcome.Forbidden f) = 1
+status_of (outcome.Malformed m) = 2
+
+-- 2 for a fault in the text of a source, 3 where reading or memory failed
+abbrev pub status_of_kind : FaultKind → ℕ
+status_of_kind kind.Header = 2
+status_of_kind kind.Fields = 2
+status_of_kind kind.Number = 2
+status_of_kind kind.Op = 2
+status_of_kind kind.Missing = 2
+status_of_kind kind.NotBlank = 2
+status_of_kind kind.Annotation = 2
+status_of_kind kind.Dependency = 2
+status_of_kind kind.TooManyDeps = 2
+status_of_kind kind.TooLong = 2
+status_of_kind kind.Csv = 2
+status_of_kind kind.Read = 3
+status_of_kind kind.NoMemory = 3
+
+-- the report of an outcome, as text or as a line of JSON
+abbrev pub printed : Bool → Outcome → List ℕ
+printed false o = report_text o
+printed true o = json_text o ⋯ line_feed
+
+-- Where the sources were judged: the whole report and the status of the outcome, or status 3. Else nothing stands on
+-- standard output, and the status says whether the input was wrong (2) or something failed (3). What is said of refused
+-- words, and of help, is the parser's.
+abbrev pub IsSettled : Ending → Bool → Option (List ℕ) → Option (List ℕ) → ℕ → Type 0
+IsSettled (Ran o) json old new status = ((status ≡ status_of o) × Appends old new (printed json o)) ⊎ (status ≡ 3)
+IsSettled (Failed (fault.Trace source f)) json old new status = (status ≡ status_of_kind f.kind) × (new ≡ old)
+IsSettled (Failed fault.NoMemory) json old new status = (status ≡ 3) × (new ≡ old)
+IsSettled (Words f) json old new status = ⊤
+IsSettled NotText json old new status = (status ≡ 2) × (new ≡ old)
+IsSettled (NotOpened name) json old new status = (status ≡ 3) × (new ≡ old)

@@ -1,0 +1,141 @@
+//! How the program ends: what it prints, and with which status.
+ghost use Rattle.std.specs.Prelude.{◌≡◌, ◌⊎◌};
+ghost use Rattle.std.specs.Io.KnownBytes.{Appends};
+ghost use Rattle.rvmon.specs.Endings.{IsSettled, printed, status_of, status_of_kind};
+
+use clap::Error as ParseError;
+use rv_report::{Outcome, ReportFault, report, report_json_line};
+use rv_run::RunFault;
+use rv_trace::{FaultKind, TraceFault};
+use rv_words::WordsFault;
+use std::alloc::Global;
+use std::io::Write;
+
+/// How the program ends.
+#[derive(Debug, Drop)]
+pub enum Ending {
+    /// The sources were judged.
+    Ran(Outcome),
+    /// A source has a fault, or memory was refused.
+    Failed(RunFault),
+    /// The words of the command line were refused, or asked for help.
+    Words(WordsFault),
+    /// The words of the command line are not UTF-8.
+    NotText,
+    /// This file does not open.
+    NotOpened(String),
+}
+
+/// The statuses with which the program ends.
+const ALLOWED: u8 = 0;
+
+const FORBIDDEN: u8 = 1;
+
+/// A malformed execution, a fault in the text of a source, or wrong words.
+const WRONG_INPUT: u8 = 2;
+
+/// Reading, writing or memory failed.
+const FAILED: u8 = 3;
+
+/// Writes the report or the help to `out`, or a line on what went wrong to `errors`, and gives the exit status.
+///
+/// A failed write to `errors` changes nothing of the status. A report that cannot be written is told to `errors`.
+pub fn settle<O: Write, E: Write>(
+    alloc: Global,
+    out: &mut O,
+    errors: &mut E,
+    ending: &Ending,
+    json: bool,
+) -> u8
+    ensures { IsSettled ending.now json (O.contents out.old) (O.contents out.new) result }
+{
+    match ending {
+        Ending::Ran(outcome) => settle_outcome(alloc, out, errors, outcome, json),
+        Ending::Failed(RunFault::Trace { source, fault }) => {
+            settle_trace(errors, *source, *fault)
+        }
+        Ending::Words(WordsFault::Parse(error)) => settle_parse(out, errors, error),
+        Ending::Words(WordsFault::TooMany) => {
+            let _ = writeln!(errors, "rvmon: at most 8 sources");
+            WRONG_INPUT
+        }
+        Ending::NotText => {
+            let _ = writeln!(errors, "rvmon: the arguments are not UTF-8");
+            WRONG_INPUT
+        }
+        Ending::NotOpened(name) => {
+            let _ = writeln!(errors, "rvmon: cannot open {name}");
+            FAILED
+        }
+        Ending::Failed(RunFault::NoMemory) | Ending::Words(WordsFault::NoMemory) => {
+            let _ = writeln!(errors, "rvmon: no memory");
+            FAILED
+        }
+    }
+}
+
+/// Writes the report of the outcome.
+fn settle_outcome<O: Write, E: Write>(
+    alloc: Global,
+    out: &mut O,
+    errors: &mut E,
+    outcome: &Outcome,
+    json: bool,
+) -> u8
+    ensures { ((result ≡ status_of outcome.now) × Appends (O.contents out.old) (O.contents out.new) (printed json outcome.now)) ⊎ (result ≡ FAILED) }
+{
+    let written = if json {
+        report_json_line(alloc, out, outcome)
+    } else {
+        report(alloc, out, outcome)
+    };
+    match written {
+        Ok(()) => status_of(outcome),
+        Err(fault) => {
+            let _ = writeln!(errors, "rvmon: {fault}");
+            FAILED
+        }
+    }
+}
+
+/// The status of an outcome.
+fn status_of(outcome: &Outcome) -> u8
+    ensures { result ≡ status_of outcome.now }
+{
+    match outcome {
+        Outcome::Allowed { .. } => ALLOWED,
+        Outcome::Forbidden(_) => FORBIDDEN,
+        Outcome::Malformed(_) => WRONG_INPUT,
+    }
+}
+
+/// Writes the help, or why the words were refused.
+fn settle_parse<O: Write, E: Write>(out: &mut O, errors: &mut E, error: &ParseError) -> u8 {
+    if error.use_stderr() {
+        let _ = write!(errors, "{error}");
+        return WRONG_INPUT;
+    }
+    match write!(out, "{error}") {
+        Ok(()) => ALLOWED,
+        Err(_) => {
+            let _ = writeln!(errors, "rvmon: {}", ReportFault::Write);
+            FAILED
+        }
+    }
+}
+
+/// Writes the line of a source's fault.
+fn settle_trace<E: Write>(errors: &mut E, source: u8, fault: TraceFault) -> u8
+    ensures { result ≡ status_of_kind fault.kind }
+{
+    let row = fault.row;
+    let number = fault.kind.number();
+    let _ = writeln!(
+        errors,
+        "rvmon: source {source} row {row}: trace fault {number}"
+    );
+    match fault.kind {
+        FaultKind::Read | FaultKind::NoMemory => FAILED,
+        _ => WRONG_INPUT,
+    }
+}
