@@ -2,7 +2,7 @@
 use crate::allowed::ALLOWED;
 use crate::rows::{Bits, Row, X, Y, event_of, load, row, store};
 use rv_book::{Book, ChunkOffer};
-use rv_event::{Chunk, MemoryModel, Op, pack};
+use rv_event::{Chunk, Id, MemoryModel, Op, pack, unpack};
 use std::alloc::Global;
 use std::process::Abort;
 
@@ -39,6 +39,49 @@ fn chunks_are_applied_in_order_and_once(rt: HostRuntime) {
     assert!(rt; matches!(book.offer_chunk(&second), ChunkOffer::Applied(2)));
     assert!(rt; matches!(book.offer_chunk(&second), ChunkOffer::Already));
     assert_eq!(rt; book.accepted(), 10);
+}
+
+/// Nine stores of hart 0 to one word, in the order of their versions.
+const NINE: [Row; 9] = [
+    store!(0: 0, X = 1),
+    store!(0: 1, X = 2),
+    store!(0: 2, X = 3),
+    store!(0: 3, X = 4),
+    store!(0: 4, X = 5),
+    store!(0: 5, X = 6),
+    store!(0: 6, X = 7),
+    store!(0: 7, X = 8),
+    store!(0: 8, X = 9),
+];
+
+#[test]
+fn nine_stores_in_two_chunks_stand_in_their_order(rt: HostRuntime) {
+    let alloc = rt.alloc();
+    let first = chunk_of(&rt, alloc, 0, &NINE[..8]);
+    let second = chunk_of(&rt, alloc, 1, &NINE[8..]);
+    let mut book = Book::new(alloc, MemoryModel::Rvwmo);
+    assert!(rt; matches!(book.offer_chunk(&second), ChunkOffer::NotYet(0)));
+    assert!(rt; matches!(book.offer_chunk(&first), ChunkOffer::Applied(8)));
+    assert!(rt; matches!(book.offer_chunk(&first), ChunkOffer::Already));
+    assert!(rt; matches!(book.offer_chunk(&second), ChunkOffer::Applied(1)));
+    assert!(rt; matches!(book.offer_chunk(&second), ChunkOffer::Already));
+    let order = book.order().expect(&rt, "memory");
+    assert_eq!(rt; order.len(), 9);
+    for (id, row) in order.iter().zip(NINE.iter()) {
+        assert_eq!(rt;
+            *id,
+            Id {
+                hart: row.hart,
+                seq: row.seq
+            }
+        );
+    }
+    let events = unpack(alloc, &first).expect(&rt, "memory");
+    for (event, row) in events.iter().zip(NINE.iter()) {
+        assert!(rt; *event == event_of(alloc, row).expect(&rt, "memory"));
+        assert!(rt; event.copy(alloc).expect(&rt, "memory") == *event);
+    }
+    assert_eq!(rt; events.len(), 8);
 }
 
 #[test]
