@@ -79,7 +79,8 @@ IsPrefix first all = (rest : List Event) × (all ≡ first ++ rest)
 
 -- the chunk holds the events of a list from the chunk's place on
 abbrev pub IsChunkOf : Content → List Event → Type 0
-IsChunkOf chunk all = (before after : List Event) × (length before ≡ first_of chunk) × (all ≡ before ++ chunk.events ++ after)
+IsChunkOf chunk all =
+    (before after : List Event) × (length before ≡ first_of chunk) × (all ≡ before ++ chunk.events ++ after)
 
 -- how many more events of the chunk are in the log, as far as the answer tells
 abbrev pub IsApplied : ChunkOffer → ℕ → Type 0

@@ -20,15 +20,18 @@ pub record Reaches (model : MemoryModel) (entries before : List Entry) (entry : 
   pub whole : entries ≡ before ++ entry ∷ after
   pub shorter : (n : ℕ) → n ≤ length before → IsConsistent model (take n entries)
 
--- Consistent, with its counts; or the first entry with which the list has a fault or no lawful order. A fault is looked at first.
+-- Consistent, with its counts; or the first entry with which the list has a fault or no lawful order. A fault is looked
+-- at first.
 abbrev pub IsReplayed : MemoryModel → List Entry → Outcome → Type 0
 IsReplayed model entries (Allowed events operations waiting) =
     IsConsistent model entries
     × (events ≡ length entries) × (operations ≡ operations_of entries) × (waiting ≡ waiting_of entries)
 IsReplayed model entries (Malformed m) =
-    (before : List Entry) × (entry : Entry) × Reaches model entries before entry × IsMalformedOn model before entry (verdict.Malformed m)
+    (before : List Entry) × (entry : Entry) × Reaches model entries before entry
+    × IsMalformedOn model before entry (verdict.Malformed m)
 IsReplayed model entries (Forbidden f) =
-    (before : List Entry) × (entry : Entry) × Reaches model entries before entry × IsForbiddenOn model before entry (verdict.Forbidden f)
+    (before : List Entry) × (entry : Entry) × Reaches model entries before entry
+    × IsForbiddenOn model before entry (verdict.Forbidden f)
 
 abbrev pub IsAllowed : Outcome → Type 0
 IsAllowed (Allowed events operations waiting) = Unit {0}

@@ -41,7 +41,8 @@ HasReadAll source (s ∷ rest) entries =
 
 -- the outcome is that of the events of all sources
 abbrev pub IsTrueOf : MemoryModel → List (Option Stream) → Outcome → Type 0
-IsTrueOf model streams outcome = (entries : List Entry) × HasReadAll 0 streams entries × IsReplayed model entries outcome
+IsTrueOf model streams outcome =
+    (entries : List Entry) × HasReadAll 0 streams entries × IsReplayed model entries outcome
 
 -- the fault is that of a source, and each one before it ends whole
 abbrev pub IsFaultAmong : List (Option Stream) → RunFault → Type 0

@@ -13,8 +13,8 @@ use std::io::Read;
 
 /// Reads the sources one after another, each to its end, and then judges all their events, in one thread.
 ///
-/// The sources have the numbers 0, 1 and so on, and the events are judged in that order. For readers that tell their bytes
-/// the outcome is that of the events that these bytes say.
+/// The sources have the numbers 0, 1 and so on, and the events are judged in that order. For readers that tell their
+/// bytes the outcome is that of the events that these bytes say.
 ///
 /// # Errors
 /// `Trace` with the lowest source that has a fault, before anything is judged; `NoMemory` where a growth was refused.
@@ -24,8 +24,10 @@ pub fn run_in_turn<R: Read + Drop>(
     readers: Vec<R>,
 ) -> Result<Outcome, RunFault>
     requires { length readers.items ≤ 8 }
-    ensures outcome { IfOk result (IsTrueOf model (map (λ r. option_map source_says (R.remaining r)) readers.items)) }
-    ensures fault { IfErr result (IsFaultAmong (map (λ r. option_map source_says (R.remaining r)) readers.items)) }
+    ensures outcome { IfOk result
+        (IsTrueOf model (map (λ r. option_map source_says (R.remaining r)) readers.items)) }
+    ensures fault { IfErr result
+        (IsFaultAmong (map (λ r. option_map source_says (R.remaining r)) readers.items)) }
 {
     let mut entries = Vec::new(alloc);
     let mut source = 0;

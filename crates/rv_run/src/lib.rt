@@ -1,9 +1,15 @@
-//! Runs: what a whole list of entries comes to.
+//! Runs: what a whole list of entries, and what whole sources come to.
 //!
-//! [`replay`] offers the entries one by one to a book of its own, in one thread, and answers the outcome: allowed, with its
-//! counts, or the first entry that is refused, with its verdict.
+//! [`replay`] offers entries one by one to a book of its own and answers the outcome: allowed, with its counts, or the
+//! first entry that is refused, with its verdict. [`run_in_turn`] reads the sources one after another and replays their
+//! entries. Both work in one thread.
 //!
-//! It stands on `rv_book` and `rv_report`. Its one contract to the others: an outcome is true of the entries.
+//! - `reading`, `in_turn`: the entries of a source, and of several.
+//! - `replaying`: the pass over the entries; [`fault`]: why a run has no outcome.
+//! - `specs/`: what a pass tells, and what was read of sources.
+//!
+//! It stands on `rv_trace` for sources, on `rv_book` for the judgement and on `rv_report` for outcomes. Its one contract
+//! to the others: an outcome is true of the entries, and of the sources' bytes where they are known.
 #![tactic(auto)]
 
 mod fault;

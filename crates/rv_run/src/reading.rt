@@ -12,7 +12,8 @@ use std::io::Read;
 /// Reads a source to its end, and puts its events at the end of the list, as entries of that source.
 ///
 /// # Errors
-/// `Trace` with the source's fault, and `NoMemory` where the list could not grow. The list then has the events read so far.
+/// `Trace` with the source's fault, and `NoMemory` where the list could not grow. The list then has the events read so
+/// far.
 pub fn read_source<R: Read + Drop>(
     alloc: Global,
     reader: R,
@@ -20,8 +21,10 @@ pub fn read_source<R: Read + Drop>(
     entries: &mut Vec<Entry>,
 ) -> Result<(), RunFault>
     requires { source < 8 }
-    ensures read { OnOk result (HasRead (option_map source_says (R.remaining reader)) source entries.old.items entries.new.items) }
-    ensures fault { IfErr result (IsFaultOfSource (option_map source_says (R.remaining reader)) source) }
+    ensures read { OnOk result
+        (HasRead (option_map source_says (R.remaining reader)) source entries.old.items entries.new.items) }
+    ensures fault { IfErr result
+        (IsFaultOfSource (option_map source_says (R.remaining reader)) source) }
 {
     let mut trace = Trace::new(alloc, reader, source);
     'events: loop {

@@ -40,8 +40,8 @@ printed false o = report_text o
 printed true o = json_text o ⋯ line_feed
 
 -- Where the sources were judged: the whole report and the status of the outcome, or status 3. Else nothing stands on
--- standard output, and the status says whether the input was wrong (2) or something failed (3). What is said of refused
--- words, and of help, is the parser's.
+-- standard output, and the status says whether the input was wrong (2) or something failed (3). What is said of
+-- refused words, and of help, is the parser's.
 abbrev pub IsSettled : Ending → Bool → Option (List ℕ) → Option (List ℕ) → ℕ → Type 0
 IsSettled (Ran o) json old new status = ((status ≡ status_of o) × Appends old new (printed json o)) ⊎ (status ≡ 3)
 IsSettled (Failed (fault.Trace source f)) json old new status = (status ≡ status_of_kind f.kind) × (new ≡ old)

@@ -82,7 +82,9 @@ fn settle_outcome<O: Write, E: Write>(
     outcome: &Outcome,
     json: bool,
 ) -> u8
-    ensures { ((result ≡ status_of outcome.now) × Appends (O.contents out.old) (O.contents out.new) (printed json outcome.now)) ⊎ (result ≡ FAILED) }
+    ensures { ((result ≡ status_of outcome.now)
+        × Appends (O.contents out.old) (O.contents out.new) (printed json outcome.now))
+        ⊎ (result ≡ FAILED) }
 {
     let written = if json {
         report_json_line(alloc, out, outcome)
