@@ -1,105 +1,61 @@
 //! The program: it takes its words, opens the sources, judges them and prints the report.
 //!
-//! - [`input`]: a file or standard input, as a source.
+//! - `words`: the words of the command line, as texts.
+//! - `opening`: the sources, from the names of their files.
 //! - [`ending`]: what is printed, and the exit status.
+//! - `specs/`: which ending comes of what, and what each ending prints.
 //!
-//! It stands on `rv_words` for its words, on `rv_run` for the judgement and on `rv_report` for the reports. It promises
-//! nothing by itself: what it prints is as these say, and its lines and statuses are tested.
+//! It stands on `rv_words` for its words, on `rv_run` for the judgement and on `rv_report` for the reports. Its one
+//! contract: each ending is of the step that it names, and a report is that of an outcome of the sources.
 #![tactic(auto)]
 
-ghost use Rattle.std.specs.Prelude.{◌≤◌, IfOk, length};
+ghost use Rattle.std.specs.Prelude.{◌≤◌, length};
+ghost use Rattle.clap.specs.Walk.{texts};
+ghost use Rattle.rvmon.specs.Starting.{EndsAsked, EndsBy, IsEnd};
 
 mod ending;
-mod input;
+mod opening;
 #[cfg(test)]
 mod tests;
+mod words;
 
 use ending::{Ending, settle};
-use input::Input;
-use rv_run::{RunFault, run_in_turn};
-use rv_words::{WordsFault, asked};
-use std::fs::File;
-use std::io::ErrorKind;
+use opening::open_all;
+use rv_run::run_in_turn;
+use rv_words::{Asked, asked};
+use std::io;
 use std::process::ExitCode;
-use std::{env, io};
+use words::{texts_of, words_of};
 
-/// The words after the program's name.
-fn words_of(rt: &HostRuntime) -> Result<Vec<String>, Ending> {
-    let mut words = Vec::new(rt.alloc());
-    let all = match env::args(rt) {
-        Ok(all) => all,
-        Err(error) => {
-            return Err(if error.kind() == ErrorKind::InvalidData {
-                Ending::NotText
-            } else {
-                Ending::Words(WordsFault::NoMemory)
-            });
-        }
-    };
-    for word in all.skip(1) {
-        if words.push(word).is_err() {
-            return Err(Ending::Words(WordsFault::NoMemory));
-        }
-    }
-    Ok(words)
-}
-
-/// The files, opened in order; standard input where there is none.
-fn open_all(rt: &HostRuntime, names: &[String]) -> Result<Vec<Input>, Ending>
-    requires { length names.now ≤ 8 }
-    ensures { IfOk result (λ inputs. length inputs.items ≤ 8) }
+/// What comes of a request.
+fn answer(rt: &HostRuntime, asked: &Asked) -> Ending
+    requires { length asked.now.files.items ≤ 8 }
+    ensures { EndsAsked asked.now result }
 {
-    let no_memory = Ending::Failed(RunFault::NoMemory);
-    let mut inputs = Vec::new(rt.alloc());
-    if names.is_empty() {
-        return match inputs.push(Input::Standard(rt.stdin())) {
-            Ok(()) => Ok(inputs),
-            Err(_) => Err(no_memory),
-        };
+    let inputs = match open_all(rt, asked.files.as_slice()) {
+        Ok(inputs) => inputs,
+        Err(ending) => return ending,
+    };
+    match run_in_turn(rt.alloc(), asked.model, inputs) {
+        Ok(outcome) => Ending::Ran(outcome),
+        Err(fault) => Ending::Failed(fault),
     }
-    for name in names {
-        let Ok(file) = File::open(rt, name.as_str()) else {
-            return Err(match String::from_str(rt.alloc(), name.as_str()) {
-                Ok(name) => Ending::NotOpened(name),
-                Err(_) => no_memory,
-            });
-        };
-        if inputs.push(Input::File(file)).is_err() {
-            return Err(no_memory);
-        }
-    }
-    Ok(inputs)
 }
 
 /// What comes of the words, and whether the report is JSON.
-fn run(rt: &HostRuntime, words: &[&str]) -> (Ending, bool) {
-    let asked = match asked(rt.alloc(), words) {
-        Ok(asked) => asked,
-        Err(fault) => return (Ending::Words(fault), false),
-    };
-    let inputs = match open_all(rt, asked.files.as_slice()) {
-        Ok(inputs) => inputs,
-        Err(ending) => return (ending, asked.json),
-    };
-    match run_in_turn(rt.alloc(), asked.model, inputs) {
-        Ok(outcome) => (Ending::Ran(outcome), asked.json),
-        Err(fault) => (Ending::Failed(fault), asked.json),
+fn run(rt: &HostRuntime, words: &[&str]) -> (Ending, bool)
+    ensures { EndsBy (texts words.now) result.0 result.1 }
+{
+    match asked(rt.alloc(), words) {
+        Ok(asked) => (answer(rt, &asked), asked.json),
+        Err(fault) => (Ending::Words(fault), false),
     }
-}
-
-/// The words as texts.
-fn texts_of<'a>(rt: &HostRuntime, words: &'a [String]) -> Result<Vec<&'a str>, Ending> {
-    let mut texts = Vec::new(rt.alloc());
-    for word in words {
-        if texts.push(word.as_str()).is_err() {
-            return Err(Ending::Words(WordsFault::NoMemory));
-        }
-    }
-    Ok(texts)
 }
 
 /// How the program ends, and whether the report is JSON.
-fn end_of(rt: &HostRuntime) -> (Ending, bool) {
+fn end_of(rt: &HostRuntime) -> (Ending, bool)
+    ensures { IsEnd result.0 result.1 }
+{
     let words = match words_of(rt) {
         Ok(words) => words,
         Err(ending) => return (ending, false),
