@@ -1,0 +1,16 @@
+-- Sets of numbers as bits of words.
+use Rattle.std.specs.Prelude.{ℕ, Bool, true, false, ◌≡◌, ◌<◌, ◌==◌, ◌/◌, ◌%◌, List, Option, Some, None, slice_index_or}
+use Rattle.std.specs.Int.{bit_at}
+
+-- whether the words have the number
+abbrev pub has_bit : List ℕ → ℕ → Bool
+has_bit words i = bit_at (slice_index_or words (i / 64) 0) (i % 64) == 1
+
+-- the words have the number
+abbrev pub Has : List ℕ → ℕ → Type 0
+Has words j = has_bit words j ≡ true
+
+-- the highest number of the set, None where it has none
+abbrev pub IsHighest : List ℕ → Option ℕ → Type 0
+IsHighest words (Some n) = (n < 4096) × (has_bit words n ≡ true) × ((j : ℕ) → n < j → has_bit words j ≡ false)
+IsHighest words None = (j : ℕ) → has_bit words j ≡ false
