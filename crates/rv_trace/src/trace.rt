@@ -107,6 +107,7 @@ fn take_header<R: Read>(rows: &mut Rows<R>) -> Result<(), TraceFault>
 }
 
 /// Reads the data row after so many.
+#[inline(always)]
 fn take_row<R: Read>(
     alloc: Global,
     rows: &mut Rows<R>,
@@ -173,6 +174,7 @@ impl<R: Read> Trace<R> {
     /// # Errors
     /// The fault that the source's text ends in, with its row; or `Read`, exactly where the reader underneath refused a
     /// read; or `NoMemory`. Each call after a fault answers the same fault, and reads nothing.
+    #[inline(always)]
     pub fn next_event(&mut self) -> Result<Option<Event>, TraceFault>
         ensures event { IfGiven result (TakesEvent self.old.stream self.new.stream) }
         ensures packable { IfGiven result IsPackable }
