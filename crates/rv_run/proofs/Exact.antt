@@ -12,7 +12,7 @@ use Rattle.rv_report.specs.declared.outcome.Outcome.{Outcome}
 use Rattle.rv_report.specs.declared.outcome.Outcome.TheVariants.{Allowed, Forbidden, Malformed}
 use Rattle.rv_run.specs.Replays.{IsConsistent, IsReplayed, IsAllowed}
 
-continued : (front back : List Entry) → Continues front (front ++ back)
+pub continued : (front back : List Entry) → Continues front (front ++ back)
 continued front back hart = (entries_of hart back, filter-append (λ (x : Entry). hart == x.event.id.hart) front back)
 
 pub exactly_allowed : (model : MemoryModel) (entries : List Entry) (outcome : Outcome) → IsReplayed model entries outcome → IsAllowed outcome ↔ IsConsistent model entries

@@ -1,4 +1,9 @@
 pub mod Passing
 pub mod Exact
-pub mod Taking
-pub mod Several
+pub mod ReadSoFar
+pub mod GivenBy
+pub mod Appended
+pub mod Merging
+pub mod Refused
+pub mod Weighing
+pub mod Outcomes

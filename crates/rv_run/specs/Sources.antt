@@ -1,52 +1,87 @@
--- What was read of a source, where its reader tells its bytes.
-use Rattle.std.specs.Prelude.{◌≡◌, ◌++◌, ℕ, suc, List, [], ◌∷◌, length, Option, Some, None, true, ⊤}
+-- What a run tells of sources, where their readers tell their bytes.
+use Rattle.std.specs.Prelude.{◌≡◌, ◌++◌, ◌<◌, ℕ, suc, List, [], ◌∷◌, length, slice_index_or, Option, Some, None, IsSome, IfSome, All, true, ⊤}
+use Rattle.rv_event.specs.Merges.{SameSources}
+use Rattle.rv_event.specs.WellFormed.{WellFormed}
 use Rattle.rv_event.specs.declared.event.Event.{Event}
 use Rattle.rv_event.specs.declared.event.Entry.{Entry}
 use Rattle.rv_event.specs.declared.memory_model.MemoryModel.{MemoryModel}
-use Rattle.rv_book.specs.Chunked.{entries_of}
+use Rattle.rv_cert.specs.Refusals.{IsFinal, IsMalformed}
+use Rattle.rv_book.specs.Chunked.{IsPrefix, entries_of, given_by}
+use Rattle.rv_book.specs.Counts.{operations_of, waiting_of}
 use Rattle.rv_trace.specs.Faults.{is_of_text}
 use Rattle.rv_trace.specs.Source.{Stream}
 use Rattle.rv_trace.specs.declared.fault.TraceFault.{TraceFault}
 use Rattle.rv_report.specs.declared.outcome.Outcome.{Outcome}
-use Rattle.rv_run.specs.Replays.{IsReplayed}
+use Rattle.rv_report.specs.declared.outcome.Outcome.TheVariants.{Allowed, Forbidden, Malformed}
+use Rattle.rv_run.specs.Replays.{IsConsistent, IsReplayed, IsAllowed}
 use Rattle.rv_run.specs.declared.fault.RunFault.{RunFault}
-use Rattle.rv_run.specs.declared.fault.RunFault.TheVariants.{Trace, NoMemory}
+use Rattle.rv_run.specs.declared.fault.RunFault.TheVariants.{Trace, NoMemory, Lost, Settings}
 
 -- these are all the events of the source, which ends whole
 abbrev pub IsAllOf : Option Stream → List Event → Type 0
 IsAllOf None events = ⊤
 IsAllOf (Some s) events = (s.events ≡ events) × (s.end ≡ None)
 
--- the list has grown by all the events of the source, as entries of it
-pub record HasRead (stream : Option Stream) (source : ℕ) (old new : List Entry) : Type 0 where
-  pub events : List Event
-  pub grown : new ≡ old ++ entries_of source events
-  pub all : IsAllOf stream events
-
--- a fault of the source's text is the one that the source ends in
-abbrev pub EndsIn : Option Stream → TraceFault → Type 0
-EndsIn None f = ⊤
-EndsIn (Some s) f = is_of_text f.kind ≡ true → s.end ≡ Some f
-
-abbrev pub IsFaultOfSource : Option Stream → ℕ → RunFault → Type 0
-IsFaultOfSource stream source (Trace number f) = (number ≡ source) × EndsIn stream f
-IsFaultOfSource stream source NoMemory = ⊤
-
--- the entries are those of the sources, one after another, each of which ends whole
+-- the entries are those of the sources, one source after another, each of which ends whole
 abbrev pub HasReadAll : ℕ → List (Option Stream) → List Entry → Type 0
 HasReadAll source [] entries = entries ≡ []
 HasReadAll source (s ∷ rest) entries =
     (events : List Event) × (more : List Entry) × (entries ≡ entries_of source events ++ more)
     × IsAllOf s events × HasReadAll (suc source) rest more
 
--- the outcome is that of the events of all sources
-abbrev pub IsTrueOf : MemoryModel → List (Option Stream) → Outcome → Type 0
-IsTrueOf model streams outcome =
-    (entries : List Entry) × HasReadAll 0 streams entries × IsReplayed model entries outcome
+-- the sources end whole, and one after another they are a well formed log
+abbrev pub AreWellFormed : List (Option Stream) → Type 0
+AreWellFormed streams = (entries : List Entry) × HasReadAll 0 streams entries × WellFormed entries
 
--- the fault is that of a source, and each one before it ends whole
+-- the first of each source's events, and no others
+pub record IsPartOf (streams : List (Option Stream)) (log : List Entry) : Type 0 where
+  pub none_else : All (λ x. x.source < length streams) log
+  pub first :
+      (i : ℕ) → i < length streams → IfSome (slice_index_or streams i None) (λ s. IsPrefix (given_by i log) s.events)
+
+-- Allowed: the sources end whole, and one after another they are a well formed log that has a lawful order, with its
+-- counts.
+-- Forbidden: the evidence is a part of the sources and well formed, and no order is lawful for any well formed log that
+-- continues it.
+-- Malformed: the evidence is a part of the sources, and its last entry has the fault; so the sources, where their bytes
+-- are known, are not well formed.
+abbrev pub IsTrueOf : MemoryModel → List (Option Stream) → Outcome → Type 0
+IsTrueOf model streams (Allowed events operations waiting) =
+    (entries : List Entry) × HasReadAll 0 streams entries × IsConsistent model entries
+    × (events ≡ length entries) × (operations ≡ operations_of entries) × (waiting ≡ waiting_of entries)
+IsTrueOf model streams (Forbidden f) =
+    (f.model ≡ model) × IsPartOf streams f.evidence × WellFormed f.evidence × IsFinal model f.evidence
+IsTrueOf model streams (Malformed m) =
+    (m.model ≡ model) × IsPartOf streams m.evidence × IsMalformed m.evidence m.fault
+    × (All IsSome streams → AreWellFormed streams → ⊥)
+
+-- a fault of the source's text is the one that the source ends in
+abbrev pub EndsIn : Option Stream → TraceFault → Type 0
+EndsIn None f = ⊤
+EndsIn (Some s) f = is_of_text f.kind ≡ true → s.end ≡ Some f
+
+-- the fault is that of a source
 abbrev pub IsFaultAmong : List (Option Stream) → RunFault → Type 0
-IsFaultAmong streams (Trace number f) =
-    (before : List (Option Stream)) × (s : Option Stream) × (after : List (Option Stream)) × (entries : List Entry)
-    × (streams ≡ before ++ s ∷ after) × (number ≡ length before) × HasReadAll 0 before entries × EndsIn s f
+IsFaultAmong streams (Trace source f) = (source < length streams) × EndsIn (slice_index_or streams source None) f
 IsFaultAmong streams NoMemory = ⊤
+IsFaultAmong streams Lost = ⊤
+IsFaultAmong streams Settings = ⊤
+
+abbrev pub IsForbidden : Outcome → Type 0
+IsForbidden (Allowed events operations waiting) = ⊥
+IsForbidden (Forbidden f) = ⊤
+IsForbidden (Malformed m) = ⊥
+
+-- runs over the same sources, whose bytes are known, agree: none is allowed where another is forbidden
+abbrev pub RunsAgree : Type 0
+RunsAgree =
+    (model : MemoryModel) (streams : List (Option Stream)) (one other : Outcome) → All IsSome streams →
+    IsTrueOf model streams one → IsTrueOf model streams other → IsAllowed one → IsForbidden other → ⊥
+
+-- and so do a run over sources and a pass over their entries, in whatever order the sources are merged
+abbrev pub PassesAgree : Type 0
+PassesAgree =
+    (model : MemoryModel) (streams : List (Option Stream)) (entries merge : List Entry) (run pass : Outcome) →
+    All IsSome streams → HasReadAll 0 streams entries → SameSources entries merge →
+    IsTrueOf model streams run → IsReplayed model merge pass →
+    (IsAllowed run → IsForbidden pass → ⊥) × (IsForbidden run → IsAllowed pass → ⊥)

@@ -4,6 +4,7 @@ ghost use Rattle.rv_run.specs.declared.fault.RunFault.TheVariants as fault;
 
 use rv_event::NoMemory;
 use rv_trace::TraceFault;
+use std::alloc::AllocError;
 use thiserror::Error;
 
 /// Why a run has no outcome.
@@ -20,6 +21,12 @@ pub enum RunFault {
     /// Memory was refused.
     #[error("no memory")]
     NoMemory,
+    /// What was judged is not what was read.
+    #[error("book and sources disagree")]
+    Lost,
+    /// The number of sources, workers or slots is out of range.
+    #[error("the number of sources, workers or slots is out of range")]
+    Settings,
 }
 
 impl From<NoMemory> for RunFault {
@@ -27,6 +34,15 @@ impl From<NoMemory> for RunFault {
 
     /// The fault of the same name.
     fn from(_error: NoMemory) -> Self {
+        RunFault::NoMemory
+    }
+}
+
+impl From<AllocError> for RunFault {
+    ghost from_gives = { λ _ f. f ≡ fault.NoMemory };
+
+    /// Want of memory.
+    fn from(_error: AllocError) -> Self {
         RunFault::NoMemory
     }
 }

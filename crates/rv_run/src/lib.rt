@@ -1,28 +1,44 @@
 //! Runs: what a whole list of entries, and what whole sources come to.
 //!
-//! [`replay`] offers entries one by one to a book of its own and answers the outcome: allowed, with its counts, or the
-//! first entry that is refused, with its verdict. [`run_in_turn`] reads the sources one after another and replays their
-//! entries. Both work in one thread.
+//! [`replay`] offers entries one by one to a book of its own, in one thread, and answers the outcome: allowed,
+//! with its counts, or the first entry that is refused, with its verdict. [`run`] does it over sources while
+//! they are read: a thread for each source puts its events into slots, in chunks, and workers offer the chunks
+//! to one book under a lock; the first verdict stops all.
 //!
-//! - `reading`, `in_turn`: the entries of a source, and of several.
-//! - `replaying`: the pass over the entries; [`fault`]: why a run has no outcome.
-//! - `specs/`: what a pass tells, and what was read of sources.
+//! - [`gate`], `desk`: the book under its lock, and how far each source is.
+//! - [`feeding`]: one source's thread. [`serving`]: one worker's thread.
+//! - [`driving`]: a thread for each, over any carrier and any gate. `step`: a carrier and a gate by which no
+//!   source runs far ahead of the others.
+//! - [`running`]: a run's parts, and its settings; `judging`, `comparing`: what the threads' answers come to.
+//! - [`replaying`]: the pass in one thread; [`fault`]: why a run has no outcome; [`laws`]: that outcomes agree.
+//! - `specs/`: what each thread tells of its source, and an outcome of all.
 //!
-//! It stands on `rv_trace` for sources, on `rv_book` for the judgement and on `rv_report` for outcomes. Its one contract
-//! to the others: an outcome is true of the entries, and of the sources' bytes where they are known.
+//! It stands on `rv_trace` for sources, on `rv_slots`, `rv_book` and `rv_verdict` for the threads' shared
+//! parts, and on `rv_report` for outcomes. Its one contract to the others: an outcome is true of the entries,
+//! or of the sources' bytes where they are known.
 #![tactic(auto)]
 
+mod comparing;
+mod desk;
+mod driving;
 mod fault;
-mod in_turn;
+mod feeding;
+mod gate;
+mod judging;
 mod laws;
-mod reading;
 mod replaying;
+mod running;
+mod serving;
+mod step;
 #[cfg(test)]
 mod tests;
 
+pub use driving::{Driven, drive};
 pub use fault::RunFault;
-pub use in_turn::run_in_turn;
-pub use laws::allowed_where_consistent;
-pub use reading::read_source;
+pub use feeding::{Fed, FeedEnd, feed};
+pub use gate::{BookGate, Gate};
+pub use laws::{allowed_where_consistent, outcomes_agree};
 pub use replaying::replay;
+pub use running::{Settings, run};
 pub use rv_report::Outcome;
+pub use serving::{ServeEnd, Served, serve};

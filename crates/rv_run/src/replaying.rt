@@ -9,10 +9,10 @@ use std::alloc::Global;
 
 /// What the entries come to under the model, judged one by one in their order, in one thread.
 ///
-/// `Allowed` exactly where they are a well formed log that has a lawful order, with the numbers of the entries, of the
-/// memory operations among them and of the loads whose store is not there. Else the evidence is the shortest beginning
-/// of the list whose last entry has a fault (`Malformed`), or that has no lawful order (`Forbidden`); where both hold,
-/// `Malformed`.
+/// `Allowed` exactly where they are a well formed log that has a lawful order, with the numbers of the entries,
+/// of the memory operations among them and of the loads whose store is not there. Else the evidence is the
+/// shortest beginning of the list whose last entry has a fault (`Malformed`), or that has no lawful order
+/// (`Forbidden`); where both hold, `Malformed`.
 ///
 /// # Errors
 /// `NoMemory` where a growth was refused; nothing is left of the pass.

@@ -14,10 +14,10 @@ Traces, at most 8; all events of a hart stand in one of them.{n}\
 Standard input is read where no file is named";
 
 /// On `--workers`.
-pub(crate) const WORKERS: &str = "Worker threads, 1 to 24; no effect yet";
+pub(crate) const WORKERS: &str = "Threads that judge events, 1 to 24";
 
 /// On `--slots`.
-pub(crate) const SLOTS: &str = "Buffer slots, 2 to 16; no effect yet";
+pub(crate) const SLOTS: &str = "Slots that carry events to them, 2 to 16";
 
 /// On `--model`.
 pub(crate) const MODEL: &str = "rvwmo, or tso for total store ordering";

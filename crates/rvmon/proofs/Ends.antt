@@ -1,28 +1,50 @@
 -- From a step's ending to the program's.
-use Rattle.std.proofs.Common.{Global, String, ◌≡◌, ◌≤◌, ◌<◌, ℕ, List, [], ◌∷◌, Option, None, Ok, length, map, slice_index_or, string_bytes, sym, ◌∙◌, subst, ap, refl, arith, nat_eq, false, replicate}
+use Rattle.std.proofs.Common.{Global, String, ◌≡◌, ◌≢◌, ◌≤◌, ◌<◌, ℕ, List, [], ◌∷◌, Option, None, Ok, length, map, slice_index_or, string_bytes, inl, inr, sym, ◌∙◌, subst, ap, refl, arith, nat_eq, false, replicate}
 use Rattle.std.proofs.lemmas.Bool.{false≢true}
 use Rattle.std.proofs.lemmas.List.{length-replicate, length-map, get_or-map}
 use Rattle.clap.specs.Words.{Text}
 use Rattle.rv_trace.specs.Source.{Stream}
 use Rattle.rv_run.specs.Sources.{IsFaultAmong}
+use Rattle.rv_run.specs.declared.fault.RunFault.TheVariants as fault
+use Rattle.rv_run.specs.Ranges.{IsOutOfRange}
+use Rattle.rv_run.specs.declared.running.Settings.{Settings}
 use Rattle.rv_words.specs.Answers.{AnswersTo}
+use Rattle.rv_words.specs.Asked.{IsInRange}
 use Rattle.rv_words.specs.declared.request.Asked.{Asked}
 use Rattle.rvmon.specs.Starting.{IsUnopened, IsUnopenedFile, EndsAsked, EndsBy, sources_of}
 use Rattle.rvmon.specs.declared.ending.Ending.{Ending}
 use Rattle.rvmon.specs.declared.ending.Ending.TheVariants.{Ran, Failed, Words, NotText, NotOpened}
 
--- at most eight files are at most eight sources
-pub sources_few : {X : Type 0} (files : List X) → length files ≤ 8 → sources_of files ≤ 8
-sources_few [] few = omega arith
-sources_few (x ∷ xs) few = few
+-- at most eight files are one to eight sources
+pub sources_few : {X : Type 0} (files : List X) → length files ≤ 8 → (0 < sources_of files) × (sources_of files ≤ 8)
+sources_few [] few = (omega arith, omega arith)
+sources_few (x ∷ xs) few = (omega arith, few)
+
+-- so the numbers of a request are those that a run takes
+pub in_range :
+    (asked : Asked) (sources : ℕ) (settings : Settings) → IsInRange asked → sources ≡ sources_of asked.files.items →
+    settings.workers ≡ asked.workers → settings.slots ≡ asked.slots → IsOutOfRange sources settings → ⊥
+in_range asked sources settings r many workers slots out = go out (sources_few asked.files.items r.files)
+  where
+    go : IsOutOfRange sources settings → (0 < sources_of asked.files.items) × (sources_of asked.files.items ≤ 8) → ⊥
+    go (inl none) few = omega (arith, none, many, few.0)
+    go (inr (inl above)) few = omega (arith, above, many, few.1)
+    go (inr (inr (inl none))) few = omega (arith, none, workers, r.workers.0)
+    go (inr (inr (inr (inl above)))) few = omega (arith, above, workers, r.workers.1)
+    go (inr (inr (inr (inr (inl below))))) few = omega (arith, below, slots, r.slots.0)
+    go (inr (inr (inr (inr (inr above))))) few = omega (arith, above, slots, r.slots.1)
 
 -- streams of which nothing is known
 abbrev unknown : ℕ → List (Option Stream)
 unknown n = replicate n None
 
+no_memory_in_range : fault.NoMemory ≢ fault.Settings
+no_memory_in_range same = cc
+
 pub ends_unopened : (asked : Asked) (e : Ending) → IsUnopened (map string_bytes asked.files.items) e → EndsAsked asked e
 ends_unopened asked (Ran o) h = absurd h
 ends_unopened asked (Failed f) h = (
+  λ is. no_memory_in_range (sym h ∙ is),
   unknown (sources_of asked.files.items),
   length-replicate (sources_of asked.files.items) None,
   subst (IsFaultAmong (unknown (sources_of asked.files.items))) (sym h) tt,

@@ -46,6 +46,8 @@ abbrev pub IsSettled : Ending → Bool → Option (List ℕ) → Option (List �
 IsSettled (Ran o) json old new status = ((status ≡ status_of o) × Appends old new (printed json o)) ⊎ (status ≡ 3)
 IsSettled (Failed (fault.Trace source f)) json old new status = (status ≡ status_of_kind f.kind) × (new ≡ old)
 IsSettled (Failed fault.NoMemory) json old new status = (status ≡ 3) × (new ≡ old)
+IsSettled (Failed fault.Lost) json old new status = (status ≡ 3) × (new ≡ old)
+IsSettled (Failed fault.Settings) json old new status = (status ≡ 3) × (new ≡ old)
 IsSettled (Words f) json old new status = ⊤
 IsSettled NotText json old new status = (status ≡ 2) × (new ≡ old)
 IsSettled (NotOpened name) json old new status = (status ≡ 3) × (new ≡ old)

@@ -1,5 +1,5 @@
 -- How the program comes to its end: which of its steps each ending is of.
-use Rattle.std.specs.Prelude.{◌≡◌, ◌⊎◌, ℕ, suc, List, [], ◌∷◌, Bool, Option, Ok, Err, length, map, string_bytes, ⊤}
+use Rattle.std.specs.Prelude.{◌≡◌, ◌≢◌, ◌⊎◌, ℕ, suc, List, [], ◌∷◌, Bool, Option, Ok, Err, length, map, string_bytes, ⊤}
 use Rattle.std.specs.List.{Contains}
 use Rattle.clap.specs.Words.{Text}
 use Rattle.rv_trace.specs.Source.{Stream}
@@ -40,12 +40,13 @@ abbrev pub sources_of : {X : Type 0} → List X → ℕ
 sources_of [] = 1
 sources_of (x ∷ xs) = suc (length xs)
 
--- the ending of a request: a file does not open, the sources have no outcome, or this is theirs
+-- the ending of a request: a file does not open, the sources have no outcome, or this is theirs; its numbers are never
+-- out of range
 abbrev pub EndsAsked : Asked → Ending → Type 0
 EndsAsked asked (Ran o) =
     (streams : List (Option Stream)) × (length streams ≡ sources_of asked.files.items) × IsTrueOf asked.model streams o
 EndsAsked asked (Failed f) =
-    (streams : List (Option Stream)) × (length streams ≡ sources_of asked.files.items) × IsFaultAmong streams f
+    (f ≢ fault.Settings) × (streams : List (Option Stream)) × (length streams ≡ sources_of asked.files.items) × IsFaultAmong streams f
 EndsAsked asked (Words f) = ⊥
 EndsAsked asked NotText = ⊥
 EndsAsked asked (NotOpened name) = Contains (map string_bytes asked.files.items) (string_bytes name)

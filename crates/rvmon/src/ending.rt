@@ -67,6 +67,14 @@ pub fn settle<O: Write, E: Write>(
             let _ = writeln!(errors, "rvmon: cannot open {name}");
             FAILED
         }
+        Ending::Failed(RunFault::Lost) => {
+            let _ = writeln!(errors, "rvmon: book and sources disagree");
+            FAILED
+        }
+        Ending::Failed(RunFault::Settings) => {
+            let _ = writeln!(errors, "rvmon: sources, workers or slots out of range");
+            FAILED
+        }
         Ending::Failed(RunFault::NoMemory) | Ending::Words(WordsFault::NoMemory) => {
             let _ = writeln!(errors, "rvmon: no memory");
             FAILED

@@ -9,8 +9,8 @@
 //! contract: each ending is of the step that it names, and a report is that of an outcome of the sources.
 #![tactic(auto)]
 
-ghost use Rattle.std.specs.Prelude.{◌≤◌, length};
 ghost use Rattle.clap.specs.Walk.{texts};
+ghost use Rattle.rv_words.specs.Asked.{IsInRange};
 ghost use Rattle.rvmon.specs.Starting.{EndsAsked, EndsBy, IsEnd};
 
 mod ending;
@@ -21,39 +21,50 @@ mod words;
 
 use ending::{Ending, settle};
 use opening::open_all;
-use rv_run::run_in_turn;
+use rv_run::{Settings, run};
 use rv_words::{Asked, asked};
 use std::io;
 use std::process::ExitCode;
+use std::sync::Wait;
+use std::thread::Threads;
 use words::{texts_of, words_of};
 
-/// What comes of a request.
-fn answer(rt: &HostRuntime, asked: &Asked) -> Ending
-    requires { length asked.now.files.items ≤ 8 }
+/// What comes of a request. The sources are judged in threads of the second handle.
+fn answer<RT: Threads + Wait + Sync>(rt: &HostRuntime, threads: &RT, asked: &Asked) -> Ending
+    requires { IsInRange asked.now }
     ensures { EndsAsked asked.now result }
 {
     let inputs = match open_all(rt, asked.files.as_slice()) {
         Ok(inputs) => inputs,
         Err(ending) => return ending,
     };
-    match run_in_turn(rt.alloc(), asked.model, inputs) {
+    let settings = Settings {
+        workers: asked.workers,
+        slots: asked.slots,
+        model: asked.model,
+    };
+    match run(threads, rt.alloc(), inputs, settings) {
         Ok(outcome) => Ending::Ran(outcome),
         Err(fault) => Ending::Failed(fault),
     }
 }
 
 /// What comes of the words, and whether the report is JSON.
-fn run(rt: &HostRuntime, words: &[&str]) -> (Ending, bool)
+fn answer_words<RT: Threads + Wait + Sync>(
+    rt: &HostRuntime,
+    threads: &RT,
+    words: &[&str],
+) -> (Ending, bool)
     ensures { EndsBy (texts words.now) result.0 result.1 }
 {
     match asked(rt.alloc(), words) {
-        Ok(asked) => (answer(rt, &asked), asked.json),
+        Ok(asked) => (answer(rt, threads, &asked), asked.json),
         Err(fault) => (Ending::Words(fault), false),
     }
 }
 
 /// How the program ends, and whether the report is JSON.
-fn end_of(rt: &HostRuntime) -> (Ending, bool)
+fn end_of<RT: Threads + Wait + Sync>(rt: &HostRuntime, threads: &RT) -> (Ending, bool)
     ensures { IsEnd result.0 result.1 }
 {
     let words = match words_of(rt) {
@@ -61,13 +72,13 @@ fn end_of(rt: &HostRuntime) -> (Ending, bool)
         Err(ending) => return (ending, false),
     };
     match texts_of(rt, words.as_slice()) {
-        Ok(texts) => run(rt, texts.as_slice()),
+        Ok(texts) => answer_words(rt, threads, texts.as_slice()),
         Err(ending) => (ending, false),
     }
 }
 
 fn main(rt: HostRuntime) -> ExitCode {
-    let (ending, json) = end_of(&rt);
+    let (ending, json) = end_of(&rt, &rt);
     let mut out = io::writer(&rt);
     let mut errors = rt.stderr();
     ExitCode::from(settle(rt.alloc(), &mut out, &mut errors, &ending, json))

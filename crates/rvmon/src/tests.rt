@@ -1,13 +1,15 @@
 //! What is printed, and with which status.
 use crate::ending::{Ending, settle};
 use rv_event::MemoryModel;
-use rv_run::{RunFault, run_in_turn};
+use rv_run::{RunFault, Settings, run};
 use rv_trace::{FaultKind, TraceFault};
 use rv_words::{WordsFault, asked};
 use std::alloc::Global;
 use std::io;
 use std::io::Write;
 use std::process::Abort;
+use std::sync::Wait;
+use std::thread::Threads;
 
 const STORE_BUFFERING: &str = "hart,seq,op,word,read,wrote,ann,deps
 0,0,S,0,,1,,
@@ -42,10 +44,15 @@ impl Write for Full {
 }
 
 /// How the program ends where the trace is its only source.
-fn end_of(rt: &impl Abort, alloc: Global, trace: &str) -> Ending {
+fn end_of<RT: Threads + Wait + Sync + Abort>(rt: &RT, alloc: Global, trace: &str) -> Ending {
     let mut readers = Vec::new(alloc);
     readers.push(trace.as_bytes()).expect(rt, "memory");
-    match run_in_turn(alloc, MemoryModel::Rvwmo, readers) {
+    let settings = Settings {
+        workers: 4,
+        slots: 8,
+        model: MemoryModel::Rvwmo,
+    };
+    match run(rt, alloc, readers, settings) {
         Ok(outcome) => Ending::Ran(outcome),
         Err(fault) => Ending::Failed(fault),
     }
@@ -159,6 +166,16 @@ fn what_went_wrong_is_told_in_a_line(rt: HostRuntime) {
     let cases = [
         (Ending::NotOpened(name), "rvmon: cannot open lock.csv\n", 3),
         (Ending::Failed(RunFault::NoMemory), "rvmon: no memory\n", 3),
+        (
+            Ending::Failed(RunFault::Lost),
+            "rvmon: book and sources disagree\n",
+            3,
+        ),
+        (
+            Ending::Failed(RunFault::Settings),
+            "rvmon: sources, workers or slots out of range\n",
+            3,
+        ),
         (Ending::Words(WordsFault::NoMemory), "rvmon: no memory\n", 3),
         (
             Ending::Words(WordsFault::TooMany),

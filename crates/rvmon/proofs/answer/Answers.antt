@@ -1,14 +1,23 @@
-use Rattle.std.proofs.Common.{◌≤◌, map, string_bytes, subst, sym, ap, ◌∙◌}
+use Rattle.std.proofs.Common.{◌≡◌, Err, map, string_bytes, subst, sym, ap, refl, ◌∙◌}
+use Rattle.std.proofs.lemmas.List.{length-map}
+use Rattle.rv_run.specs.declared.fault.RunFault.{RunFault}
+use Rattle.rv_run.specs.declared.running.Settings.{Settings}
 use Rattle.rvmon.specs.Starting.{IsUnopened, sources_of}
-use Rattle.rvmon.proofs.Ends.{ends_unopened, sources_few}
+use Rattle.rvmon.proofs.Ends.{ends_unopened, in_range}
 use Rattle.rvmon.proofs.answer.Goals as goal
 
 pub returns-in-Err : goal.returns-in-Err
-returns-in-Err c =
+returns-in-Err g c =
     ends_unopened c.args.asked.now c.in-Err.ending
     (subst (λ names. IsUnopened (map string_bytes names) c.in-Err.ending) c.as_slice.ensures.value c.in-Err.ensures.refused)
 
-pub run_in_turn-requires : goal.run_in_turn-requires
-run_in_turn-requires c =
-    subst (λ n. n ≤ 8) (sym (c.in-Ok.ensures.opened ∙ ap sources_of c.as_slice.ensures.value))
-    (sources_few c.args.asked.now.files.items c.requires)
+pub returns-in-Err-run : goal.returns-in-Err-run
+returns-in-Err-run g c =
+    let asked = c.args.asked.now in
+    let settings : Settings = record { workers = asked.workers; slots = asked.slots; model = asked.model } in
+    let many = c.in-Ok.ensures.opened ∙ ap sources_of c.as_slice.ensures.value in (
+      λ is. in_range asked _ settings c.requires (c.in-Ok.inputs.ok.0 ∙ many) refl refl (c.run.ensures.settings.0 (c.in-Err-run.is ∙ ap (λ (f : RunFault). Err f) is)),
+      _,
+      length-map c.in-Ok.inputs.items _ ∙ many,
+      c.in-Err-run.ensures.fault,
+    )

@@ -1,0 +1,298 @@
+//! A thread for each source and for each worker.
+ghost use Rattle.std.specs.Prelude.{◌≡◌, ℕ, ◌<◌, ◌≤◌, ◌+◌, IfOk, OnOk, All, vec_len, slice_index_or, option_map};
+ghost use Rattle.rv_trace.specs.Source.{source_says};
+ghost use Rattle.rv_run.specs.Drives.{AreFedOf, AreServed};
+ghost use Rattle.rv_run.specs.Feeds.{IsFedOf};
+
+use crate::feeding::{Fed, feed};
+use crate::gate::Gate;
+use crate::serving::{Served, serve};
+use rv_slots::Carrier;
+use rv_verdict::VerdictCell;
+use std::alloc::{AllocError, Global};
+use std::io::Read;
+use std::snapshot::Snapshot;
+use std::sync::Wait;
+use std::thread;
+use std::thread::{Promise, PromisedHandle, Scope, Threads};
+
+/// The promise of a feeder's thread: what it gives was read from this reader.
+#[derive(Drop)]
+struct FeedsFrom<R>(Snapshot<R>);
+
+impl<R: Read> Promise<Fed> for FeedsFrom<R> {
+    ghost kept_by = { λ p fed. IsFedOf (option_map source_says (R.remaining p.0.value)) fed };
+}
+
+/// The promise of a worker's thread: its seat is of this carrier, and its note of this cell.
+#[derive(Drop)]
+struct ServesFor<C>(Snapshot<C>, Snapshot<VerdictCell>);
+
+impl<C: Carrier> Promise<Served<C::Seat>> for ServesFor<C> {
+    ghost kept_by = { λ p s. C.fits p.0.value s.seat × (s.note.cell ≡ p.1.value) };
+}
+
+/// What the threads of a run gave.
+#[derive(Drop)]
+pub struct Driven<S> {
+    /// The answer of each source's feeder, by the source's number.
+    pub fed: Vec<Fed>,
+    /// The answer of each worker.
+    pub served: Vec<Served<S>>,
+}
+
+/// Starts the thread of one source.
+fn start_feeder<
+    's,
+    E,
+    RT: Threads + Wait + Sync,
+    R: Read + Send + Drop + 's,
+    C: Carrier + Sync + 's,
+    G: Gate + Sync + 's,
+>(
+    scope: &Scope<'s, E>,
+    rt: &'s RT,
+    alloc: Global,
+    reader: R,
+    source: u8,
+    carrier: &'s C,
+    seat: C::Seat,
+    gate: &'s G,
+) -> Result<PromisedHandle<Fed, FeedsFrom<R>>, AllocError>
+    requires source { source < 8 }
+    requires seat { C.fits carrier.now seat }
+    ensures { IfOk result (λ h. h.promise.0.value ≡ reader) }
+{
+    let promise = FeedsFrom(Snapshot::of(&reader));
+    let child = scope.spawn_with(
+        promise,
+        move || -> Fed
+            requires source { source < 8 }
+            requires seat { C.fits carrier.now seat }
+            ensures { IsFedOf (option_map source_says (R.remaining reader)) result }
+        { feed(rt, alloc, reader, source, carrier, seat, gate) },
+    )?;
+    Ok(child)
+}
+
+/// Starts the thread of one worker.
+fn start_worker<'s, E, RT: Threads + Wait + Sync, C: Carrier + Sync + 's, G: Gate + Sync + 's>(
+    scope: &Scope<'s, E>,
+    rt: &'s RT,
+    alloc: Global,
+    carrier: &'s C,
+    seat: C::Seat,
+    gate: &'s G,
+    cell: &'s VerdictCell,
+) -> Result<PromisedHandle<Served<C::Seat>, ServesFor<C>>, AllocError>
+    requires { C.fits carrier.now seat }
+    ensures { IfOk result
+        (λ h. (h.promise.0.value ≡ carrier.now) × (h.promise.1.value ≡ cell.now)) }
+{
+    let promise = ServesFor(Snapshot::of(carrier), Snapshot::of(cell));
+    let note = cell.note();
+    let child = scope.spawn_with(
+        promise,
+        move || -> Served<C::Seat>
+            requires seat { C.fits carrier.now seat }
+            requires note { note.cell ≡ cell.now }
+            ensures seat { C.fits carrier.entry.now result.seat }
+            ensures note { result.note.cell ≡ cell.entry.now }
+        { serve(rt, alloc, carrier, seat, gate, cell, note) },
+    )?;
+    Ok(child)
+}
+
+/// Takes a seat off the list.
+fn take_seat<C: Carrier>(carrier: &C, seats: &mut Vec<C::Seat>) -> C::Seat
+    requires some { 0 < vec_len seats.old }
+    requires fits { All (λ s. C.fits carrier.now s) seats.old.items }
+    ensures seat { C.fits carrier.now result }
+    ensures fits { All (λ s. C.fits carrier.now s) seats.new.items }
+    ensures len { vec_len seats.new + 1 ≡ vec_len seats.old }
+{
+    let _ = carrier;
+    match seats.pop() {
+        Some(seat) => seat,
+        None => unreachable!(),
+    }
+}
+
+/// Starts a feeder for each reader, with a seat off the list.
+fn start_feeders<
+    's,
+    E,
+    RT: Threads + Wait + Sync,
+    R: Read + Send + Drop + 's,
+    C: Carrier + Sync + 's,
+    G: Gate + Sync + 's,
+>(
+    scope: &Scope<'s, E>,
+    rt: &'s RT,
+    alloc: Global,
+    readers: Vec<R>,
+    carrier: &'s C,
+    seats: &mut Vec<C::Seat>,
+    gate: &'s G,
+) -> Result<Vec<PromisedHandle<Fed, FeedsFrom<R>>>, AllocError>
+    requires few { vec_len readers ≤ 8 }
+    requires room { vec_len readers ≤ vec_len seats.old }
+    requires fits { All (λ s. C.fits carrier.now s) seats.old.items }
+    ensures len { IfOk result (λ v. vec_len v ≡ vec_len readers) }
+    ensures each { IfOk result (λ v. (i : ℕ) (h : _) (r : _) → i < vec_len readers
+        → (slice_index_or v.items i h).promise.0.value ≡ slice_index_or readers.items i r) }
+    ensures seats { OnOk result (vec_len seats.new + vec_len readers ≡ vec_len seats.old) }
+    ensures fits { All (λ s. C.fits carrier.now s) seats.new.items }
+{
+    let mut children = Vec::new(alloc);
+    let mut source = 0u8;
+    for reader in readers {
+        let seat = take_seat(carrier, seats);
+        let child = start_feeder(scope, rt, alloc, reader, source, carrier, seat, gate)?;
+        children.push(child)?;
+        source += 1;
+    }
+    Ok(children)
+}
+
+/// Starts the workers, each with a seat off the list.
+fn start_workers<'s, E, RT: Threads + Wait + Sync, C: Carrier + Sync + 's, G: Gate + Sync + 's>(
+    scope: &Scope<'s, E>,
+    rt: &'s RT,
+    alloc: Global,
+    workers: u8,
+    carrier: &'s C,
+    seats: &mut Vec<C::Seat>,
+    gate: &'s G,
+    cell: &'s VerdictCell,
+) -> Result<Vec<PromisedHandle<Served<C::Seat>, ServesFor<C>>>, AllocError>
+    requires room { workers ≤ vec_len seats.old }
+    requires fits { All (λ s. C.fits carrier.now s) seats.old.items }
+    ensures len { IfOk result (λ v. vec_len v ≡ workers) }
+    ensures each { IfOk result (λ v. (i : ℕ) (h : _) → i < workers
+        → ((slice_index_or v.items i h).promise.0.value ≡ carrier.now)
+        × ((slice_index_or v.items i h).promise.1.value ≡ cell.now)) }
+{
+    let mut children = Vec::new(alloc);
+    for _worker in 0..workers {
+        let seat = take_seat(carrier, seats);
+        let child = start_worker(scope, rt, alloc, carrier, seat, gate, cell)?;
+        children.push(child)?;
+    }
+    Ok(children)
+}
+
+/// Starts all threads and joins them.
+fn start_and_join<
+    's,
+    E,
+    RT: Threads + Wait + Sync,
+    R: Read + Send + Drop + 's,
+    C: Carrier + Sync + 's,
+    G: Gate + Sync + 's,
+>(
+    scope: &Scope<'s, E>,
+    rt: &'s RT,
+    alloc: Global,
+    readers: Vec<R>,
+    workers: u8,
+    carrier: &'s C,
+    mut seats: Vec<C::Seat>,
+    gate: &'s G,
+    cell: &'s VerdictCell,
+) -> Result<Driven<C::Seat>, AllocError>
+    requires sources { vec_len readers ≤ 8 }
+    requires seats { vec_len readers + workers ≤ vec_len seats }
+    requires fits { All (λ s. C.fits carrier.now s) seats.items }
+    ensures fed { IfOk result (λ d. AreFedOf R.remaining readers.items d.fed.items) }
+    ensures served { IfOk result
+        (λ d. AreServed (C.fits carrier.now) cell.now workers d.served.items) }
+{
+    let feeders = start_feeders(scope, rt, alloc, readers, carrier, &mut seats, gate)?;
+    let servers = start_workers(scope, rt, alloc, workers, carrier, &mut seats, gate, cell)?;
+    let fed = thread::join_promised(rt, feeders)?;
+    let served = thread::join_promised(rt, servers)?;
+    Ok(Driven { fed, served })
+}
+
+/// Starts all threads and joins them. Where a growth or a start is refused, the threads that run are told to end.
+fn drive_in<
+    's,
+    E,
+    RT: Threads + Wait + Sync,
+    R: Read + Send + Drop + 's,
+    C: Carrier + Sync + 's,
+    G: Gate + Sync + 's,
+>(
+    scope: &Scope<'s, E>,
+    rt: &'s RT,
+    alloc: Global,
+    readers: Vec<R>,
+    workers: u8,
+    carrier: &'s C,
+    seats: Vec<C::Seat>,
+    gate: &'s G,
+    cell: &'s VerdictCell,
+) -> Result<Driven<C::Seat>, AllocError>
+    requires sources { vec_len readers ≤ 8 }
+    requires seats { vec_len readers + workers ≤ vec_len seats }
+    requires fits { All (λ s. C.fits carrier.now s) seats.items }
+    ensures fed { IfOk result (λ d. AreFedOf R.remaining readers.items d.fed.items) }
+    ensures served { IfOk result
+        (λ d. AreServed (C.fits carrier.now) cell.now workers d.served.items) }
+{
+    let driven = start_and_join(
+        scope, rt, alloc, readers, workers, carrier, seats, gate, cell,
+    );
+    if driven.is_err() {
+        gate.end_source(rt, 0, None);
+    }
+    driven
+}
+
+/// Reads each source by [`feed`] and offers its chunks by so many calls of [`serve`], each call on a thread of
+/// its own, and joins all of them.
+///
+/// There are 1 to 8 sources, their readers in order, at least one worker, and a seat for each thread. What
+/// comes back is one answer of a feeder for each source, true of its reader, and one of a worker for each
+/// worker, with a note of this cell.
+///
+/// # Errors
+/// `AllocError` where a growth or the start of a thread was refused. The threads that had been started were
+/// told to end, and have ended.
+pub fn drive<RT: Threads + Wait + Sync, R: Read + Send + Drop, C: Carrier + Sync, G: Gate + Sync>(
+    rt: &RT,
+    alloc: Global,
+    readers: Vec<R>,
+    workers: u8,
+    carrier: &C,
+    seats: Vec<C::Seat>,
+    gate: &G,
+    cell: &VerdictCell,
+) -> Result<Driven<C::Seat>, AllocError>
+    requires sources { (0 < vec_len readers) × (vec_len readers ≤ 8) }
+    requires workers { 0 < workers }
+    requires seats { vec_len readers + workers ≤ vec_len seats }
+    requires fits { All (λ s. C.fits carrier.now s) seats.items }
+    ensures fed { IfOk result (λ d. AreFedOf R.remaining readers.items d.fed.items) }
+    ensures served { IfOk result
+        (λ d. AreServed (C.fits carrier.now) cell.now workers d.served.items) }
+{
+    thread::scope(
+        thread::scope_env(),
+        rt,
+        move |scope| -> Result<Driven<C::Seat>, AllocError>
+            requires sources { vec_len readers ≤ 8 }
+            requires seats { vec_len readers + workers ≤ vec_len seats }
+            requires fits { All (λ s. C.fits carrier.now s) seats.items }
+            ensures fed { IfOk result
+                (λ d. AreFedOf R.remaining readers.items d.fed.items) }
+            ensures served { IfOk result
+                (λ d. AreServed (C.fits carrier.entry.now) cell.entry.now workers d.served.items) }
+        {
+            drive_in(
+                scope, rt, alloc, readers, workers, carrier, seats, gate, cell,
+            )
+        },
+    )
+}

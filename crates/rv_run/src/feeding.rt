@@ -1,0 +1,146 @@
+//! A source's chunks, put into the carrier.
+ghost use Rattle.std.specs.Prelude.{◌≡◌, ◌++◌, ◌<◌, OnOk, OnErr, option_map};
+ghost use Rattle.rv_trace.specs.Source.{source_says};
+ghost use Rattle.rv_run.specs.Feeds.{IsFedOf};
+
+use crate::gate::Gate;
+use rv_event::{Chunk, Event, NoMemory, unpack};
+use rv_slots::{Carrier, Put};
+use rv_trace::{Chunks, TraceFault};
+use std::alloc::Global;
+use std::io::Read;
+use std::sync::Wait;
+use std::thread;
+
+/// How a feeder ended.
+#[derive(Clone, Copy, PartialEq, Eq, Debug)]
+pub enum FeedEnd {
+    /// The source was read to its end, and each of its chunks was put.
+    Whole,
+    /// The gate was stopped while a chunk waited for a free slot.
+    Stopped,
+    /// The source has this fault.
+    Fault(TraceFault),
+    /// There was no memory for the list of events.
+    NoMemory,
+}
+
+/// The events that a feeder has read, in order, and how it ended.
+#[derive(Drop, Debug)]
+pub struct Fed {
+    /// The events.
+    pub events: Vec<Event>,
+    /// How it ended.
+    pub end: FeedEnd,
+}
+
+/// Puts the events of the chunk at the end of the list, or leaves the list as it is.
+fn append(alloc: Global, events: &mut Vec<Event>, chunk: &Chunk) -> Result<(), NoMemory>
+    ensures taken { OnOk result (events.new.items ≡ events.old.items ++ chunk.now.events) }
+    ensures refused { OnErr result (events.new.items ≡ events.old.items) }
+{
+    let length = events.len();
+    for event in unpack(alloc, chunk)? {
+        let Ok(()) = events.push(event) else {
+            events.truncate(length);
+            return Err(NoMemory);
+        };
+    }
+    Ok(())
+}
+
+/// Tries until a slot has taken the chunk (`Placed`), or the gate is stopped (`Busy`). Between two tries other
+/// threads are given the processor.
+fn place<RT: Wait, C: Carrier, G: Gate>(
+    rt: &RT,
+    carrier: &C,
+    mut seat: C::Seat,
+    chunk: &Chunk,
+    gate: &G,
+) -> (C::Seat, Put)
+    requires { C.fits carrier.now seat }
+    ensures { C.fits carrier.now result.0 }
+{
+    for _ in rt.forever() {
+        let (back, put) = carrier.put_chunk(rt, seat, chunk);
+        seat = back;
+        if put == Put::Placed || gate.stopped(rt) {
+            return (seat, put);
+        }
+        thread::yield_now();
+    }
+    unreachable!()
+}
+
+/// Reads the source and puts its chunks into the carrier, one after another.
+fn put_all<RT: Wait, R: Read + Drop, C: Carrier, G: Gate>(
+    rt: &RT,
+    alloc: Global,
+    reader: R,
+    source: u8,
+    carrier: &C,
+    mut seat: C::Seat,
+    gate: &G,
+) -> Fed
+    requires source { source < 8 }
+    requires seat { C.fits carrier.now seat }
+    ensures { IsFedOf (option_map source_says (R.remaining reader)) result }
+{
+    let mut chunks = Chunks::new(alloc, reader, source);
+    let mut events = Vec::new(alloc);
+    for _ in rt.forever() {
+        let chunk = match chunks.next_chunk() {
+            Ok(Some(chunk)) => chunk,
+            Ok(None) => {
+                let end = FeedEnd::Whole;
+                return Fed { events, end };
+            }
+            Err(fault) => {
+                let end = FeedEnd::Fault(fault);
+                return Fed { events, end };
+            }
+        };
+        let Ok(()) = append(alloc, &mut events, &chunk) else {
+            let end = FeedEnd::NoMemory;
+            return Fed { events, end };
+        };
+        let (back, put) = place(rt, carrier, seat, &chunk, gate);
+        seat = back;
+        if put == Put::Busy {
+            let end = FeedEnd::Stopped;
+            return Fed { events, end };
+        }
+    }
+    unreachable!()
+}
+
+/// Reads the source of this number, puts its chunks into the carrier, and tells the gate how it ended.
+///
+/// A chunk's events are taken into the list before it is put, and a chunk that finds no free slot is tried
+/// again until it is placed or the gate is stopped. For a reader that tells its bytes, the events are the first
+/// of those that the bytes say, and all of them at `Whole`; a fault of the text is the one that the bytes end
+/// in. A fault `Read` or `NoMemory` is the trace's own.
+pub fn feed<RT: Wait, R: Read + Drop, C: Carrier, G: Gate>(
+    rt: &RT,
+    alloc: Global,
+    reader: R,
+    source: u8,
+    carrier: &C,
+    seat: C::Seat,
+    gate: &G,
+) -> Fed
+    requires source { source < 8 }
+    requires seat { C.fits carrier.now seat }
+    ensures { IsFedOf (option_map source_says (R.remaining reader)) result }
+{
+    let fed = put_all(rt, alloc, reader, source, carrier, seat, gate);
+    match fed.end {
+        FeedEnd::Whole => {
+            let total = u32::try_from(fed.events.len()).unwrap_or(u32::MAX);
+            gate.end_source(rt, source, Some(total));
+        }
+        FeedEnd::Fault(_) | FeedEnd::NoMemory => gate.end_source(rt, source, None),
+        FeedEnd::Stopped => {}
+    }
+    fed
+}

@@ -1,0 +1,124 @@
+//! A whole run in threads.
+ghost use Rattle.std.specs.Prelude.{◌≡◌, ◌≢◌, ◌↔◌, ◌<◌, ◌≤◌, ◌+◌, IfOk, IfErr, Err, false, All, map, option_map, vec_len};
+ghost use Rattle.rv_trace.specs.Source.{source_says};
+ghost use Rattle.rv_run.specs.Ranges.{IsOutOfRange};
+ghost use Rattle.rv_run.specs.Sources.{IsFaultAmong, IsTrueOf};
+ghost use Rattle.rv_run.specs.declared.fault.RunFault.TheVariants as fault;
+
+use crate::driving::drive;
+use crate::fault::RunFault;
+use crate::gate::BookGate;
+use crate::judging::judge;
+use crate::step::InStep;
+use rv_event::MemoryModel;
+use rv_report::Outcome;
+use rv_slots::{Carrier, Slots, SlotsFault, TableCarrier};
+use rv_verdict::VerdictCell;
+use std::alloc::Global;
+use std::io::Read;
+use std::sync::Wait;
+use std::thread::Threads;
+
+/// How a run is made.
+#[derive(Clone, Copy, PartialEq, Eq, Debug)]
+pub struct Settings {
+    /// How many threads offer chunks, 1 to 24.
+    pub workers: u8,
+    /// How many slots carry chunks, 2 to 16.
+    pub slots: u8,
+    /// The memory model.
+    pub model: MemoryModel,
+}
+
+impl Settings {
+    /// Whether the numbers, and that of the sources, are in range.
+    fn admit(&self, sources: usize) -> bool
+        ensures { (result ≡ false) ↔ IsOutOfRange sources self.now }
+    {
+        1 <= sources
+            && sources <= 8
+            && 1 <= self.workers
+            && self.workers <= 24
+            && 2 <= self.slots
+            && self.slots <= 16
+    }
+}
+
+/// The run over a carrier that was made for it, and its seats.
+///
+/// # Errors
+/// As [`run`], but for `Settings`.
+pub(crate) fn run_over<RT: Threads + Wait + Sync, R: Read + Send + Drop, C: Carrier + Sync + Drop>(
+    rt: &RT,
+    alloc: Global,
+    readers: Vec<R>,
+    settings: Settings,
+    carrier: C,
+    seats: Vec<C::Seat>,
+) -> Result<Outcome, RunFault>
+    requires sources { (0 < vec_len readers) × (vec_len readers ≤ 8) }
+    requires workers { 0 < settings.workers }
+    requires seats { vec_len readers + settings.workers ≤ vec_len seats }
+    requires fits { All (λ s. C.fits carrier s) seats.items }
+    ensures outcome { IfOk result (IsTrueOf settings.model
+        (map (λ r. option_map source_says (R.remaining r)) readers.items)) }
+    ensures fault { IfErr result (IsFaultAmong
+        (map (λ r. option_map source_says (R.remaining r)) readers.items)) }
+    ensures settings { result ≢ Err fault.Settings }
+{
+    let count = readers.len() as u8;
+    let cell = VerdictCell::new(alloc);
+    let gate = BookGate::new(alloc, settings.model, count);
+    let step = InStep::new(carrier, gate, count);
+    let workers = settings.workers;
+    let driven = drive(rt, alloc, readers, workers, &step, seats, &step, &cell)?;
+    let fed = driven.fed.as_slice();
+    let served = driven.served.as_slice();
+    let book = step.into_gate().into_book();
+    judge(alloc, settings.model, fed, served, &cell, &book)
+}
+
+/// Reads the sources in threads of their own, judges their events in other threads while they are read, and
+/// stops at the first event that is malformed or forbidden.
+///
+/// The sources have the numbers 0, 1 and so on. The events of one source are judged in their order; in which
+/// order those of several come, and so which event is refused where several could be, depends on the threads.
+/// For readers that tell their bytes: `Allowed` comes only where the sources end whole and their events are a
+/// well formed log that has a lawful order, with the counts over all of them. The evidence of a refusal has the
+/// first of each source's events and no others, and the model asked for; `Malformed` comes only where the
+/// sources are not well formed.
+///
+/// # Errors
+/// In this order: `Settings` exactly where a number is out of range; `NoMemory` where a part or a thread could
+/// not be had; where a verdict was found, `Lost` if it is not of what was read, and `NoMemory` if it could not
+/// be copied; `Trace` with the lowest source that has a fault, which is its own; `NoMemory` where a thread
+/// found none; `Lost` where the book is not what was read.
+pub fn run<RT: Threads + Wait + Sync, R: Read + Send + Drop>(
+    rt: &RT,
+    alloc: Global,
+    readers: Vec<R>,
+    settings: Settings,
+) -> Result<Outcome, RunFault>
+    ensures outcome { IfOk result (IsTrueOf settings.model
+        (map (λ r. option_map source_says (R.remaining r)) readers.items)) }
+    ensures fault { IfErr result (IsFaultAmong
+        (map (λ r. option_map source_says (R.remaining r)) readers.items)) }
+    ensures settings { (result ≡ Err fault.Settings) ↔ IsOutOfRange (vec_len readers) settings }
+{
+    if !settings.admit(readers.len()) {
+        return Err(RunFault::Settings);
+    }
+    let (slots, seats) = match Slots::new(alloc, settings.slots as usize) {
+        Ok(made) => made,
+        Err(SlotsFault::Count) => unreachable!(),
+        Err(SlotsFault::NoMemory) => return Err(RunFault::NoMemory),
+    };
+    run_over(
+        rt,
+        alloc,
+        readers,
+        settings,
+        TableCarrier::new(slots),
+        seats,
+    )
+}

@@ -1,0 +1,82 @@
+-- What the code reads and writes of a core, as the machine sees it.
+use Rattle.std.proofs.Common.{◌≡◌, ℕ, zero, suc, ◌<◌, List, [], ◌∷◌, length, get_or, set, map}
+use Rattle.std.proofs.Common.{sym, refl, ap, ◌∙◌, subst}
+use Rattle.std.proofs.lemmas.List.{get_or-map, get_or-set_same, get_or-set_other, length-map}
+use Rattle.std.specs.Vec.{with_item}
+use Rattle.rv_slotcore.specs.Machine.{put_at, Slot, Seat, blank_slot, with_slot, with_seat}
+use Rattle.rv_slotcore.specs.Machine as machine
+use Rattle.rv_slotcore.specs.CoreIs.{core_of, slot_of, seat_of, idle_seat}
+use Rattle.rv_slotcore.specs.declared.parts.SlotState.{SlotState}
+use Rattle.rv_slotcore.specs.declared.parts.SeatEntry.{SeatEntry}
+use Rattle.rv_slotcore.specs.declared.parts.Parts.{Parts}
+use Rattle.rv_slotcore.proofs.Updates.{put_cases}
+
+module _ {A B : Type 0} (f : A → B) (d : B) where
+  abbrev pub seen_at : List A → ℕ → B
+  seen_at xs i = get_or (map f xs) i d
+
+  pub read_at : (xs : List A) (i : ℕ) (x : A) → i < length xs → x ≡ get_or xs i x → seen_at xs i
+      ≡ f x
+  read_at xs i x h is = get_or-map f xs i x d h ∙ ap f (sym is)
+
+  map_set : (xs : List A) (i : ℕ) (y : A) → map f (set xs i y) ≡ set (map f xs) i (f y)
+  map_set [] i y = refl
+  map_set (x ∷ xs) zero y = refl
+  map_set (x ∷ xs) (suc i) y = ap (λ (ys : List B). f x ∷ ys) (map_set xs i y)
+
+  pub written_at : (xs : List A) (i : ℕ) (y : A) → i < length xs → seen_at (set xs i y) ≡ put_at
+      (seen_at xs) i (f y)
+  written_at xs i y h = λ k j. each j k
+    where
+      each : (j : ℕ) → seen_at (set xs i y) j ≡ put_at (seen_at xs) i (f y) j
+      each j = put_cases (λ z. seen_at (set xs i y) j ≡ z) (seen_at xs) i j (f y)
+          (λ here. ap (λ (ys : List B). get_or ys j d) (map_set xs i y) ∙
+          (subst (λ (n : ℕ). get_or (set (map f xs) i (f y)) n d ≡ f y) (sym here)
+          (get_or-set_same (map f xs) i (f y) d (rw length-map h))))
+          (λ other. ap (λ (ys : List B). get_or ys j d) (map_set xs i y) ∙ get_or-set_other
+          (map f xs) i j (f y) d other)
+
+pub slots_written : (h : Parts) (i : ℕ) (x y : SlotState) (z : Slot → Slot)
+    → i < length h.slots.items → x ≡ get_or h.slots.items i x → slot_of y ≡ z (slot_of x) →
+    core_of (record { slots = with_item h.slots i y; seats = h.seats }) ≡ with_slot (core_of h) i
+    (z ((core_of h).slots i))
+slots_written h i x y z within is e =
+    let r = read_at slot_of blank_slot h.slots.items i x within is in
+    let w = written_at slot_of blank_slot h.slots.items i y within ∙ ap
+    (λ (v : Slot). put_at (core_of h).slots i v) (e ∙ ap z (sym r)) in
+    λ k. record {
+      slot_count = (core_of h).slot_count;
+      seat_count = (core_of h).seat_count;
+      slots = w k;
+      seats = (core_of h).seats;
+    }
+
+pub seats_written : (h : Parts) (s : ℕ) (q p : SeatEntry) (z : Seat → Seat)
+    → s < length h.seats.items → q ≡ get_or h.seats.items s q → seat_of p ≡ z (seat_of q) →
+    core_of (record { slots = h.slots; seats = with_item h.seats s p }) ≡ with_seat (core_of h) s
+    (z ((core_of h).seats s))
+seats_written h s q p z within is e =
+    let r = read_at seat_of idle_seat h.seats.items s q within is in
+    let w = written_at seat_of idle_seat h.seats.items s p within ∙ ap
+    (λ (v : Seat). put_at (core_of h).seats s v) (e ∙ ap z (sym r)) in
+    λ k. record {
+      slot_count = (core_of h).slot_count;
+      seat_count = (core_of h).seat_count;
+      slots = (core_of h).slots;
+      seats = w k;
+    }
+
+-- a place that keeps its value
+pub put_same : {A : Type 0} (f : ℕ → A) (i : ℕ) → put_at f i (f i) ≡ f
+put_same {A} f i = λ k j. each j k
+  where
+    each : (j : ℕ) → put_at f i (f i) j ≡ f j
+    each j = put_cases (λ z. z ≡ f j) f i j (f i) (λ e. ap f (sym e)) (λ _. refl)
+
+pub same_seat : (c : machine.Core) (s : ℕ) → with_seat c s (c.seats s) ≡ c
+same_seat c s = λ k. record {
+  slot_count = c.slot_count;
+  seat_count = c.seat_count;
+  slots = c.slots;
+  seats = put_same c.seats s k;
+}

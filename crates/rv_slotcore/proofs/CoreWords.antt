@@ -1,0 +1,234 @@
+-- The state word under one exchange.
+use Rattle.std.proofs.Common.{◌≡◌, ◌≢◌, ℕ, zero, suc, ◌+◌, ◌*◌, ◌/◌, ◌%◌, ◌^◌, ◌<◌, ◌≤◌, Bool}
+use Rattle.std.proofs.Common.{true, false, ◌&&◌, ◌==◌, List, bit_and, bit_or, not, sym}
+use Rattle.std.proofs.Common.{refl, ap, ◌∙◌, subst, arith, ⊎_elim, eq-eqb, ne_eqb, zero-mul}
+use Rattle.std.proofs.lemmas.Bool.{ltb-true, lt-ltb, eqb-true, cases_lt}
+use Rattle.std.specs.Prelude.{nat_lt, nat_eq}
+use Rattle.std.proofs.Common.{true≢false, w64}
+use Rattle.std.specs.Int.{bit_at, bit_not}
+use Rattle.std.specs.Int.Bits.{or_zero_r}
+use Rattle.std.proofs.Math.Nat.{div-eq_of_lt}
+use Rattle.std.proofs.lemmas.Nat.{or_shr, pow_below, pow_pos, and_le_l}
+use Rattle.std.proofs.lemmas.Nat.Bits.{bit_at_or, bit_at-pow_same, bit_at-pow_other, bit_at-lt}
+use Rattle.std.proofs.lemmas.Nat.Bits.{and_pow, bit_at_clear_same, bit_at_clear_other}
+use Rattle.std.proofs.lemmas.Nat.Bits.{bit_at_above}
+use Rattle.std.proofs.lemmas.Nat.Bits.{same_from_bits, bit_at_cat_low, bit_at-zero}
+use Rattle.rv_slotcore.specs.Places.{seats_at_most, claimed_bit, full_bit, done_bit}
+use Rattle.rv_slotcore.specs.Places.{generation_bit}
+use Rattle.rv_slotcore.specs.Machine.{Slot, flag, word_of, put_at, claimed_slot, full_slot}
+use Rattle.rv_slotcore.specs.Machine.{done_slot, pinned_slot, freed_slot}
+use Rattle.rv_slotcore.specs.Word.{Reads}
+use Rattle.rv_slotcore.proofs.Words.{one_word, word_reads, high_bit}
+use Rattle.rv_slotcore.proofs.Updates.{put_cases}
+use Rattle.rv_slotcore.specs.CoreIs.{slot_read}
+
+pub or_here : (w k : ℕ) → bit_at (bit_or w (2 ^ k)) k ≡ 1
+or_here w k = let a = bit_at_or w (2 ^ k) k in let b = bit_at-pow_same k in let l = bit_at-lt w k
+    in
+    omega arith
+
+pub or_else : (w k i : ℕ) → i ≢ k → bit_at (bit_or w (2 ^ k)) i ≡ bit_at w i
+or_else w k i n = let a = bit_at_or w (2 ^ k) i in let b = bit_at-pow_other k i n in omega arith
+
+pub or_high : (w k : ℕ) → k < generation_bit → bit_or w (2 ^ k) / 2 ^ generation_bit
+    ≡ w / 2 ^ generation_bit
+or_high w k h = or_shr w (2 ^ k) generation_bit ∙
+    (ap (λ (z : ℕ). bit_or (w / 2 ^ generation_bit) z)
+    (div-eq_of_lt (pow_below k generation_bit h)) ∙ or_zero_r
+    (w / 2 ^ generation_bit))
+
+one_is : (n : ℕ) → n ≡ 1 → (n == 1) ≡ true
+one_is n e = eq-eqb n 1 e
+
+same : (n m : ℕ) → n ≡ m → (n == 1) ≡ (m == 1)
+same n m e = ap (λ (z : ℕ). z == 1) e
+
+same_pin : (n m s : ℕ) → (s < seats_at_most → n ≡ m) → (nat_lt s seats_at_most && (n == 1)) ≡
+    (nat_lt s seats_at_most && (m == 1))
+same_pin n m s e = pin_if (nat_lt s seats_at_most)
+    (λ t. same n m (e (ltb-true s seats_at_most t)))
+  where
+    pin_if : (b : Bool) → (b ≡ true → (n == 1) ≡ (m == 1)) → (b && (n == 1)) ≡ (b && (m == 1))
+    pin_if true f = f refl
+    pin_if false f = refl
+
+same_slot : (a b : Slot) → a.generation ≡ b.generation → a.claimed ≡ b.claimed → a.full ≡ b.full
+    → a.done ≡ b.done → ((s : ℕ) → a.pins s ≡ b.pins s) → a.content ≡ b.content → a ≡ b
+same_slot a b g c f d p w = λ k. record {
+  generation = g k;
+  claimed = c k;
+  full = f k;
+  done = d k;
+  pins = λ s. p s k;
+  content = w k;
+}
+
+module _ (w : ℕ) (content : List ℕ) where
+  pub claimed_word : slot_read (bit_or w (2 ^ claimed_bit)) content ≡ claimed_slot
+      (slot_read w content)
+  claimed_word = same_slot _ _ (or_high w claimed_bit (omega arith))
+      (one_is _ (or_here w claimed_bit))
+      (same _ _ (or_else w claimed_bit full_bit (λ e. omega arith)))
+      (same _ _ (or_else w claimed_bit done_bit (λ e. omega arith)))
+      (λ s. same_pin _ _ s (λ h. or_else w claimed_bit s (λ e. omega arith))) refl
+
+  pub full_word : slot_read (bit_or w (2 ^ full_bit)) content ≡ full_slot (slot_read w content)
+  full_word = same_slot _ _ (or_high w full_bit (omega arith))
+      (same _ _ (or_else w full_bit claimed_bit (λ e. omega arith)))
+      (one_is _ (or_here w full_bit))
+      (same _ _ (or_else w full_bit done_bit (λ e. omega arith)))
+      (λ s. same_pin _ _ s (λ h. or_else w full_bit s (λ e. omega arith))) refl
+
+  pub done_word : slot_read (bit_or w (2 ^ done_bit)) content ≡ done_slot (slot_read w content)
+  done_word = same_slot _ _ (or_high w done_bit (omega arith))
+      (same _ _ (or_else w done_bit claimed_bit (λ e. omega arith)))
+      (same _ _ (or_else w done_bit full_bit (λ e. omega arith))) (one_is _ (or_here w done_bit))
+      (λ s. same_pin _ _ s (λ h. or_else w done_bit s (λ e. omega arith))) refl
+
+one_from : (n : ℕ) → n < 2 → (n ≡ 0 → ⊥) → n ≡ 1
+one_from zero h n = absurd (n refl)
+one_from (suc k) h n = omega arith
+
+not_both : (p : ℕ) → 0 < p → 1 * p ≡ 0 → ⊥
+not_both p h e = omega arith
+
+-- the test of a bit by a mask
+pub bit_set : (w k : ℕ) → (bit_and w (2 ^ k) ≡ 0 → ⊥) → (bit_at w k == 1) ≡ true
+bit_set w k n = let m : bit_and w (2 ^ k) ≡ bit_at w k * 2 ^ k = and_pow w k in let l =
+    bit_at-lt w k in one_is (bit_at w k)
+    (one_from (bit_at w k) l (λ z. n (m ∙ ap (λ (t : ℕ). t * 2 ^ k) z ∙ zero-mul (2 ^ k))))
+
+pub bit_clear : (w k : ℕ) → bit_and w (2 ^ k) ≡ 0 → (bit_at w k == 1) ≡ false
+bit_clear w k e = let m : bit_and w (2 ^ k) ≡ bit_at w k * 2 ^ k = and_pow w k in let l =
+    bit_at-lt w k in let p = pow_pos k in
+    ne_eqb (bit_at w k) 1
+    (λ one. not_both (2 ^ k) p (ap (λ (t : ℕ). t * 2 ^ k) (sym one) ∙ (sym m ∙ e)))
+
+pub mask_is : (w k : ℕ) → not (nat_eq (bit_and w (2 ^ k)) 0) ≡ (bit_at w k == 1)
+mask_is w k = go (nat_eq (bit_and w (2 ^ k)) 0) refl
+  where
+    go : (b : Bool) → nat_eq (bit_and w (2 ^ k)) 0 ≡ b → not b ≡ (bit_at w k == 1)
+    go true e = sym (bit_clear w k (eqb-true _ 0 e))
+    go false e = sym (bit_set w k (λ z. true≢false (sym (eq-eqb _ 0 z) ∙ e)))
+
+flag_of_bit : (n : ℕ) → n < 2 → n ≡ flag (n == 1)
+flag_of_bit zero h = refl
+flag_of_bit (suc zero) h = refl
+flag_of_bit (suc (suc n)) h = absurd (omega arith)
+
+guarded : (b c : Bool) → b ≡ true → (b && c) ≡ c
+guarded true c e = refl
+guarded false c e = absurd (true≢false (sym e))
+
+reads_itself : (w : ℕ) (content : List ℕ) → Reads w (slot_read w content)
+reads_itself w content = record {
+  generation = refl;
+  claimed = flag_of_bit _ (bit_at-lt w claimed_bit);
+  full = flag_of_bit _ (bit_at-lt w full_bit);
+  done = flag_of_bit _ (bit_at-lt w done_bit);
+  pins = λ s h. flag_of_bit _ (bit_at-lt w s) ∙ ap flag
+      (sym (guarded (nat_lt s seats_at_most) (bit_at w s == 1) (lt-ltb s seats_at_most h)));
+}
+
+-- the word of the slot that a word says is the word
+pub word_back : (w : ℕ) (content : List ℕ) → word_of (slot_read w content) ≡ w
+word_back w content = one_word (word_of (slot_read w content)) w (slot_read w content)
+    (word_reads (slot_read w content)) (reads_itself w content)
+
+-- ---- the own bit
+pin_put : (w v s : ℕ) (b : Bool) (f : ℕ → Bool) → s < seats_at_most → ((bit_at v s == 1) ≡ b) →
+    ((k : ℕ) → k < seats_at_most → k ≢ s → bit_at v k ≡ bit_at w k) →
+    (k : ℕ) → (nat_lt k seats_at_most && (bit_at v k == 1)) ≡ put_at
+    (λ k. nat_lt k seats_at_most && (bit_at w k == 1)) s b k
+pin_put w v s b f h here else k = put_cases (λ z. (nat_lt k seats_at_most && (bit_at v k == 1))
+    ≡ z)
+    (λ k. nat_lt k seats_at_most && (bit_at w k == 1)) s k b
+    (λ e. subst (λ (n : ℕ). (nat_lt n seats_at_most && (bit_at v n == 1)) ≡ b) (sym e)
+    (guarded (nat_lt s seats_at_most) (bit_at v s == 1) (lt-ltb s seats_at_most h) ∙ here))
+    (λ n. same_pin (bit_at v k) (bit_at w k) k (λ l. else k l n))
+
+pub pinned_word : (w : ℕ) (content : List ℕ) (s : ℕ) → s < seats_at_most → slot_read
+    (bit_or w (2 ^ s)) content
+    ≡ pinned_slot (slot_read w content) s true
+pinned_word w content s h = same_slot _ _ (or_high w s (omega arith))
+    (same _ _ (or_else w s claimed_bit (λ e. omega arith)))
+    (same _ _ (or_else w s full_bit (λ e. omega arith)))
+    (same _ _ (or_else w s done_bit (λ e. omega arith)))
+    (pin_put w (bit_or w (2 ^ s)) s true (λ k. true) h (one_is _ (or_here w s))
+    (λ k l n. or_else w s k n)) refl
+
+pub one_shl : (s : ℕ) → s < seats_at_most → 1 * 2 ^ s % 2 ^ 64 ≡ 2 ^ s
+one_shl s h = let b : 2 ^ s < 2 ^ 64 = pow_below s 64 (omega arith) in small (2 ^ s) b
+  where
+    small : (p : ℕ) → p < 18446744073709551616 → 1 * p % 18446744073709551616 ≡ p
+    small p h = omega arith
+
+-- the word with bit k clear
+abbrev pub cleared : ℕ → ℕ → ℕ
+cleared w k = bit_and w (bit_not w64 (2 ^ k))
+
+pub cleared_here : (w k : ℕ) → k < seats_at_most → bit_at (cleared w k) k ≡ 0
+cleared_here w k h = subst (λ (m : ℕ). bit_at (bit_and w (bit_not w64 m)) k ≡ 0) (one_shl k h)
+    (bit_at_clear_same w64 w k (omega arith))
+
+pub cleared_else : (w k i : ℕ) → k < seats_at_most → i < 64 → i ≢ k
+    → bit_at (cleared w k) i ≡ bit_at w i
+cleared_else w k i h l n =
+    subst (λ (m : ℕ). bit_at (bit_and w (bit_not w64 m)) i ≡ bit_at w i) (one_shl k h)
+    (bit_at_clear_other w64 w k (omega arith) i l n)
+
+le_then_lt : {a b c : ℕ} → a ≤ b → b < c → a < c
+le_then_lt l m = omega arith
+
+cleared_bit_high : (w k i : ℕ) → k < seats_at_most → w < 18446744073709551616 → bit_at
+    (cleared w k / 2 ^ generation_bit) i
+    ≡ bit_at (w / 2 ^ generation_bit) i
+cleared_bit_high w k i h small = high_bit (cleared w k) i ∙ (⊎_elim
+    (λ low. cleared_else w k (generation_bit + i) h low (λ e. omega arith))
+    (λ high. let l = and_le_l w (bit_not w64 (2 ^ k)) in bit_at_above (cleared w k) 64
+    (generation_bit + i) (le_then_lt l small) high ∙ sym
+    (bit_at_above w 64 (generation_bit + i) small high))
+    (cases_lt (generation_bit + i) 64) ∙ sym (high_bit w i))
+
+pub cleared_high : (w k : ℕ) → k < seats_at_most → w < 18446744073709551616
+    → cleared w k / 2 ^ generation_bit ≡ w / 2 ^ generation_bit
+cleared_high w k h small = same_from_bits (cleared w k / 2 ^ generation_bit)
+    (w / 2 ^ generation_bit) (λ i. cleared_bit_high w k i h small)
+
+none_is : (n : ℕ) → n ≡ 0 → (n == 1) ≡ false
+none_is n e = ap (λ (z : ℕ). z == 1) e
+
+pub unpinned_word : (w : ℕ) (content : List ℕ) (s : ℕ) → s < seats_at_most
+    → w < 18446744073709551616
+    → slot_read (cleared w s) content ≡ pinned_slot (slot_read w content) s false
+unpinned_word w content s h small = same_slot _ _
+    (same_from_bits (cleared w s / 2 ^ generation_bit) (w / 2 ^ generation_bit)
+    (λ i. cleared_bit_high w s i h small))
+    (same _ _ (cleared_else w s claimed_bit h (omega arith) (λ e. omega arith)))
+    (same _ _ (cleared_else w s full_bit h (omega arith) (λ e. omega arith)))
+    (same _ _ (cleared_else w s done_bit h (omega arith) (λ e. omega arith)))
+    (pin_put w (cleared w s) s false (λ k. true) h (none_is _ (cleared_here w s h))
+    (λ k l n. cleared_else w s k h (omega arith) n)) refl
+
+-- ---- the next generation
+none_low : (g k : ℕ) → k < generation_bit → bit_at (g * 2 ^ generation_bit) k ≡ 0
+none_low g k h = let e : g * 2 ^ generation_bit + 0 ≡ g * 2 ^ generation_bit = omega arith in
+    subst
+    (λ (z : ℕ). bit_at z k ≡ 0) e (bit_at_cat_low g generation_bit 0 k h ∙ bit_at-zero k)
+
+guarded_none : (b c : Bool) → (b ≡ true → c ≡ false) → (b && c) ≡ false
+guarded_none true c e = e refl
+guarded_none false c e = refl
+
+pub freed_word : (w : ℕ) (content : List ℕ) → slot_read
+    ((w / 2 ^ generation_bit + 1) * 2 ^ generation_bit) content
+    ≡ freed_slot (slot_read w content)
+freed_word w content = let g : ℕ = w / 2 ^ generation_bit + 1 in same_slot _ _ (shr_back g)
+    (none_is _ (none_low g claimed_bit (omega arith)))
+    (none_is _ (none_low g full_bit (omega arith)))
+    (none_is _ (none_low g done_bit (omega arith)))
+    (λ s. guarded_none (nat_lt s seats_at_most) _
+    (λ t. let l = ltb-true s seats_at_most t in none_is _ (none_low g s (omega arith)))) refl
+  where
+    shr_back : (g : ℕ) → g * 2 ^ generation_bit / 2 ^ generation_bit ≡ g
+    shr_back g = omega arith

@@ -1,0 +1,12 @@
+pub mod Updates
+pub mod Invariant
+pub mod Law
+pub mod Words
+pub mod Run
+pub mod CorePlaces
+pub mod CoreWords
+pub mod CoreActs
+pub mod Held
+pub mod Wholeness
+pub mod Starting
+pub mod Running

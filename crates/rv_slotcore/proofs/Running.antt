@@ -1,0 +1,43 @@
+-- A run of the code is a run of the machine.
+use Rattle.std.proofs.Common.{◌≡◌, ℕ, ◌+◌, ◌<◌, List, [], ◌∷◌, ◌++◌, length, map, take, get_or}
+use Rattle.std.proofs.Common.{refl, sym, ap, ◌∙◌}
+use Rattle.std.proofs.lemmas.List.{take_more, map-append}
+use Rattle.rv_slotcore.specs.Machine.{run, answers, after, answer, moves}
+use Rattle.rv_slotcore.specs.Machine as machine
+use Rattle.rv_slotcore.specs.CoreIs.{step_of, answer_of}
+use Rattle.rv_slotcore.specs.declared.step.Step.{Step}
+use Rattle.rv_slotcore.specs.declared.step.Answer.{Answer}
+use Rattle.rv_slotcore.proofs.Updates.{run-append}
+
+answers-append : (es fs : List machine.Step) (c : machine.Core) → answers (es ++ fs) c
+    ≡ answers es c ++ answers fs (run es c)
+answers-append [] fs c = refl
+answers-append (e ∷ es) fs c = ap (λ told. answer c e ∷ told) (answers-append es fs (after c e))
+
+module _ (all : List Step) (k : ℕ) (d : Step) (from : machine.Core) where
+  abbrev first : List machine.Step
+  first = map step_of (take k all)
+
+  abbrev next : machine.Step
+  next = step_of (get_or all k d)
+
+  one_more : k < length all → map step_of (take (k + 1) all) ≡ first ++ next ∷ []
+  one_more low = ap (map step_of) (take_more all k d low) ∙ map-append step_of (take k all)
+      (get_or all k d ∷ [])
+
+  pub core_more : k < length all → (c e : machine.Core) → c ≡ run first from → e ≡ after c next
+      → e ≡ run (map step_of (take (k + 1) all)) from
+  core_more low c e ran is =
+      is ∙ (ap (λ x. after x next) ran ∙
+      (sym (run-append first (next ∷ []) from) ∙ ap (λ es. run es from) (sym (one_more low))))
+
+  pub told_more : k < length all → (c : machine.Core) (told more : List Answer) (a : Answer) → c
+      ≡ run first from
+      → map answer_of told ≡ answers first from → answer_of a ≡ answer c next → more ≡ told ++ a
+      ∷ []
+      → map answer_of more ≡ answers (map step_of (take (k + 1) all)) from
+  told_more low c told more a ran old is added =
+      ap (map answer_of) added ∙ (map-append answer_of told (a ∷ [])
+      ∙ ((λ i. old i ++ (is ∙ ap (λ x. answer x next) ran) i ∷ [])
+      ∙ (sym (answers-append first (next ∷ []) from) ∙ ap (λ es. answers es from)
+      (sym (one_more low)))))

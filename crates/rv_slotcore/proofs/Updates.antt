@@ -1,0 +1,24 @@
+-- A function with one value changed, and runs.
+use Rattle.std.proofs.Common.{◌≡◌, ◌≢◌, ℕ, if◌then◌else◌, List, [], ◌∷◌}
+use Rattle.std.proofs.Common.{◌++◌, sym, refl, subst, eq-eqb, ne_eqb}
+use mathlib.Core.Logic.{dite}
+use native.Mathlib.Decide.{ℕ_discrete}
+use Rattle.rv_slotcore.specs.Machine.{Core, Step, put_at, run, after}
+
+module _ {A : Type 0} where
+  pub put_cases : (P : A → Type 0) (f : ℕ → A) (i k : ℕ) (x : A) → (k ≡ i → P x) →
+      (k ≢ i → P (f k))
+      → P (put_at f i x k)
+  put_cases P f i k x same other = dite (ℕ_discrete k i)
+      (λ e. subst (λ b. P (if b then x else f k)) (sym (eq-eqb k i e)) (same e))
+      (λ n. subst (λ b. P (if b then x else f k)) (sym (ne_eqb k i n)) (other n))
+
+  pub put_here : (f : ℕ → A) (i : ℕ) (x : A) → put_at f i x i ≡ x
+  put_here f i x = put_cases (λ z. z ≡ x) f i i x (λ _. refl) (λ n. absurd (n refl))
+
+  pub put_else : (f : ℕ → A) (i k : ℕ) (x : A) → k ≢ i → put_at f i x k ≡ f k
+  put_else f i k x n = put_cases (λ z. z ≡ f k) f i k x (λ e. absurd (n e)) (λ _. refl)
+
+pub run-append : (es fs : List Step) (c : Core) → run (es ++ fs) c ≡ run fs (run es c)
+run-append [] fs c = refl
+run-append (e ∷ es) fs c = run-append es fs (after c e)

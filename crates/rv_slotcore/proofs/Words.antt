@@ -1,0 +1,144 @@
+-- The state word and its bits.
+use Rattle.rv_slotcore.specs.Places.{seats_at_most, claimed_bit, full_bit, done_bit}
+use Rattle.rv_slotcore.specs.Places.{generation_bit}
+use Rattle.std.proofs.Common.{◌≡◌, ◌≢◌, ℕ, zero, suc, ◌+◌, ◌-◌, ◌*◌, ◌/◌, ◌%◌, ◌^◌, ◌<◌, ◌≤◌}
+use Rattle.std.proofs.Common.{Bool, true, false, ◌&&◌, sym, refl, ap, ◌∙◌}
+use Rattle.std.proofs.Common.{subst, arith, shr-shr, ⊎_elim, pow-suc, eqb-true}
+use Rattle.std.proofs.Common.{true≢false}
+use Rattle.std.specs.Int.{bit_at}
+use Rattle.std.proofs.lemmas.Bool.{cases_lt, cases_eq}
+use Rattle.std.proofs.lemmas.Nat.{or_shr, and_shr, pow_below, shr_high, pow_pos}
+use Rattle.std.proofs.lemmas.Nat.Bits.{bit_at_or, bit_at_and, bit_at-pow_same, bit_at-pow_other}
+use Rattle.std.proofs.lemmas.Nat.Bits.{bit_at-lt, bit_at_clear_same, bit_at_clear_other}
+use Rattle.std.proofs.lemmas.Nat.Bits.{same_from_bits, bit_at_above, bit_at_cat_low}
+use Rattle.std.proofs.lemmas.Nat.Bits.{bit_at_cat_high}
+use Rattle.rv_slotcore.specs.Machine.{Slot, flag, pin_bits, word_of}
+use Rattle.rv_slotcore.specs.Machine.{is_free_word}
+use Rattle.rv_slotcore.specs.Word.{Reads}
+
+flag_bit : (b : Bool) → bit_at (flag b) 0 ≡ flag b
+flag_bit true = refl
+flag_bit false = refl
+
+flag_small : (b : Bool) → flag b < 2
+flag_small true = omega arith
+flag_small false = omega arith
+
+room : (b : Bool) (p r t : ℕ) → r < p → t ≡ 2 * p → flag b * p + r < t
+room true p r t h e = omega arith
+room false p r t h e = omega arith
+
+pin_bits_small : (f : ℕ → Bool) (k : ℕ) → pin_bits f k < 2 ^ k
+pin_bits_small f zero = omega arith
+pin_bits_small f (suc k) = let r = pin_bits_small f k in let p = pow-suc 2 k in room (f k) (2 ^ k)
+    (pin_bits f k) (2 ^ suc k) r (p ∙ omega arith)
+
+pub pin_bit : (f : ℕ → Bool) (k s : ℕ) → s < k → bit_at (pin_bits f k) s ≡ flag (f s)
+pin_bit f zero s h = absurd (omega arith)
+pin_bit f (suc k) s h = ⊎_elim
+    (λ below. bit_at_cat_low (flag (f k)) k (pin_bits f k) s below ∙ pin_bit f k s below)
+    (λ at. let is : s ≡ k = omega arith in subst
+    (λ (z : ℕ). bit_at (flag (f k) * 2 ^ k + pin_bits f k) z ≡ flag (f z)) (sym is)
+    (bit_at_cat_high (flag (f k)) k (pin_bits f k) k (pin_bits_small f k) (omega arith) ∙
+    (ap (λ (z : ℕ). bit_at (flag (f k)) z) (let e : k - k ≡ 0 = omega arith in e) ∙ flag_bit
+    (f k))))
+    (cases_lt s k)
+
+abbrev flags : Bool → Bool → Bool → ℕ
+flags d f c = flag d * 4 + (flag f * 2 + flag c)
+
+flags_are : (d f c : Bool) → (bit_at (flags d f c) 0 ≡ flag c) × (bit_at (flags d f c) 1 ≡ flag f)
+    ×
+    (bit_at (flags d f c) 2 ≡ flag d) × (flags d f c < 8)
+flags_are true true true = (refl, refl, refl, omega arith)
+flags_are true true false = (refl, refl, refl, omega arith)
+flags_are true false true = (refl, refl, refl, omega arith)
+flags_are true false false = (refl, refl, refl, omega arith)
+flags_are false true true = (refl, refl, refl, omega arith)
+flags_are false true false = (refl, refl, refl, omega arith)
+flags_are false false true = (refl, refl, refl, omega arith)
+flags_are false false false = (refl, refl, refl, omega arith)
+
+low_small : (a p : ℕ) → a < 8 → p < 2 ^ claimed_bit → a * 2 ^ claimed_bit + p < 2 ^ generation_bit
+low_small a p h l = omega arith
+
+pub word_reads : (x : Slot) → Reads (word_of x) x
+word_reads x = let a : ℕ = flags x.done x.full x.claimed in let p : ℕ =
+    pin_bits x.pins seats_at_most in
+    let f = flags_are x.done x.full x.claimed in let ps = pin_bits_small x.pins seats_at_most in
+    let low =
+    low_small a p f.3 ps in record {
+      generation = shr_high x.generation generation_bit (a * 2 ^ claimed_bit + p) low;
+      claimed = bit_at_cat_low x.generation generation_bit (a * 2 ^ claimed_bit + p) claimed_bit
+          (omega arith) ∙
+          (bit_at_cat_high a claimed_bit p claimed_bit ps (omega arith) ∙ f.0);
+      full = bit_at_cat_low x.generation generation_bit (a * 2 ^ claimed_bit + p) full_bit
+          (omega arith) ∙
+          (bit_at_cat_high a claimed_bit p full_bit ps (omega arith) ∙ f.1);
+      done = bit_at_cat_low x.generation generation_bit (a * 2 ^ claimed_bit + p) done_bit
+          (omega arith) ∙
+          (bit_at_cat_high a claimed_bit p done_bit ps (omega arith) ∙ f.2);
+      pins = λ s h. bit_at_cat_low x.generation generation_bit (a * 2 ^ claimed_bit + p) s
+          (omega arith) ∙
+          (bit_at_cat_low a claimed_bit p s h ∙ pin_bit x.pins seats_at_most s h);
+    }
+
+pub high_bit : (w i : ℕ) → bit_at (w / 2 ^ generation_bit) i ≡ bit_at w (generation_bit + i)
+high_bit w i = ap (λ (z : ℕ). z % 2) (shr-shr w generation_bit i)
+
+between : (i : ℕ) → claimed_bit ≤ i → i ≢ claimed_bit → i ≢ full_bit → i ≢ done_bit
+    → i < generation_bit → ⊥
+between i a b c d e = omega arith
+
+same_bit : (a b : ℕ) (x : Slot) → Reads a x → Reads b x → (i : ℕ) → bit_at a i ≡ bit_at b i
+same_bit a b x r t i = ⊎_elim (λ pin. r.pins i pin ∙ sym (t.pins i pin)) (λ over. ⊎_elim
+    (λ low. ⊎_elim
+    (λ at_claimed. subst (λ (z : ℕ). bit_at a z ≡ bit_at b z) (sym at_claimed)
+    (r.claimed ∙ sym t.claimed))
+    (λ not. ⊎_elim (λ at_full. subst (λ (z : ℕ). bit_at a z ≡ bit_at b z) (sym at_full)
+    (r.full ∙ sym t.full))
+    (λ nor. ⊎_elim (λ at_done. subst (λ (z : ℕ). bit_at a z ≡ bit_at b z) (sym at_done)
+    (r.done ∙ sym t.done)) (λ neither. absurd (between i over not nor neither low))
+    (cases_eq i done_bit)) (cases_eq i full_bit)) (cases_eq i claimed_bit))
+    (λ high. let e : generation_bit + (i - generation_bit) ≡ i = omega arith in subst
+    (λ (z : ℕ). bit_at a z ≡ bit_at b z) e
+    (sym (high_bit a (i - generation_bit)) ∙
+    (ap (λ (z : ℕ). bit_at z (i - generation_bit)) (r.generation ∙ sym t.generation) ∙ high_bit b
+    (i - generation_bit))))
+    (cases_lt i generation_bit)) (cases_lt i seats_at_most)
+
+-- one slot has one word
+pub one_word : (a b : ℕ) (x : Slot) → Reads a x → Reads b x → a ≡ b
+one_word a b x r t = same_from_bits a b (same_bit a b x r t)
+
+pub both_true : (a b : Bool) → a && b ≡ true → (a ≡ true) × (b ≡ true)
+both_true true true e = (refl, refl)
+both_true true false e = (refl, e)
+both_true false b e = absurd (true≢false (sym e))
+
+pub flag_one : (b : Bool) → flag b ≡ 1 → b ≡ true
+flag_one true e = refl
+flag_one false e = absurd (omega arith)
+
+pub flag_none : (b : Bool) → flag b ≡ 0 → b ≡ false
+flag_none true e = absurd (omega arith)
+flag_none false e = refl
+
+low_clear : (n t : ℕ) → n % 2 ^ claimed_bit ≡ 0 → t < seats_at_most → bit_at n t ≡ 0
+low_clear n t e h = let a : ℕ = n / 2 ^ claimed_bit in let is : a * 2 ^ claimed_bit + 0 ≡ n =
+    omega arith in
+    subst (λ (z : ℕ). bit_at z t ≡ 0) is
+    (bit_at_cat_low a claimed_bit 0 t h ∙ Rattle.std.proofs.lemmas.Nat.Bits.bit_at-zero t)
+
+-- a word that may be freed says claimed, full, done and no pin
+pub free_word : (seen : ℕ) (x : Slot) → is_free_word seen ≡ true → Reads seen x →
+    (x.claimed ≡ true)
+    × (x.full ≡ true) × (x.done ≡ true) × ((t : ℕ) → t < seats_at_most → x.pins t ≡ false)
+free_word seen x e r = let o = both_true _ _ e in let l = both_true _ _ o.0 in let h =
+    both_true _ _ o.1 in (
+      flag_one x.claimed (sym r.claimed ∙ eqb-true (bit_at seen claimed_bit) 1 l.1),
+      flag_one x.full (sym r.full ∙ eqb-true (bit_at seen full_bit) 1 h.0),
+      flag_one x.done (sym r.done ∙ eqb-true (bit_at seen done_bit) 1 h.1),
+      λ t b. flag_none (x.pins t)
+          (sym (r.pins t b) ∙ low_clear seen t (eqb-true (seen % 2 ^ claimed_bit) 0 l.0) b),
+    )

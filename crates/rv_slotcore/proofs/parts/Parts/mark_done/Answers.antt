@@ -1,0 +1,12 @@
+use Rattle.std.proofs.Common.{sym, ap, ◌∙◌}
+use Rattle.rv_slotcore.specs.Machine.{Slot, with_slot, done_slot}
+use Rattle.rv_slotcore.specs.CoreIs.{core_of}
+use Rattle.rv_slotcore.proofs.CoreWords.{done_word}
+use Rattle.rv_slotcore.proofs.parts.Parts.mark_done.Goals as goal
+
+pub returns : goal.returns
+returns c =
+    let m = core_of c.args.self.now in
+    c.set_word.ensures ∙ ap (λ (y : Slot). with_slot m c.args.slot y)
+    (done_word c.word.result (m.slots c.args.slot).content ∙ ap done_slot
+    (sym c.word.ensures.read))

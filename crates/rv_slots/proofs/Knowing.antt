@@ -1,0 +1,110 @@
+-- What the rule says of the seat that steps.
+use Rattle.rv_slotcore.specs.Places.{seats_at_most}
+use Rattle.std.proofs.Common.{◌≡◌, ◌⊎◌, ℕ, zero, suc, ◌<◌, List, [], ◌∷◌}
+use Rattle.std.proofs.Common.{length, slice_index_or, Contains, Option, refl, ap, ◌∙◌, subst}
+use Rattle.std.proofs.Common.{arith, inl, inr, ⊎_elim}
+use mathlib.Core.Option.{some}
+use lib.ListN.{get_elem?}
+use Rattle.atomic_table.specs.Table.{State, Me}
+use Rattle.rv_slotcore.specs.Machine.{Core, run, start}
+use Rattle.rv_slotcore.specs.Machine as core
+use Rattle.rv_slotcore.proofs.Invariant.{Safe}
+use Rattle.rv_slotcore.proofs.Run.{run_keeps, start_safe}
+use Rattle.rv_slots.specs.declared.views.View.{View}
+use Rattle.rv_slots.specs.declared.views.Record.{Record}
+use Rattle.rv_slots.specs.declared.views.SeatView.{SeatView}
+use Rattle.rv_slots.specs.declared.views.SeatState.TheVariants.{Idle, Filling, Pinned, Stray}
+use Rattle.rv_slots.specs.Lines.{the_view}
+use Rattle.rv_slots.specs.Knows.{IsAlone}
+use Rattle.rv_slots.specs.Rule.{Fits, Kept, RecordFits, RecordsFit, shown}
+use Rattle.rv_slots.proofs.Seating.{one, seat_is}
+
+pub shown_idle : (st : core.SeatState) → Idle ≡ shown st → st ≡ core.Idle
+shown_idle core.Idle e = refl
+shown_idle (core.Filling i p) e = absurd (cc)
+shown_idle (core.Pinned i g w) e = absurd (cc)
+shown_idle (core.Stray i) e = absurd (cc)
+
+-- what the rule says of the seat that steps
+pub record Knows {n : ℕ} {s : State (Unit {0}) View} (k : Kept n s) (id : ℕ)
+    (p : SeatView) : Type 0 where
+  pub here : get_elem? s.views id ≡ some (one p)
+  pub small : p.number < seats_at_most
+  pub is : k.seat p.number ≡ p
+  pub fits : Fits p (k.core.seats p.number)
+
+pub knows : (n : ℕ) (s : State (Unit {0}) View) (k : Kept n s) (id q : ℕ)
+    (me : Me (Unit {0}) View) → IsAlone q me → get_elem? s.views id ≡ some me.0 → Knows k id
+    (the_view me.0)
+knows n s k id q me a at = let p : SeatView = the_view me.0 in let here : get_elem? s.views id
+    ≡ some (one p) = at ∙ ap (λ (m : Me (Unit {0}) View). some m.0) a.one in
+    let is = seat_is s.views k.seat k.row k.column k.seated id p here in
+    record {
+      here = here;
+      small = is.0;
+      is = is.3;
+      fits = subst
+          (λ z. Fits z (k.core.seats p.number)) is.3 (k.fits p.number is.0);
+    }
+
+pub shown_pinned : (st : core.SeatState) (i g : ℕ) → Pinned i g ≡ shown st → (w : List ℕ) ×
+    (st ≡ core.Pinned i g w)
+shown_pinned core.Idle i g e = absurd (cc)
+shown_pinned (core.Filling k p) i g e = absurd (cc)
+shown_pinned (core.Pinned k h w) i g e = let a : k ≡ i = cc in let b : h ≡ g = cc in
+    (w, λ j. core.Pinned (a j) (b j) w)
+shown_pinned (core.Stray k) i g e = absurd (cc)
+
+pub shown_stray : (st : core.SeatState) (i : ℕ) → Stray i ≡ shown st → st ≡ core.Stray i
+shown_stray core.Idle i e = absurd (cc)
+shown_stray (core.Filling k p) i e = absurd (cc)
+shown_stray (core.Pinned k h w) i e = absurd (cc)
+shown_stray (core.Stray k) i e = let a : k ≡ i = cc in ap core.Stray a
+
+pub shown_filling : (st : core.SeatState) (i : ℕ) (p : List (Option ℕ)) → Filling i p ≡ shown st
+    → st ≡ core.Filling i p
+shown_filling core.Idle i p e = absurd (cc)
+shown_filling (core.Filling k r) i p e = let a : k ≡ i = cc in let b : r ≡ p = cc in
+    (λ j. core.Filling (a j) (b j))
+shown_filling (core.Pinned k h w) i p e = absurd (cc)
+shown_filling (core.Stray k) i p e = absurd (cc)
+
+-- what the law says of the machine's state
+pub safe_of : (n : ℕ) (s : State (Unit {0}) View) (k : Kept n s) → Safe k.core
+safe_of n s k = subst Safe k.reached.1
+    (run_keeps k.reached.0 (start n seats_at_most) (start_safe n seats_at_most (omega arith)))
+
+-- ---- lists
+module _ {A : Type 0} where
+  pub in_head : (r : A) (rs : List A) → Contains (r ∷ rs) r
+  in_head r rs = (0, omega arith, refl)
+
+  pub in_tail : (x r : A) (rs : List A) → Contains rs r → Contains (x ∷ rs) r
+  in_tail x r rs c = let h = c.1 in (suc c.0, omega arith, c.2)
+
+  in_cons_at : (x r : A) (rs : List A) (k : ℕ) → k < length (x ∷ rs) → slice_index_or (x ∷ rs) k r
+      ≡ r → (x ≡ r) ⊎ Contains rs r
+  in_cons_at x r rs zero h e = inl e
+  in_cons_at x r rs (suc k) h e = inr (k, omega arith, e)
+
+  pub in_cons : (x r : A) (rs : List A) → Contains (x ∷ rs) r → (x ≡ r) ⊎ Contains rs r
+  in_cons x r rs c = in_cons_at x r rs c.0 c.1 c.2
+
+-- a record of the machine's seat stands in the view, and the other way round
+pub fit_back : (rs : List Record) (qs : List core.Record) (q : core.Record) → RecordsFit rs qs
+    → Contains qs q → (r : Record) × Contains rs r × RecordFits r q
+fit_back [] [] q f c = let l = c.1 in absurd (omega arith)
+fit_back [] (y ∷ qs) q f c = absurd f
+fit_back (x ∷ rs) [] q f c = absurd f
+fit_back (x ∷ rs) (y ∷ qs) q f c = ⊎_elim
+    (λ e. (x, in_head x rs, subst (λ z. RecordFits x z) e f.0))
+    (λ d. let o = fit_back rs qs q f.1 d in (o.0, in_tail x o.0 rs o.1, o.2)) (in_cons y q qs c)
+
+pub fit_there : (rs : List Record) (qs : List core.Record) (r : Record) → RecordsFit rs qs
+    → Contains rs r → (q : core.Record) × Contains qs q × RecordFits r q
+fit_there [] [] r f c = let l = c.1 in absurd (omega arith)
+fit_there [] (y ∷ qs) r f c = absurd f
+fit_there (x ∷ rs) [] r f c = absurd f
+fit_there (x ∷ rs) (y ∷ qs) r f c = ⊎_elim
+    (λ e. (y, in_head y qs, subst (λ z. RecordFits z y) e f.0))
+    (λ d. let o = fit_there rs qs r f.1 d in (o.0, in_tail y o.0 qs o.1, o.2)) (in_cons x r rs c)

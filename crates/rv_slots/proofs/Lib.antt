@@ -1,0 +1,15 @@
+pub mod Words
+pub mod Seating
+pub mod Knowing
+pub mod Told
+pub mod ClaimSteps
+pub mod UnpinSteps
+pub mod PinSteps
+pub mod FillSteps
+pub mod EndSteps
+pub mod GetSteps
+pub mod Places
+pub mod OpenSteps
+pub mod SaysSo
+pub mod Loops
+pub mod Numbered

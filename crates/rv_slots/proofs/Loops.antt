@@ -1,0 +1,62 @@
+-- What the calls of a carrier come to: the loops that put and get 58 words, and a pin let go.
+use Rattle.std.proofs.Common.{◌≡◌, ℕ, suc, ◌+◌, ◌<◌, ◌≤◌, true, List, []}
+use Rattle.std.proofs.Common.{◌∷◌, length, get_or, set, Option, Some, None, sym, refl, ap, ◌∙◌}
+use Rattle.std.proofs.Common.{subst, arith, get_or-set_other, ⊎_elim, drop}
+use Rattle.std.proofs.lemmas.Grind.{get_or-set_at}
+use Rattle.std.proofs.lemmas.Bool.{cases_eq}
+use Rattle.rv_slotcore.specs.Machine.{all_put, put_words}
+use Rattle.rv_slots.specs.declared.views.Record.{Record}
+use Rattle.rv_slots.specs.declared.views.SeatView.{SeatView}
+use Rattle.rv_slots.specs.Lines.{pin_words, got_in}
+use Rattle.rv_slots.specs.Knows.{pin_record}
+use Rattle.rv_slots.specs.declared.seats.Seat.{Seat}
+use Rattle.rv_slots.specs.declared.seats.Free.{Free}
+use Rattle.rv_slots.specs.Calls.{IsUnpin, IsFree}
+use Rattle.rv_slots.specs.Carried.{IsLetGo}
+use Rattle.rv_slots.specs.Carrying.{HasWords}
+
+pub has_none : (ws : List (Option ℕ)) (xs : List ℕ) → HasWords ws xs 0
+has_none ws xs m h = absurd (omega arith)
+
+-- one word more, which the list has at that place
+pub has_more : (ws vs : List (Option ℕ)) (xs ys : List ℕ) (j w : ℕ) → length ws ≡ 58 → j < 58
+    → HasWords ws xs j → vs ≡ set ws j (Some w) → get_or ys j 0 ≡ w →
+    ((m : ℕ) → m < j → get_or ys m 0 ≡ get_or xs m 0) → HasWords vs ys (j + 1)
+has_more ws vs xs ys j w long within h is here same m l = ap
+    (λ (z : List (Option ℕ)). get_or z m None) is ∙ ⊎_elim
+    (λ e. get_or-set_at ws j m (Some w) None e (omega arith) ∙
+    (ap Some (sym here) ∙ ap (λ (u : ℕ). Some (get_or ys u 0)) (sym e)))
+    (λ ne. get_or-set_other ws j m (Some w) None ne ∙
+    (h m (omega arith) ∙ ap Some (sym (same m (omega arith)))))
+    (cases_eq m j)
+
+pub all_there : (ws : List (Option ℕ)) (xs : List ℕ) → length ws ≡ length xs → HasWords ws xs
+    (length ws) → (all_put ws ≡ true) × (put_words ws ≡ xs)
+all_there [] [] l h = (refl, refl)
+all_there [] (x ∷ xs) l h = absurd (omega arith)
+all_there (w ∷ ws) [] l h = absurd (omega arith)
+all_there (None ∷ ws) (x ∷ xs) l h = let e : None ≡ Some x = h 0 (omega arith) in absurd (cc)
+all_there (Some w ∷ ws) (x ∷ xs) l h = let e : Some w ≡ Some x = h 0 (omega arith) in let is : w
+    ≡ x = cc in let r = all_there ws xs (omega arith) (λ m lt. h (suc m) (omega arith)) in
+    (r.0, λ i. is i ∷ r.1 i)
+
+pub pin_words_is : (p : SeatView) → p.records ≡ pin_record p ∷ drop 1 p.records
+    → pin_words p.records ≡ (pin_record p).words
+pin_words_is p e = ap pin_words e
+
+pub got_words : (p : SeatView) (j w : ℕ) → p.records ≡ pin_record p ∷ drop 1 p.records → pin_words
+    (got_in p.records j w) ≡ set (pin_words p.records) j (Some w)
+got_words p j w e = ap (λ (l : List Record). pin_words (got_in l j w)) e ∙ ap
+    (λ (l : List (Option ℕ)). set l j (Some w)) (sym (pin_words_is p e))
+
+-- 58 words that are there are all
+pub put_all : (ws : List (Option ℕ)) (xs : List ℕ) (j : ℕ) → 58 ≤ j → j ≤ 58 → length ws ≡ 58
+    → length xs ≡ 58 → HasWords ws xs j → (all_put ws ≡ true) × (put_words ws ≡ xs)
+put_all ws xs j past end long wide has =
+    let n : j ≡ length ws = omega (arith, long) in
+    all_there ws xs (long ∙ sym wide) (subst (HasWords ws xs) n has)
+
+pub let_go : (p : SeatView) (i j n m : ℕ) (u : Seat) (seen : ℕ) (answer : Free) (r : Seat)
+    → j ≡ i → m ≡ n → IsUnpin p j m u seen → IsFree u i seen answer r → IsLetGo p i n r
+let_go p i j n m u seen answer r e f step free =
+    (u, seen, subst (λ (z : ℕ × ℕ). IsUnpin p z.0 z.1 u seen) (λ k. (e k, f k)) step, answer, free)

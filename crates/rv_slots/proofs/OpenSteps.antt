@@ -1,0 +1,99 @@
+-- The loop of `new`.
+use Rattle.rv_slotcore.specs.Places.{last_seat, seats_at_most}
+use Rattle.std.proofs.Common.{◌≡◌, ◌⊎◌, ℕ, zero, suc, ◌+◌, ◌-◌, ◌*◌, ◌<◌, ◌≤◌, List, [], ◌∷◌}
+use Rattle.std.proofs.Common.{◌++◌, length, sym, refl, ap, ◌∙◌, subst, arith, ⊎_elim}
+use Rattle.std.proofs.Common.{length-append, replicate}
+use Rattle.atomic_table.specs.Table.{Me, Splits}
+use Rattle.atomic_table.specs.Seated.{TableId}
+use Rattle.rv_slots.specs.declared.views.View.{View}
+use Rattle.rv_slots.specs.declared.seats.Seat.{Seat}
+use Rattle.rv_slots.specs.Lines.{the_view, fresh, fresh_seats, cut_left, cut_right, only}
+use Rattle.rv_slots.specs.Knows.{IsIdle}
+use Rattle.rv_slots.specs.Calls.{view_of}
+use Rattle.rv_slots.specs.Opening.{AreSeats}
+use Rattle.rv_slots.specs.Rule.{Kept}
+use Rattle.rv_slots.proofs.Places.{cuts, in_longer}
+
+abbrev pub Mine : Type 0
+Mine = Me (Unit {0}) View
+
+pub rest_is : (k : ℕ) → k ≤ last_seat → fresh_seats (seats_at_most - k) ≡ fresh k ∷ fresh_seats
+    (last_seat - k)
+rest_is k h = let e : seats_at_most - k ≡ suc (last_seat - k) = omega arith in let f : last_seat -
+    (last_seat - k) ≡ k = omega arith in ap fresh_seats e ∙ ap
+    (λ (z : ℕ). fresh z ∷ fresh_seats (last_seat - k)) f
+
+pub next_cuts : (n id k : ℕ) (m : Mine) → k ≤ last_seat → m ≡
+    (record { seats = fresh_seats (seats_at_most - k) }, []) → Splits (Kept n) id m.0
+    (cut_left m.0) (cut_right m.0)
+next_cuts n id k m h e = cuts n id m.0 (fresh k) (fresh_seats (last_seat - k))
+    (ap (λ (z : Mine). z.0) e ∙ (λ j. record { seats = rest_is k h j }))
+
+pub left_is : (k : ℕ) (m w : Mine) → k ≤ last_seat → m ≡
+    (record { seats = fresh_seats (seats_at_most - k) }, []) → w ≡ (cut_left m.0, m.1) → w ≡ only
+    (fresh k)
+left_is k m w h e f = f ∙
+    ((λ j. (cut_left (e j).0, (e j).1)) ∙
+    (λ j. (cut_left (record { seats = rest_is k h j }), [])))
+
+pub right_is : (k : ℕ) (m w : Mine) → k ≤ last_seat → m ≡
+    (record { seats = fresh_seats (seats_at_most - k) }, []) → w ≡ (cut_right m.0, []) → w ≡
+    (record { seats = fresh_seats (last_seat - k) }, [])
+right_is k m w h e f = f ∙
+    ((λ j. (cut_right (e j).0, [])) ∙ (λ j. (cut_right (record { seats = rest_is k h j }), [])))
+
+pub idle_fresh : (k : ℕ) (w : Mine) → k ≤ last_seat → w ≡ only (fresh k) → IsIdle k w
+idle_fresh k w h e = record {
+  alone = record {
+    small = omega arith;
+    one = e ∙ (λ j. only (the_view (sym e j).0));
+    named = ap
+        (λ (z : Mine). (the_view z.0).number) e;
+  };
+  state = ap (λ (z : Mine). (the_view z.0).state) e;
+}
+
+pub more_seats : (t : TableId) (l : List Seat) (k : ℕ) (s : Seat) → AreSeats t l k
+    → s.place.table_id ≡ t → s.number ≡ k → s.place.me ≡ only (fresh k) → AreSeats t (l ++ s ∷ [])
+    (k + 1)
+more_seats t l k s a same named e = let n = a.0 in (
+  length-append l (s ∷ []) ∙ (let f : length l + 1 ≡ k + 1 = omega arith in f),
+  λ j z at. ⊎_elim
+      (λ last. let is : j ≡ k = last.0 ∙ n in (
+        ap (λ (y : Seat). y.place.table_id) (sym last.1)
+            ∙ same,
+        ap (λ (y : Seat). y.number) (sym last.1) ∙ (named ∙ sym is),
+        ap view_of
+            (sym last.1) ∙ (ap (λ (y : Mine). the_view y.0) e ∙ ap fresh (sym is)),
+      ))
+      (λ old. a.1 j z old.1) (in_longer l s z j at),
+)
+
+pub seats_pushed : (t : TableId) (l m : List Seat) (k : ℕ) (s : Seat) → m ≡ l ++ s ∷ []
+    → AreSeats t l k → s.place.table_id ≡ t → s.number ≡ k → s.place.me ≡ only (fresh k)
+    → AreSeats t m (k + 1)
+seats_pushed t l m k s is a same named e = subst (λ (z : List Seat). AreSeats t z (k + 1))
+    (sym is) (more_seats t l k s a same named e)
+
+-- within the list the default doesn't matter
+at_default : (l : List Seat) (j : ℕ) (d : Seat) → j < length l
+    → Rattle.std.proofs.Common.get_or l j d ≡ Rattle.std.proofs.Common.get_or l j
+    (Rattle.std.proofs.Common.get_or l j d)
+at_default [] j d h = absurd (omega arith)
+at_default (x ∷ l) zero d h = refl
+at_default (x ∷ l) (suc j) d h = at_default l j d (omega arith)
+
+pub all_ours : (t : TableId) (l : List Seat) (k : ℕ) → AreSeats t l k
+    → Rattle.std.proofs.Common.All (λ (s : Seat). s.place.table_id ≡ t) l
+all_ours t l k a j d h =
+    (a.1 j (Rattle.std.proofs.Common.get_or l j d)
+    (Rattle.atomic_table.proofs.Lists.at_index l j (Rattle.std.proofs.Common.get_or l j d) h
+    (at_default l j d h))).0
+
+-- what `pop` took, and what it left
+pub popped : {X : Type 0} (P : X → Type 0) (xs ys : List X)
+    (r : Rattle.std.proofs.Common.Option X) (x : X) → xs ≡ ys
+    ++ Rattle.std.proofs.Common.option_to_list r → r ≡ Rattle.std.proofs.Common.Some x
+    → Rattle.std.proofs.Common.All P xs → P x × Rattle.std.proofs.Common.All P ys
+popped P xs ys r x e is all = let o = Rattle.std.proofs.lemmas.List.Elements.All-pop P xs ys r e
+    all in (subst (λ z. Rattle.std.proofs.Common.IfSome z P) is o.1, o.0)

@@ -1,0 +1,12 @@
+use Rattle.std.proofs.Common.{◌≡◌}
+use Rattle.rv_slots.specs.Calls.{filling_view}
+use Rattle.rv_slots.specs.Lines.{put_in}
+use Rattle.rv_slots.specs.Carrying.{HasWords}
+use Rattle.rv_slots.specs.Carried.{IsSameBook}
+use Rattle.rv_slots.proofs.slots.Slots.fill.Given as goal
+
+abbrev pub invariant-loop-place : goal.invariant-loop-place
+invariant-loop-place l = (l.filling.place.table_id ≡ l.self.table.shared.table_id)
+    × HasWords (put_in (filling_view l.filling).state) l.words l.place
+    × IsSameBook (filling_view l.fn.filling) (filling_view l.filling)
+    × (l.filling.slot ≡ l.fn.filling.slot)

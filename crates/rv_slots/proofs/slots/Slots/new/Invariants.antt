@@ -1,0 +1,10 @@
+use Rattle.rv_slotcore.specs.Places.{last_seat, seats_at_most}
+use Rattle.std.proofs.Common.{◌≡◌, ◌≤◌, ◌-◌, []}
+use Rattle.rv_slots.specs.Opening.{AreSeats}
+use Rattle.rv_slots.specs.Lines.{fresh_seats}
+use Rattle.rv_slots.proofs.slots.Slots.new.Given as goal
+
+abbrev pub invariant-loop-number : goal.invariant-loop-number
+invariant-loop-number l = (l.rest.table_id ≡ l.table.shared.table_id) ×
+    (l.rest.me ≡ (record { seats = fresh_seats (seats_at_most - l.number) }, []))
+    × AreSeats l.table.shared.table_id l.seats.items l.number × (l.number ≤ last_seat)

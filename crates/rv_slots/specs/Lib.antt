@@ -1,0 +1,13 @@
+pub mod Rule
+pub mod Lines
+pub mod Knows
+pub mod Calls
+pub mod Opening
+pub mod Steps
+pub mod Looks
+pub mod Carried
+pub mod Says
+pub mod Carrying
+pub mod Here
+pub mod Held
+pub mod Leases

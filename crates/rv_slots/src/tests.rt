@@ -1,0 +1,3 @@
+//! Both carriers, and the table call by call.
+mod locked;
+mod table;

@@ -1,6 +1,0 @@
-use Rattle.rvmon.proofs.run.Goals as goal
-use Rattle.clap.specs.Walk.{texts}
-use Rattle.rvmon.proofs.Ends.{ends_asked}
-
-pub returns-in-Ok : goal.returns-in-Ok
-returns-in-Ok c = ends_asked (texts c.args.words.now) c.in-Ok.asked c.answer.result c.in-Ok.ensures.answer c.answer.ensures
