@@ -1,14 +1,10 @@
 -- What the comparison with what was read says of the sources.
-use Rattle.std.proofs.Common.{◌≡◌, ℕ, suc, zero, ◌+◌, ◌<◌, ◌≤◌, true, false, List, [], ◌∷◌, ◌++◌, length, map, take, drop, get_or, All, Option, Some, None, IfSome, Result, Ok, Err, IfOk, IfErr, refl, sym, ap, ◌∙◌, subst, append_assoc, append-nil, arith}
+use Rattle.std.proofs.Common.{◌≡◌, ℕ, suc, zero, ◌<◌, List, [], ◌∷◌, ◌++◌, length, map, take, drop, get_or, All, Option, Some, None, IfSome, Result, Ok, Err, IfOk, IfErr, refl, sym, ap, ◌∙◌, subst, append_assoc, arith}
 use Rattle.std.specs.Prelude.{IsSome}
 use Rattle.std.proofs.lemmas.Bool.{false≢true}
 use Rattle.std.proofs.lemmas.Option.{none-some}
 use Rattle.std.proofs.lemmas.List.{take-append-drop, get_or-map, length-map}
-use Rattle.std.proofs.lemmas.List.Elements.{All-get_or}
-use Rattle.rv_event.specs.Log.{events}
-use Rattle.rv_event.specs.Orders.{Lawful}
 use Rattle.rv_event.specs.Merges.{SameSources}
-use Rattle.rv_event.specs.WellFormed.{WellFormed}
 use Rattle.rv_event.specs.declared.event.Event.{Event}
 use Rattle.rv_event.specs.declared.event.Entry.{Entry}
 use Rattle.rv_event.specs.declared.fault.Fault.{Fault as EventFault}
@@ -16,14 +12,13 @@ use Rattle.rv_event.specs.declared.memory_model.MemoryModel.{MemoryModel}
 use Rattle.rv_event.proofs.LawfulMerge.{Lawful-merge}
 use Rattle.rv_event.proofs.Pushed.{WellFormed-front}
 use Rattle.rv_event.proofs.Sources.{SameHarts-from_sources, WellFormed-sources}
-use Rattle.rv_cert.specs.Refusals.{Refusal, IsFinal, IsMalformed}
+use Rattle.rv_cert.specs.Refusals.{Refusal, IsMalformed}
 use Rattle.rv_book.specs.Chunked.{entries_of, given_by, IsPrefix}
 use Rattle.rv_book.specs.Counts.{operations_of, waiting_of}
 use Rattle.rv_trace.specs.Source.{Stream}
-use Rattle.rv_trace.specs.declared.fault.TraceFault.{TraceFault}
 use Rattle.rv_report.specs.declared.outcome.Outcome.{Outcome}
 use Rattle.rv_report.specs.declared.outcome.Outcome.TheVariants.{Allowed, Forbidden, Malformed}
-use Rattle.rv_run.specs.Comparisons.{AgreesWith, IsBegun, IsBegunIn, IsFaultIn, IsWholeIn}
+use Rattle.rv_run.specs.Comparisons.{AgreesWith, IsBegun, IsFaultIn}
 use Rattle.rv_run.specs.Feeds.{IsFedOf, IsEndOf}
 use Rattle.rv_run.specs.Replays.{IsConsistent, IsReplayed, IsAllowed}
 use Rattle.rv_run.specs.Sources.{AreWellFormed, EndsIn, HasReadAll, IsAllOf, IsFaultAmong, IsForbidden, IsPartOf, IsTrueOf}
@@ -33,7 +28,7 @@ use Rattle.rv_run.specs.declared.feeding.Fed.{Fed}
 use Rattle.rv_run.specs.declared.feeding.FeedEnd.{FeedEnd}
 use Rattle.rv_run.specs.declared.feeding.FeedEnd.TheVariants as end
 use Rattle.rv_run.proofs.Exact.{continued, exactly_allowed}
-use Rattle.rv_run.proofs.Merging.{GoesOn, goes-on, low-together, merge-of, together}
+use Rattle.rv_run.proofs.Merging.{goes-on, low-together, merge-of, together}
 use Rattle.rv_run.proofs.Weighing.{length-merge, operations-merge, waiting-merge}
 
 -- sources that end whole, with these events

@@ -7,7 +7,6 @@ use Rattle.rv_trace.specs.Source.{Stream, source_says}
 use Rattle.rv_trace.specs.Trace.{IsWhole}
 use Rattle.rv_trace.specs.declared.fault.TraceFault.{TraceFault}
 use Rattle.rv_run.specs.declared.feeding.Fed.{Fed}
-use Rattle.rv_run.specs.declared.feeding.FeedEnd.{FeedEnd}
 use Rattle.rv_run.specs.declared.feeding.FeedEnd.TheVariants.{Whole, Stopped, Fault, NoMemory}
 use Rattle.rv_run.specs.Feeds.{IsFedOf, IsEndOf}
 use Rattle.rv_run.specs.Sources.{IsAllOf, EndsIn}

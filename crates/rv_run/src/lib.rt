@@ -42,3 +42,4 @@ pub use replaying::replay;
 pub use running::{Settings, run};
 pub use rv_report::Outcome;
 pub use serving::{ServeEnd, Served, serve};
+pub use step::InStep;

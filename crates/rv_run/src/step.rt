@@ -25,7 +25,7 @@ const ENDED: u64 = u64::MAX;
 
 /// A carrier and a gate that are used together, with the number of chunks that each source has placed.
 #[derive(Drop)]
-pub(crate) struct InStep<C, G> {
+pub struct InStep<C, G> {
     carrier: C,
     gate: G,
     placed: [AtomicU64; 8],
@@ -33,7 +33,7 @@ pub(crate) struct InStep<C, G> {
 
 impl<C: Drop, G: Drop> InStep<C, G> {
     /// The two, for so many sources that are being read.
-    pub(crate) fn new(carrier: C, gate: G, sources: u8) -> InStep<C, G>
+    pub fn new(carrier: C, gate: G, sources: u8) -> InStep<C, G>
         ensures carrier { result.carrier ≡ carrier }
         ensures gate { result.gate ≡ gate }
     {
@@ -46,7 +46,7 @@ impl<C: Drop, G: Drop> InStep<C, G> {
     }
 
     /// The gate, once nobody shares them.
-    pub(crate) fn into_gate(self) -> G
+    pub fn into_gate(self) -> G
         ensures { result ≡ self.gate }
     {
         self.gate

@@ -1,4 +1,4 @@
-use Rattle.std.proofs.Common.{◌≡◌, ◌+◌, ◌≤◌, ◌<◌, length, take, ap, sym, ◌∙◌, arith}
+use Rattle.std.proofs.Common.{take, ap, sym, ◌∙◌, arith}
 use Rattle.rv_run.proofs.GivenBy.{given-next, given-other}
 use Rattle.rv_run.proofs.comparing.count_first.Goals.{then-entry-source+else-count-events+else-not-is_same, else-entry-source}
 use Rattle.rv_run.proofs.comparing.count_first.Goals as goal

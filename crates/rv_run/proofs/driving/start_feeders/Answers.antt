@@ -1,4 +1,4 @@
-use Rattle.std.specs.Prelude.{◌≡◌, ℕ, ◌+◌, ◌<◌, All, get_or, vec_items, vec_len}
+use Rattle.std.specs.Prelude.{◌≡◌, ◌+◌, get_or, vec_items, vec_len}
 use Rattle.std.proofs.Common.{rules, arith, below_more, ap, ◌∙◌}
 use Rattle.rv_run.proofs.driving.start_feeders.Goals as goal
 

@@ -1,4 +1,4 @@
-use Rattle.std.specs.Prelude.{◌≡◌, ℕ, ◌+◌, ◌<◌, ◌≤◌, All, get_or, vec_items, vec_len}
+use Rattle.std.specs.Prelude.{◌≡◌, ℕ, ◌+◌, ◌<◌, All, get_or, vec_items, vec_len}
 use Rattle.rv_run.proofs.driving.start_workers.Given as goal
 
 abbrev pub invariant-loop-worker : goal.invariant-loop-worker

@@ -1,5 +1,5 @@
 use Rattle.std.proofs.Common.{length, ap, ◌∙◌}
-use Rattle.rv_run.proofs.Appended.{appending-begin, appending-turn, appending-end}
+use Rattle.rv_run.proofs.Appended.{appending-begin, appending-turn}
 use Rattle.rv_run.proofs.feeding.append.Goals as goal
 
 pub loop-event-init : goal.loop-event-init

@@ -1,5 +1,4 @@
-use Rattle.std.proofs.Common.{◌≡◌, List, ap, sym, ◌∙◌, rules}
-use Rattle.rv_event.specs.declared.event.Entry.{Entry}
+use Rattle.std.proofs.Common.{◌≡◌, ap, sym, ◌∙◌, rules}
 use Rattle.rv_cert.specs.Verdicts.{model_of}
 use Rattle.rv_run.specs.Comparisons.{IsBegun}
 use Rattle.rv_run.proofs.Refused.{forbidden-agrees, malformed-agrees}
