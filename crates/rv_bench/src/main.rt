@@ -5,18 +5,44 @@
 //! - `placing`: the order keeper, over placements without and with successors.
 //! - `stepping`: sources in threads, in step and not.
 //!
-//! `rt run` in this folder prints each cost as the least of many runs, which take turns. `docs/BENCHMARKS.md` has what was
-//! seen.
+//! `rt run` in this folder builds it; `out/rv_bench reading placing stepping` then prints each cost as the least of many
+//! runs. `docs/BENCHMARKS.md` has what was seen.
 #![tactic(auto)]
 
 mod placing;
 mod reading;
 mod stepping;
 
-use std::io;
+use std::sync::Wait;
+use std::thread::Threads;
+use std::{env, io};
+
+/// Measures what a word names. The threads are those of the second handle.
+fn measure<RT: Threads + Wait + Sync>(
+    rt: &HostRuntime,
+    threads: &RT,
+    word: &str,
+) -> io::Result<()> {
+    match word {
+        "reading" => reading::report(rt),
+        "placing" => placing::report(rt),
+        "stepping" => stepping::report(rt, threads),
+        _ => println!(rt; "rv_bench: no benchmark {word}"),
+    }
+}
+
+/// Measures what the words name, one after another.
+fn measure_all<RT: Threads + Wait + Sync>(rt: &HostRuntime, threads: &RT) -> io::Result<()> {
+    let words = env::args(rt)?;
+    if words.len() <= 1 {
+        return println!(rt; "usage: rv_bench [reading] [placing] [stepping]");
+    }
+    for word in words.skip(1) {
+        measure(rt, threads, word.as_str())?;
+    }
+    Ok(())
+}
 
 fn main(rt: HostRuntime) -> io::Result<()> {
-    reading::report(&rt)?;
-    placing::report(&rt)?;
-    stepping::report(&rt, &rt)
+    measure_all(&rt, &rt)
 }
