@@ -1,16 +1,18 @@
 -- A log with one more entry, and its verdicts.
-use Rattle.std.proofs.Common.{◌≡◌, ◌<◌, List, [], ◌∷◌, ◌++◌, length, None, sym, ap, ◌∙◌, subst, arith, Bool}
+use Rattle.std.proofs.Common.{◌≡◌, ◌<◌, List, [], ◌∷◌, ◌++◌, length, Option, Some, None, refl, sym, ap, ◌∙◌, subst, arith, Bool}
 use Rattle.std.proofs.lemmas.List.{map-append, length-map, length_push}
 use Rattle.rv_event.specs.Log.{events}
 use Rattle.rv_event.specs.Orders.{Lawful}
 use Rattle.rv_event.specs.WellFormed.{WellFormed}
-use Rattle.rv_event.specs.Faults.{fault_of, event_fault, first_faults, source_fault, deps_fault}
-use Rattle.rv_event.proofs.Indexed.{NoneOf, lowest-none, none-lowest}
+use Rattle.rv_event.specs.Faults.{fault_of, event_fault, first_faults, source_fault, deps_fault, lowest}
+use Rattle.rv_event.proofs.Indexed.{NoneOf, lowest-none, none-lowest, lowest-append_some, sound_of}
 use Rattle.rv_event.proofs.Pushed.{WellFormed-push}
 use Rattle.rv_event.proofs.Bounded.{length-WellFormed}
 use Rattle.rv_event.specs.declared.memory_model.MemoryModel.{MemoryModel}
 use Rattle.rv_event.specs.declared.event.Event.{Event}
 use Rattle.rv_event.specs.declared.event.Entry.{Entry}
+use Rattle.rv_event.specs.declared.fault.Fault.{Fault}
+use Rattle.std.proofs.lemmas.Option.{none-some}
 use Rattle.rv_cert.specs.Certificates.{Certifies}
 use Rattle.rv_cert.specs.Refusals.{Refusal}
 use Rattle.rv_cert.specs.declared.verdict.Verdict.TheVariants.{Forbidden}
@@ -25,6 +27,20 @@ event_sound log x none =
     let e : NoneOf (first_faults (events log) x.event ++ source_fault log x ∷ deps_fault x.event ∷ []) = lowest-none (first_faults (events log) x.event ++ source_fault log x ∷ deps_fault x.event ∷ []) none in
     none-lowest (first_faults (events log) x.event ++ deps_fault x.event ∷ [])
     (e.0, (e.1.0, (e.1.1.0, (e.1.1.1.0, (e.1.1.1.1.0, (e.1.1.1.1.1.0, (e.1.1.1.1.1.1.0, (e.1.1.1.1.1.1.1.1.0, tt))))))))
+
+-- nor has it one of its source, and its hart is one of sixteen
+pub source_sound : (log : List Entry) (x : Entry) → fault_of log x ≡ None → source_fault log x ≡ None
+source_sound log x none =
+    let e : NoneOf (first_faults (events log) x.event ++ source_fault log x ∷ deps_fault x.event ∷ []) = lowest-none (first_faults (events log) x.event ++ source_fault log x ∷ deps_fault x.event ∷ []) none in
+    e.1.1.1.1.1.1.1.0
+
+pub hart_sound : (log : List Entry) (x : Entry) → fault_of log x ≡ None → x.event.id.hart < 16
+hart_sound log x none = (sound_of (events log) x.event (event_sound log x none)).hart
+
+pub room_in : (log : List Entry) (x : Entry) → WellFormed log → fault_of log x ≡ None → length log < 65536
+room_in log x ok none =
+    let long = length-WellFormed (log ++ x ∷ []) (WellFormed-push log x ok none) in
+    omega (arith, long, length_push log x)
 
 pub room_of : (log : List Entry) (h : List Kept) (x : Entry) → WellFormed log → fault_of log x ≡ None → happened h ≡ events log → length h < 65536
 room_of log h x ok none same =
@@ -75,3 +91,27 @@ taken_of log new v w stopped now x is ok none by e lawful grew =
       log = grew ∙ ap (λ (b : Booked). b.log ++ x ∷ []) is;
       lawful = (order_of w.ranks w.ids, subst (λ (b : Booked). Lawful b.model (events (b.log ++ x ∷ [])) (order_of w.ranks w.ids)) is here);
     }
+
+-- ---- the faults one after another
+none_first : (xs ys : List (Option Fault)) → None ≡ lowest xs → lowest (xs ++ ys) ≡ lowest ys
+none_first [] ys e = refl
+none_first (None ∷ xs) ys e = none_first xs ys e
+none_first (Some f ∷ xs) ys e = absurd (none-some f e)
+
+module _ (log : List Entry) (x : Entry) where
+  pub first_of_faults : (f : Fault) → Some f ≡ lowest (first_faults (events log) x.event) → Some f ≡ fault_of log x
+  first_of_faults f e = lowest-append_some (first_faults (events log) x.event) (source_fault log x ∷ deps_fault x.event ∷ []) f e
+
+  pub source_of_faults : (f : Fault) → None ≡ lowest (first_faults (events log) x.event) → Some f ≡ source_fault log x → Some f ≡ fault_of log x
+  source_of_faults f none e =
+      ap (λ (o : Option Fault). lowest (o ∷ deps_fault x.event ∷ [])) e
+      ∙ sym (none_first (first_faults (events log) x.event) (source_fault log x ∷ deps_fault x.event ∷ []) none)
+
+  one : (o : Option Fault) → o ≡ lowest (o ∷ [])
+  one None = refl
+  one (Some f) = refl
+
+  pub deps_of_faults : None ≡ lowest (first_faults (events log) x.event) → None ≡ source_fault log x → deps_fault x.event ≡ fault_of log x
+  deps_of_faults none e =
+      one (deps_fault x.event) ∙ ap (λ (o : Option Fault). lowest (o ∷ deps_fault x.event ∷ [])) e
+      ∙ sym (none_first (first_faults (events log) x.event) (source_fault log x ∷ deps_fault x.event ∷ []) none)

@@ -4,3 +4,5 @@ pub mod Booked
 pub mod Nodes
 pub mod Counts
 pub mod Chunked
+pub mod Tallied
+pub mod Hinted

@@ -1,6 +1,6 @@
 //! A history whose memory operations stand in an order that every edge respects.
 ghost use Rattle.std.specs.Prelude.{◌≡◌, ◌≢◌, ◌<◌, ◌≤◌, ◌∷◌, [], None, IfOk, OnErr, length, map, ℕ, All, AllPairs};
-ghost use Rattle.rv_event.specs.Faults.{event_fault};
+ghost use Rattle.rv_event.specs.Faults.{event_fault, first_faults, lowest};
 ghost use Rattle.rv_event.specs.Operations.{IsMemory};
 ghost use Rattle.rv_event.specs.Orders.{Lawful};
 ghost use Rattle.rv_event.specs.Edges.{IsStale};
@@ -9,12 +9,14 @@ ghost use Rattle.rv_cert.specs.Certificates.{Certifies};
 ghost use Rattle.rv_edges.specs.Kept.{happened, grown};
 ghost use Rattle.rv_edges.specs.Histories.{IsLinked, kept_of, HasOwnEdge};
 ghost use Rattle.rv_book.specs.Arranged.{at, EachLeads, IsOwn, order_of};
+ghost use Rattle.rv_book.specs.Counts.{is_waiting};
 
 use crate::closing::close;
+use crate::hints::Hints;
 use crate::nodes::{ids_at, ids_of, nodes_of};
 use rv_cert::{Certificate, Circle};
 use rv_edges::{Around, History};
-use rv_event::{Event, Id, MemoryModel, NoMemory};
+use rv_event::{Event, Fault, Id, MemoryModel, NoMemory};
 use rv_rank::{Ranks, Refused};
 use std::alloc::Global;
 use std::marker::Model;
@@ -35,6 +37,7 @@ pub struct Arrangement {
     history: History,
     ranks: Ranks,
     ids: Vec<Id>,
+    hints: Hints,
 }
 
 impl Model for Arrangement {
@@ -72,6 +75,7 @@ impl Arrangement {
             history: History::new(alloc, model),
             ranks: Ranks::new(alloc),
             ids: Vec::new(alloc),
+            hints: Hints::new(alloc),
         }
     }
 
@@ -89,6 +93,22 @@ impl Arrangement {
     {
         let nodes = self.ranks.order()?;
         ids_at(self.alloc, self.ids.as_slice(), nodes.as_slice())
+    }
+
+    /// The first fault of the event over the history, up to a full hart.
+    pub fn first_fault(&self, event: &Event) -> Option<Fault>
+        ensures { result ≡ lowest (first_faults (happened self.now.history) event.now) }
+    {
+        self.history.first_fault(event)
+    }
+
+    /// Whether the event is a load that returned a version above 0 which no store of the history has written.
+    pub fn is_waiting(&self, event: &Event) -> bool
+        ensures { result ≡ is_waiting (happened self.now.history) event.now }
+    {
+        event.op.is_load()
+            && event.read != 0
+            && self.history.writer(event.word, event.read).is_none()
     }
 
     /// Adds the event where some order is lawful with it.
@@ -128,8 +148,19 @@ impl Arrangement {
         ensures unchanged { OnErr result (self.new ≡ self.old) }
     {
         self.ids.reserve(1)?;
-        let preds = nodes_of(self.alloc, self.ids.as_slice(), around.before.as_slice())?;
-        let succs = nodes_of(self.alloc, self.ids.as_slice(), around.after.as_slice())?;
+        self.hints.note(event.id, self.ids.len() as u32)?;
+        let preds = nodes_of(
+            self.alloc,
+            self.ids.as_slice(),
+            &self.hints,
+            around.before.as_slice(),
+        )?;
+        let succs = nodes_of(
+            self.alloc,
+            self.ids.as_slice(),
+            &self.hints,
+            around.after.as_slice(),
+        )?;
         self.history.push(event, around)?;
         match self.ranks.place(preds.as_slice(), succs.as_slice()) {
             Ok(_) => {

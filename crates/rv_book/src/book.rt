@@ -2,13 +2,15 @@
 ghost use Rattle.std.specs.Prelude.{◌≡◌, ◌++◌, ◌∷◌, [], IfOk, OnErr, IsFalse, IsTrue, length};
 ghost use Rattle.rv_book.specs.Counts.{operations_of, waiting_of};
 ghost use Rattle.rv_event.specs.Log.{events};
+ghost use Rattle.rv_event.specs.Faults.{fault_of};
 ghost use Rattle.rv_event.specs.Orders.{Lawful};
 ghost use Rattle.rv_event.specs.WellFormed.{WellFormed};
 
 use crate::arrangement::{Added, Arrangement};
-use crate::counts::{count_of_source, count_operations, count_waiting};
+use crate::counts::count_operations;
+use crate::tally::Tally;
 use rv_cert::{Evidence, Forbidden, Malformed, Verdict};
-use rv_event::{Chunk, Entry, Event, Id, MemoryModel, NoMemory, find_fault, unpack};
+use rv_event::{Chunk, Entry, Event, Fault, Id, MemoryModel, NoMemory, find_deps_fault, unpack};
 use std::alloc::Global;
 use std::marker::Model;
 
@@ -52,17 +54,20 @@ pub struct Book {
     alloc: Global,
     entries: Vec<Entry>,
     arrangement: Arrangement,
+    tally: Tally,
     stopped: bool,
 }
 
 impl Model for Book {
     ghost use Rattle.rv_book.specs.Booked.{Booked, IsBooked, booked_of};
+    ghost use Rattle.rv_book.specs.Tallied.{IsTallied};
 
     ghost Value = { Booked };
 
     ghost view = { λ b. booked_of b.entries.items b.arrangement b.stopped };
 
-    ghost invariant = { λ b. IsBooked b.entries.items b.arrangement };
+    ghost invariant = { λ b.
+        IsBooked b.entries.items b.arrangement × IsTallied b.entries.items b.tally.sources b.tally.counts };
 }
 
 impl Book {
@@ -81,6 +86,7 @@ impl Book {
             alloc,
             entries: Vec::new(alloc),
             arrangement,
+            tally: Tally::new(),
             stopped: false,
         }
     }
@@ -122,11 +128,15 @@ impl Book {
         count_operations(self.entries.as_slice())
     }
 
-    /// How many of them are loads whose store has not come. It takes no memory, and costs the square of the log's length.
+    /// How many of them are loads whose store has not come. It takes no memory, and costs one look-up for each entry.
     pub fn waiting(&self) -> usize
         ensures { result ≡ waiting_of self.now.log }
     {
-        count_waiting(self.entries.as_slice())
+        let arrangement = &self.arrangement;
+        self.entries
+            .iter()
+            .filter(|x| arrangement.is_waiting(&x.event))
+            .count()
     }
 
     /// The ids of the memory operations, in an order that is lawful for the log.
@@ -173,7 +183,7 @@ impl Book {
         if self.stopped {
             return ChunkOffer::Stopped;
         }
-        let count = count_of_source(self.entries.as_slice(), chunk.source());
+        let count = self.tally.count_of_source(chunk.source());
         let first = 8 * chunk.number() as usize;
         if count < first {
             return ChunkOffer::NotYet(count);
@@ -209,13 +219,26 @@ impl Book {
         ChunkOffer::Applied(count)
     }
 
+    /// The fault of the entry over the log.
+    fn fault(&self, entry: &Entry) -> Option<Fault>
+        ensures { result ≡ fault_of self.now.log entry.now }
+    {
+        if let Some(fault) = self.arrangement.first_fault(&entry.event) {
+            return Some(fault);
+        }
+        if let Some(fault) = self.tally.source_fault(entry) {
+            return Some(fault);
+        }
+        find_deps_fault(&entry.event)
+    }
+
     /// Takes the entry, or says why not.
     fn judge(&mut self, entry: &Entry) -> Result<Option<Verdict>, NoMemory>
         ensures judged { IfOk result (IsJudged self.old self.new entry.now) }
         ensures unchanged { OnErr result (self.new ≡ self.old) }
     {
         let model = self.arrangement.model();
-        if let Some(fault) = find_fault(self.entries.as_slice(), entry) {
+        if let Some(fault) = self.fault(entry) {
             let evidence = evidence_of(self.alloc, self.entries.as_slice(), entry)?;
             return Ok(Some(Verdict::Malformed(Malformed::new(model, evidence, fault))));
         }
@@ -226,6 +249,7 @@ impl Book {
         match added {
             Added::Taken => {
                 self.entries.push(copy).unwrap();
+                self.tally.add(entry);
                 Ok(None)
             }
             Added::Refused(certificate) => {

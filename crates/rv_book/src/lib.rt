@@ -5,7 +5,8 @@
 //! certificate that begins with the refused event. A refusal stops the book, and leaves log and order as they were.
 //!
 //! Inside, three layers: [`arrangement`] is a history whose memory operations are nodes of an order keeper, so that every
-//! edge goes forward; [`book`] adds the entries and the faults; [`closing`] and [`nodes`] make certificates and node lists.
+//! edge goes forward; [`book`] adds the entries and the faults, with what [`tally`] counts of the log; [`closing`] and
+//! [`nodes`] make certificates and node lists, the latter by [`hints`] that are looked at before they are believed.
 //!
 //! It stands on `rv_edges`, `rv_rank` and `rv_cert`. Its one contract to the others: the log is well formed, its order is
 //! lawful, and each answer is exact.
@@ -15,8 +16,10 @@ mod arrangement;
 mod book;
 mod closing;
 mod counts;
+mod hints;
 mod laws;
 mod nodes;
+mod tally;
 
 pub use book::{Book, ChunkOffer, Offer};
 pub use laws::chunks_continue;

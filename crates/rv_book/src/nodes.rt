@@ -1,15 +1,41 @@
 //! Nodes and ids: node k is the memory operation that came k-th.
-ghost use Rattle.std.specs.Prelude.{◌≡◌, ◌<◌, ◌∷◌, ℕ, IfOk, length, map, All};
+ghost use Rattle.std.specs.Prelude.{◌≡◌, ◌<◌, ◌∷◌, ℕ, IfOk, IsTrue, length, map, All};
 ghost use Rattle.std.specs.List.{Contains};
 ghost use Rattle.rv_event.specs.declared.reason.Link.{Link};
 ghost use Rattle.rv_book.specs.Arranged.{at};
 ghost use Rattle.rv_book.specs.Nodes.{HasNode, AreNodes};
 
+use crate::hints::Hints;
 use rv_event::{Id, Link, NoMemory};
 use std::alloc::Global;
 
-/// The node of the id.
-fn node_of(ids: &[Id], id: Id) -> u32
+/// The node of the id: the one that was noted for it, where that is right, and else the one that a search finds.
+fn node_of(ids: &[Id], hints: &Hints, id: Id) -> u32
+    requires has { HasNode ids.now id }
+    requires small { length ids.now < 65536 }
+    ensures low { result < length ids.now }
+    ensures named { at ids.now result ≡ id }
+{
+    if let Some(node) = hints.get(id) {
+        if is_at(ids, node, id) {
+            return node;
+        }
+    }
+    find_node(ids, id)
+}
+
+/// Whether the node is the id's.
+fn is_at(ids: &[Id], node: u32, id: Id) -> bool
+    ensures { IsTrue result → (node < length ids.now) × (at ids.now node ≡ id) }
+{
+    match ids.get(node as usize) {
+        Some(other) => *other == id,
+        None => false,
+    }
+}
+
+/// The node of the id, by a search.
+fn find_node(ids: &[Id], id: Id) -> u32
     requires has { HasNode ids.now id }
     requires small { length ids.now < 65536 }
     ensures low { result < length ids.now }
@@ -23,15 +49,20 @@ fn node_of(ids: &[Id], id: Id) -> u32
     unreachable!()
 }
 
-/// The nodes of the links' ids.
-pub fn nodes_of(alloc: Global, ids: &[Id], links: &[Link]) -> Result<Vec<u32>, NoMemory>
+/// The nodes of the links' ids. It costs one look for each link whose node was noted.
+pub fn nodes_of(
+    alloc: Global,
+    ids: &[Id],
+    hints: &Hints,
+    links: &[Link],
+) -> Result<Vec<u32>, NoMemory>
     requires has { (l : Link) → Contains links.now l → HasNode ids.now l.id }
     requires small { length ids.now < 65536 }
     ensures { IfOk result (λ nodes. AreNodes ids.now links.now nodes.items) }
 {
     let mut nodes = Vec::new(alloc);
     for link in links {
-        nodes.push(node_of(ids, link.id))?;
+        nodes.push(node_of(ids, hints, link.id))?;
     }
     Ok(nodes)
 }

@@ -8,32 +8,21 @@ use Rattle.rv_event.proofs.Pushed.{split_push}
 use Rattle.rv_event.proofs.Growing.{Any-contains, Any-from_contains, IsEdge-grows}
 use Rattle.rv_event.proofs.Settled.{grows-push}
 use Rattle.rv_event.specs.Edges.{IsEdge}
-use Rattle.rv_event.specs.WellFormed.{WellFormedEvents}
 use Rattle.rv_event.specs.declared.event.Id.{Id}
 use Rattle.rv_event.specs.declared.event.Event.{Event}
-use Rattle.rv_event.specs.declared.event.Entry.{Entry}
 use Rattle.rv_event.specs.declared.memory_model.MemoryModel.{MemoryModel}
 use Rattle.rv_event.specs.declared.reason.Reason.{Reason}
-use Rattle.rv_edges.specs.Paths.{Covers}
+use Rattle.rv_cover.specs.Paths.{Covers}
 use Rattle.rv_edges.specs.declared.history.OwnLinks.{OwnLinks}
 use Rattle.rv_edges.specs.Kept.{Kept, kept_from, happened, grown, Joins, IsKept, Ties, IsTied}
-use Rattle.rv_edges.specs.Laws.{Either}
+use Rattle.rv_cover.specs.Laws.{Either}
 use Rattle.rv_edges.specs.Histories.{Joined, IsHistory, IsCarried}
-use Rattle.rv_edges.proofs.Covering.{covered, path-map}
+use Rattle.rv_cover.proofs.Covering.{covered, path-map}
 use Rattle.rv_edges.proofs.Listed.{Contains-old, Contains-last, Contains-none}
 use Rattle.rv_edges.proofs.Sides.{kept_one, kept_from-push}
 
 pub happened-push : (h : List Kept) (k : Kept) → happened (h ++ k ∷ []) ≡ happened h ++ k.event ∷ []
 happened-push h k = map-append (λ (x : Kept). x.event) h (k ∷ [])
-
--- events without faults over those before them are indexed
-events_sound : (log before rest : List Event) → WellFormedEvents log → log ≡ before ++ rest → AllSound before rest
-events_sound log before [] ok e = tt
-events_sound log before (x ∷ rest) ok e =
-    (sound_of before x (ok before rest x e), events_sound log (before ++ x ∷ []) rest ok (e ∙ sym (append_assoc before (x ∷ []) rest)))
-
-pub indexed_from_events : (log : List Event) → WellFormedEvents log → Indexed log
-indexed_from_events log ok = indexed-all [] log indexed-nil (events_sound log [] log ok refl)
 
 module _ (model : MemoryModel) where
   all_sound : (h before rest : List Kept) → IsHistory model h → h ≡ before ++ rest → AllSound (happened before) (happened rest)
@@ -120,13 +109,13 @@ module _ (model : MemoryModel) where
 
   -- one more entry with its links
   pub pushed_sides :
-      (xs new : List Entry) (ls more : List OwnLinks) (x : Entry) (l : OwnLinks) (k : Kept) → length xs ≡ length ls →
+      (xs new : List Event) (ls more : List OwnLinks) (x : Event) (l : OwnLinks) (k : Kept) → length xs ≡ length ls →
       IsHistory model (kept_from xs ls) → Joined model (kept_from xs ls) k → kept_one x l ≡ k →
       new ≡ xs ++ x ∷ [] → more ≡ ls ++ l ∷ [] →
       (length new ≡ length more) × IsHistory model (kept_from new more) × (kept_from new more ≡ kept_from xs ls ++ k ∷ [])
   pushed_sides xs new ls more x l k same ok joined is e f =
       let cut : kept_from new more ≡ kept_from xs ls ++ k ∷ [] =
-      ap (λ (zs : List Entry). kept_from zs more) e ∙ ap (kept_from (xs ++ x ∷ [])) f ∙ kept_from-push xs ls x l same
+      ap (λ (zs : List Event). kept_from zs more) e ∙ ap (kept_from (xs ++ x ∷ [])) f ∙ kept_from-push xs ls x l same
       ∙ ap (λ (z : Kept). kept_from xs ls ++ z ∷ []) is in (
         omega (arith, same, ap length e, ap length f, length-append xs (x ∷ []), length-append ls (l ∷ [])),
         subst (IsHistory model) (sym cut) (IsHistory-push (kept_from xs ls) k ok joined),

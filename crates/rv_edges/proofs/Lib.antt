@@ -1,5 +1,7 @@
 pub mod Carrying
-pub mod Covering
-pub mod Linking
+pub mod Harting
+pub mod Indexing
+pub mod Joining
 pub mod Listed
+pub mod Moving
 pub mod Sides

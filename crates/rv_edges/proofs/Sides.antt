@@ -3,24 +3,22 @@ use Rattle.std.proofs.Common.{◌≡◌, List, [], ◌∷◌, ◌++◌, length, 
 use Rattle.std.proofs.lemmas.Bool.{false≢true}
 use Rattle.std.specs.Option.{option_to_list}
 use Rattle.rv_event.proofs.Pushed.{split_push}
-use Rattle.rv_event.specs.Log.{events}
 use Rattle.rv_event.specs.declared.event.Event.{Event}
-use Rattle.rv_event.specs.declared.event.Entry.{Entry}
 use Rattle.rv_edges.specs.declared.history.OwnLinks.{OwnLinks}
 use Rattle.rv_edges.specs.Kept.{Kept, kept_from, happened}
 
 -- an entry with its links
-abbrev pub kept_one : Entry → OwnLinks → Kept
-kept_one x own = record { event = x.event; before = own.before; after = own.after }
+abbrev pub kept_one : Event → OwnLinks → Kept
+kept_one e own = record { event = e; before = own.before; after = own.after }
 
--- as many links as entries: the events are the entries'
-pub happened-kept_from : (xs : List Entry) (ls : List OwnLinks) → length xs ≡ length ls → happened (kept_from xs ls) ≡ events xs
+-- as many links as events: the events are all there
+pub happened-kept_from : (xs : List Event) (ls : List OwnLinks) → length xs ≡ length ls → happened (kept_from xs ls) ≡ xs
 happened-kept_from [] ls same = refl
 happened-kept_from (x ∷ xs) [] same = absurd (omega (arith, same))
-happened-kept_from (x ∷ xs) (l ∷ ls) same = ap (λ (es : List Event). x.event ∷ es) (happened-kept_from xs ls (omega (arith, same)))
+happened-kept_from (x ∷ xs) (l ∷ ls) same = ap (λ (es : List Event). x ∷ es) (happened-kept_from xs ls (omega (arith, same)))
 
 pub kept_from-push :
-    (xs : List Entry) (ls : List OwnLinks) (x : Entry) (l : OwnLinks) → length xs ≡ length ls →
+    (xs : List Event) (ls : List OwnLinks) (x : Event) (l : OwnLinks) → length xs ≡ length ls →
     kept_from (xs ++ x ∷ []) (ls ++ l ∷ []) ≡ kept_from xs ls ++ kept_one x l ∷ []
 kept_from-push [] [] x l same = refl
 kept_from-push [] (m ∷ ls) x l same = absurd (omega (arith, same))
@@ -29,17 +27,17 @@ kept_from-push (y ∷ xs) (m ∷ ls) x l same =
     ap (λ (ks : List Kept). kept_one y m ∷ ks) (kept_from-push xs ls x l (omega (arith, same)))
 
 -- both lists without their last
-pub record Popped (xs ys : List Entry) (ls ms : List OwnLinks) : Type 0 where
+pub record Popped (xs ys : List Event) (ls ms : List OwnLinks) : Type 0 where
   pub lengths : length ys ≡ length ms
   pub last : Kept
   pub cut : kept_from xs ls ≡ kept_from ys ms ++ last ∷ []
 
-some_entries : (xs : List Entry) (ls : List OwnLinks) → kept_from xs ls ≢ [] → 0 < length xs
+some_entries : (xs : List Event) (ls : List OwnLinks) → kept_from xs ls ≢ [] → 0 < length xs
 some_entries [] ls some = absurd (some refl)
 some_entries (x ∷ xs) ls some = omega arith
 
 pub popped_sides :
-    (xs ys : List Entry) (ls ms : List OwnLinks) (o : Option Entry) (p : Option OwnLinks) → length xs ≡ length ls →
+    (xs ys : List Event) (ls ms : List OwnLinks) (o : Option Event) (p : Option OwnLinks) → length xs ≡ length ls →
     xs ≡ ys ++ option_to_list o → ls ≡ ms ++ option_to_list p → kept_from xs ls ≢ [] →
     (0 < length xs → IsSome o) → (0 < length ls → IsSome p) → Popped xs ys ls ms
 popped_sides xs ys ls ms None p same e f some there there' = absurd (false≢true (there (some_entries xs ls some)))
@@ -49,7 +47,7 @@ popped_sides xs ys ls ms (Some x) (Some l) same e f some there there' =
     record {
       lengths = lengths;
       last = kept_one x l;
-      cut = ap (λ (zs : List Entry). kept_from zs ls) e ∙ ap (kept_from (ys ++ x ∷ [])) f ∙ kept_from-push ys ms x l lengths;
+      cut = ap (λ (zs : List Event). kept_from zs ls) e ∙ ap (kept_from (ys ++ x ∷ [])) f ∙ kept_from-push ys ms x l lengths;
     }
 
 -- lists with one more at the end are equal where their fronts are
@@ -61,5 +59,5 @@ same_front {X} xs ys x y e = go (split_push xs x ys [] y e)
     go (inr (rest, s)) = absurd (omega (arith, ap length e, ap length s, length-append xs (x ∷ []), length-append ys (y ∷ []), length-append ys (y ∷ rest)))
 
 -- nothing at all is a history
-pub no_sides : (xs : List Entry) (ls : List OwnLinks) → xs ≡ [] → ls ≡ [] → (length xs ≡ length ls) × (kept_from xs ls ≡ [])
-no_sides xs ls e f = (ap length e ∙ sym (ap length f), ap (λ (zs : List Entry). kept_from zs ls) e)
+pub no_sides : (xs : List Event) (ls : List OwnLinks) → xs ≡ [] → ls ≡ [] → (length xs ≡ length ls) × (kept_from xs ls ≡ [])
+no_sides xs ls e f = (ap length e ∙ sym (ap length f), ap (λ (zs : List Event). kept_from zs ls) e)

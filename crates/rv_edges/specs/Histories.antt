@@ -7,8 +7,8 @@ use Rattle.rv_event.specs.declared.event.Event.{Event}
 use Rattle.rv_event.specs.declared.memory_model.MemoryModel.{MemoryModel}
 use Rattle.rv_event.specs.declared.reason.Reason.{Reason}
 use Rattle.rv_edges.specs.declared.history.Around.{Around}
-use Rattle.rv_edges.specs.Paths.{Covers}
-use Rattle.rv_edges.specs.Carries.{Carries}
+use Rattle.rv_cover.specs.Paths.{Covers}
+use Rattle.rv_cover.specs.Carries.{Carries}
 use Rattle.rv_edges.specs.Kept.{Kept, happened, grown, Joins, IsKept, Ties, IsTied}
 
 -- what the links of an event promise that joins a history

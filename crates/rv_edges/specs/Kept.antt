@@ -2,7 +2,6 @@
 use Rattle.std.specs.Prelude.{◌≡◌, ◌⊎◌, ◌++◌, List, [], ◌∷◌, map, Contains, Any}
 use Rattle.rv_event.specs.declared.event.Id.{Id}
 use Rattle.rv_event.specs.declared.event.Event.{Event}
-use Rattle.rv_event.specs.declared.event.Entry.{Entry}
 use Rattle.rv_event.specs.declared.memory_model.MemoryModel.{MemoryModel}
 use Rattle.rv_event.specs.declared.reason.Link.{Link}
 use Rattle.rv_event.specs.declared.reason.Reason.{Reason}
@@ -19,12 +18,12 @@ pub record Past : Type 0 where
   pub model : MemoryModel
   pub kept : List Kept
 
--- entries and links side by side
-abbrev pub kept_from : List Entry → List OwnLinks → List Kept
+-- events and links side by side
+abbrev pub kept_from : List Event → List OwnLinks → List Kept
 kept_from [] links = []
-kept_from (x ∷ entries) [] = []
-kept_from (x ∷ entries) (own ∷ links) =
-    record { event = x.event; before = own.before; after = own.after } ∷ kept_from entries links
+kept_from (e ∷ log) [] = []
+kept_from (e ∷ log) (own ∷ links) =
+    record { event = e; before = own.before; after = own.after } ∷ kept_from log links
 
 -- the events of a history
 abbrev pub happened : List Kept → List Event

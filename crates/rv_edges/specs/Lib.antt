@@ -1,6 +1,3 @@
-pub mod Carries
 pub mod Histories
+pub mod Indexes
 pub mod Kept
-pub mod Laws
-pub mod Listing
-pub mod Paths

@@ -1,17 +1,28 @@
 //! Events, each kept with links to the events before it.
-ghost use Rattle.std.specs.Prelude.{◌≡◌, ◌≢◌, ◌↔◌, ◌++◌, ◌∷◌, [], None, IsTrue, IfOk, IfSome, IfNone, OnOk, OnErr, List, ℕ, ◌<◌};
-ghost use Rattle.rv_event.specs.Log.{events};
+ghost use Rattle.std.specs.Prelude.{◌≡◌, ◌≢◌, ◌↔◌, ◌++◌, ◌∷◌, [], None, IsTrue, IfOk, IfSome, IfNone, OnOk, OnErr, List, ℕ, ◌<◌, ◌≤◌, length, slice_get};
+ghost use Rattle.std.specs.List.{list_any};
+ghost use Rattle.rv_event.specs.Log.{events, named, of_hart, writer};
 ghost use Rattle.rv_event.specs.Preserved.{IsPreserved};
-ghost use Rattle.rv_event.specs.Faults.{event_fault};
-ghost use Rattle.rv_edges.specs.Paths.{Covers};
+ghost use Rattle.rv_event.specs.Faults.{event_fault, first_faults, lowest, is_reserved};
+ghost use Rattle.rv_event.specs.Contexts.{IsContext, is_bad_on};
+ghost use Rattle.rv_event.proofs.Indexed.{Indexed};
+ghost use Rattle.rv_cover.specs.Paths.{Covers};
+ghost use Rattle.rv_cover.specs.Thinned.{IsUnsplit, IsNearest};
+ghost use Rattle.rv_hart.specs.Harts.{IsReturned};
+ghost use Rattle.rv_hart.specs.RuleLinks.{AreRuleLinks};
+ghost use Rattle.rv_versions.specs.Reserved.{IsReserved};
 ghost use Rattle.rv_edges.specs.Kept.{Kept, happened, grown, IsTied};
 ghost use Rattle.rv_edges.specs.Histories.{IsLinked, IsCarried, kept_of, HasOwnEdge, IsStaleOf};
+ghost use Rattle.rv_edges.specs.Indexes.{hart_of, hart_in, IsHartIn};
+ghost use Rattle.std.specs.Option.{option_copied, option_map};
 
 use crate::links::Links;
-use crate::listing::{find_stale, links_after, links_before};
 use rv_event::{
-    Entry, Event, Fault, Id, MemoryModel, NoMemory, find_event_fault, find_reason, lowest_rule,
+    Context, Dep, Entry, Event, Fault, Id, Link, MemoryModel, NoMemory, find_deps_fault,
+    first_fault, is_bad_dependency, lowest_rule,
 };
+use rv_hart::HartOrder;
+use rv_versions::{Reservation, VersionLinks, Versions};
 use std::alloc::Global;
 use std::marker::Model;
 
@@ -44,21 +55,20 @@ struct OwnLinks {
 pub struct History {
     alloc: Global,
     model: MemoryModel,
-    entries: Vec<Entry>,
+    versions: Versions,
+    harts: Vec<HartOrder>,
     links: Vec<OwnLinks>,
 }
 
 impl Model for History {
-    ghost use Rattle.std.specs.Prelude.{◌≡◌, length};
     ghost use Rattle.rv_edges.specs.Kept.{Past, kept_from};
-    ghost use Rattle.rv_edges.specs.Histories.{IsHistory};
+    ghost use Rattle.rv_edges.specs.Indexes.{AreIndexes};
 
     ghost Value = { Past };
 
-    ghost view = { λ h. record { model = h.model; kept = kept_from h.entries.items h.links.items } };
+    ghost view = { λ h. record { model = h.model; kept = kept_from h.versions h.links.items } };
 
-    ghost invariant = { λ h.
-        (length h.entries.items ≡ length h.links.items) × IsHistory h.model (kept_from h.entries.items h.links.items) };
+    ghost invariant = { λ h. AreIndexes h.model h.versions h.harts.items h.links.items };
 }
 
 impl History {
@@ -69,7 +79,8 @@ impl History {
         History {
             alloc,
             model,
-            entries: Vec::new(alloc),
+            versions: Versions::new(alloc),
+            harts: Vec::new(alloc),
             links: Vec::new(alloc),
         }
     }
@@ -89,20 +100,42 @@ impl History {
         ensures lowest { IfSome result (λ k. (j : ℕ) → j < k → IsPreserved self.now.model (happened self.now.kept) j a b → ⊥) }
         ensures none { IfNone result ((k : ℕ) → IsPreserved self.now.model (happened self.now.kept) k a b → ⊥) }
     {
-        lowest_rule(self.model, self.entries.as_slice(), a, b)
+        lowest_rule(self.model, self.entries(), a, b)
     }
 
     /// The fault of the event over the history, all but that of its source: none exactly where it may join.
+    ///
+    /// It costs a look-up for each dependency and for the version, and a step for each other fault.
     pub fn fault(&self, event: &Event) -> Option<Fault>
         ensures { result ≡ event_fault (happened self.now.kept) event.now }
     {
-        find_event_fault(self.entries.as_slice(), event)
+        if let Some(fault) = self.first_fault(event) {
+            return Some(fault);
+        }
+        find_deps_fault(event)
+    }
+
+    /// The first fault of the event over the history, up to a full hart: all but that of its source and too many
+    /// dependencies.
+    pub fn first_fault(&self, event: &Event) -> Option<Fault>
+        ensures { result ≡ lowest (first_faults (happened self.now.kept) event.now) }
+    {
+        first_fault(event, &self.context_of(event))
+    }
+
+    /// The name of the store that wrote this version of the word. Version 0, the initial value, has none.
+    pub fn writer(&self, word: u32, version: u32) -> Option<Id>
+        ensures { result ≡ option_map (λ w. w.id) (writer (happened self.now.kept) word version) }
+    {
+        self.versions.writer(word, version)
     }
 
     /// The edges that the event would have, as links.
     ///
     /// Each listed link is an edge of the history with the event, with its reason, a rule under the number that `preserved`
-    /// would give; none names the event itself. Listed and kept links cover every edge.
+    /// would give; none names the event itself. Listed and kept links cover every edge, and few are listed: a rule only
+    /// where no other event stands between by two rules, coherence only with the known stores of the nearest versions,
+    /// from-read only over no other store's version.
     ///
     /// # Errors
     /// `NoMemory` where a list could not be had; nothing changes.
@@ -113,15 +146,21 @@ impl History {
             Covers self.now.model (grown self.now.kept event.now) (IsTied (self.now.kept ++ kept_of event.now a ∷ []))) }
         ensures itself { IfOk result (λ a. IsTrue a.itself ↔ HasOwnEdge self.now.model self.now.kept event.now) }
         ensures stale { IfOk result (λ a. IsStaleOf self.now.kept event.now a.stale) }
+        ensures unsplit { IfOk result (λ a. IsUnsplit self.now.model (happened self.now.kept) event.now a.before) }
+        ensures nearest { IfOk result (λ a. IsNearest (happened self.now.kept) event.now a.before a.after) }
     {
-        let log = with_event(self.alloc, self.entries.as_slice(), event)?;
-        let before = links_before(self.alloc, self.model, log.as_slice(), event.id)?;
-        let after = links_after(self.alloc, self.model, log.as_slice(), event.id)?;
+        let reserved = self.reserved(event);
+        let mut before = self.rule_links(event)?;
+        let VersionLinks {
+            before: others,
+            after,
+        } = self.versions.around(event, reserved)?;
+        before.extend_from_slice(others.as_slice())?;
         Ok(Around {
             before: Links::from_vec(before),
             after: Links::from_vec(after),
-            itself: find_reason(self.model, log.as_slice(), event.id, event.id).is_some(),
-            stale: find_stale(log.as_slice(), event.id),
+            itself: self.versions.has_own_edge(event, reserved),
+            stale: self.stale(event),
         })
     }
 
@@ -132,7 +171,7 @@ impl History {
     pub fn entries_with(&self, event: &Event) -> Result<Vec<Entry>, NoMemory>
         ensures { IfOk result (λ log. events log.items ≡ grown self.now.kept event.now) }
     {
-        with_event(self.alloc, self.entries.as_slice(), event)
+        with_event(self.alloc, self.entries(), event)
     }
 
     /// Adds the event with its links, which are as `around` promises.
@@ -145,12 +184,20 @@ impl History {
         ensures pushed { OnOk result (self.new ≡ record self.old { kept = self.old.kept ++ kept_of event.now around.now ∷ [] }) }
         ensures unchanged { OnErr result (self.new ≡ self.old) }
     {
-        let event = event.copy(self.alloc)?;
         let before = around.before.copy(self.alloc)?;
         let after = around.after.copy(self.alloc)?;
-        self.entries.reserve(1)?;
+        let returned = self.returned(event);
+        let reserved = self.reserved(event);
+        open_harts(self.alloc, self.model, &mut self.harts, event.id.hart)?;
         self.links.reserve(1)?;
-        self.entries.push_reserved(Entry { source: 0, event });
+        self.versions.push(event, reserved)?;
+        let Some(hart) = self.harts.get_mut(event.id.hart as usize) else {
+            unreachable!()
+        };
+        if let Err(NoMemory) = hart.push(event, returned) {
+            self.versions.pop();
+            return Err(NoMemory);
+        }
         self.links.push_reserved(OwnLinks { before, after });
         Ok(())
     }
@@ -161,9 +208,148 @@ impl History {
         ensures model { self.new.model ≡ self.old.model }
         ensures popped { (front : List Kept) (k : Kept) → self.old.kept ≡ front ++ k ∷ [] → self.new.kept ≡ front }
     {
-        self.entries.pop();
+        let Some(last) = self.versions.entries().last() else {
+            unreachable!()
+        };
+        let number = last.event.id.hart as usize;
+        self.versions.pop();
+        let Some(hart) = self.harts.get_mut(number) else {
+            unreachable!()
+        };
+        hart.pop();
         self.links.pop();
     }
+
+    /// What the history tells the event.
+    fn context_of(&self, event: &Event) -> Context
+        ensures { IsContext (happened self.now.kept) event.now result }
+    {
+        let own = self.events_of(event.id.hart);
+        Context {
+            count: own.len() as u32,
+            depends_badly: depends_badly(own, event),
+            writer: self.writer(event.word, event.wrote),
+            reserved: self.is_reserved(event.id.hart),
+        }
+    }
+
+    /// The events of the hart, in program order.
+    fn events_of(&self, number: u8) -> &[Event]
+        ensures value { result.now ≡ of_hart number (happened self.now.kept) }
+        ensures few { length result.now ≤ 4096 }
+        ensures named { (s : ℕ) → named (happened self.now.kept) (record { hart = number; seq = s }) ≡ slice_get result.now s }
+    {
+        match self.hart(number) {
+            Some(hart) => hart.events(),
+            None => &[],
+        }
+    }
+
+    /// Whether the last LR, SC or failed SC of the hart is an LR.
+    fn is_reserved(&self, number: u8) -> bool
+        ensures { result ≡ is_reserved (happened self.now.kept) number }
+    {
+        match self.hart(number) {
+            Some(hart) => hart.is_reserved(),
+            None => false,
+        }
+    }
+
+    /// The events as entries of source 0.
+    fn entries(&self) -> &[Entry]
+        ensures value { events result.now ≡ happened self.now.kept }
+        ensures few { length result.now ≤ 65536 }
+        ensures indexed { Indexed (happened self.now.kept) }
+    {
+        self.versions.entries()
+    }
+
+    /// The hart of this number, where it was opened.
+    fn hart(&self, number: u8) -> Option<&HartOrder>
+        ensures hart { IsHartIn self.now number (option_copied result) }
+        ensures indexed { Indexed (happened self.now.kept) }
+    {
+        self.harts.get(number as usize)
+    }
+
+    /// The number of the store of the event's own hart that the event, a load, returns.
+    fn returned(&self, event: &Event) -> Option<u32>
+        ensures { IsReturned (hart_in self.now event.now.id.hart) event.now result }
+    {
+        if !event.op.is_load() {
+            return None;
+        }
+        let store = self.versions.writer(event.word, event.read)?;
+        if store.hart == event.id.hart {
+            Some(store.seq)
+        } else {
+            None
+        }
+    }
+
+    /// What the LR returned with which the event is paired.
+    fn reserved(&self, event: &Event) -> Option<Reservation>
+        requires { event_fault (happened self.now.kept) event.now ≡ None }
+        ensures { IsReserved (happened self.now.kept) event.now result }
+    {
+        let lr = self.hart(event.id.hart)?.partner(event)?;
+        Some(Reservation {
+            word: lr.word,
+            version: lr.read,
+        })
+    }
+
+    /// The links by rules.
+    fn rule_links(&self, event: &Event) -> Result<Vec<Link>, NoMemory>
+        requires { event_fault (happened self.now.kept) event.now ≡ None }
+        ensures { IfOk result (λ links. AreRuleLinks (hart_in self.now event.now.id.hart) event.now links.items) }
+    {
+        match self.hart(event.id.hart) {
+            Some(hart) => hart.before(event, self.returned(event)),
+            None => Ok(Vec::new(self.alloc)),
+        }
+    }
+
+    /// An earlier store of the event's hart and word with a higher version than the event, a load, returned.
+    fn stale(&self, event: &Event) -> Option<Id>
+        requires { event_fault (happened self.now.kept) event.now ≡ None }
+        ensures { IsStaleOf self.now.kept event.now result }
+    {
+        self.hart(event.id.hart)?.stale(event)
+    }
+}
+
+/// Whether a dependency of the event on an event of its hart is bad.
+fn depends_badly(own: &[Event], event: &Event) -> bool
+    ensures { result ≡ list_any (λ d. is_bad_on event.now d (slice_get own.now d.seq)) event.now.deps }
+{
+    event.deps.as_slice().iter().any(|d| is_bad(own, event, *d))
+}
+
+/// Whether the event's dependency on an event of its hart is bad.
+fn is_bad(own: &[Event], event: &Event, dep: Dep) -> bool
+    ensures { result ≡ is_bad_on event.now dep (slice_get own.now dep.seq) }
+{
+    is_bad_dependency(event, dep, own.get(dep.seq as usize))
+}
+
+/// Makes a place for the events of the hart, and of all below it, where there is none.
+///
+/// # Errors
+/// `NoMemory` where the list could not grow; no event comes or goes.
+fn open_harts(
+    alloc: Global,
+    model: MemoryModel,
+    harts: &mut Vec<HartOrder>,
+    number: u8,
+) -> Result<(), NoMemory>
+    ensures same { (h : ℕ) → hart_of model harts.new.items h ≡ hart_of model harts.old.items h }
+    ensures open { OnOk result (number < length harts.new.items) }
+{
+    for next in harts.len()..number as usize + 1 {
+        harts.push(HartOrder::new(alloc, model, next as u8))?;
+    }
+    Ok(())
 }
 
 /// The entries followed by the event.

@@ -5,20 +5,21 @@
 //! carry every edge: wherever the log has an edge between two events, a path of links leads from the one to the other. So
 //! an order that respects the links respects all edges.
 //!
-//! The body here is the plain one: it looks at each other event, and lists a link for each reason of an edge (of the rules
-//! of preserved program order, the lowest). The contract asks for less, so that a body which lists fewer links can stand
-//! in its place: an edge need not be listed where an older event splits it.
+//! It is near-linear: each hart keeps closed rows of what rules lead to its events (`rv_hart`), and the stores, loads and
+//! pairs of each word stand in the order of their versions (`rv_versions`). So links are listed only to the nearest events,
+//! and the others follow (`rv_cover`): an edge need not be listed where an older event splits it. The plain program that
+//! decides each edge is `rv_event`'s.
 //!
-//! It stands on `rv_event`. Its one contract to the others: listed links are edges, and listed and kept links carry every
-//! edge.
+//! - `history`: the history, its links and what it keeps of harts and versions.
+//! - `links`: lists of links.
+//! - `specs/`: events with their links (`Kept`), what links promise (`Histories`), what is kept of harts (`Indexes`).
+//!
+//! It stands on `rv_event`, `rv_cover`, `rv_hart` and `rv_versions`. Its one contract to the others: listed links are
+//! edges, and listed and kept links carry every edge.
 #![tactic(auto)]
 
 mod history;
-mod laws;
 mod links;
-mod listing;
-mod reasons;
 
 pub use history::{Around, History};
-pub use laws::carried_links_cover;
 pub use links::Links;

@@ -5,6 +5,7 @@ pub mod ChunkRead
 pub mod ChunkTest
 pub mod Checked
 pub mod Conditions
+pub mod Contexts
 pub mod Counting
 pub mod Equal
 pub mod Growing

@@ -1,6 +1,7 @@
 pub mod Annotations
 pub mod ChunkTexts
 pub mod Chunks
+pub mod Contexts
 pub mod Edges
 pub mod Faults
 pub mod Laws

@@ -4,9 +4,11 @@ ghost use Rattle.std.specs.List.{list_any};
 ghost use Rattle.rv_event.specs.Log.{events};
 ghost use Rattle.rv_event.specs.Operations.{is_exclusive};
 ghost use Rattle.rv_event.specs.WellFormed.{WellFormed};
-ghost use Rattle.rv_event.specs.Faults.{expected, names_no_value, is_bad_dependency, can_be_named, admits, is_lr, is_reserved, hart_fault, sequence_fault, dependency_fault, zero_fault, taken_fault, reservation_fault, full_fault, source_fault, deps_fault, first_faults, lowest, event_fault, fault_of};
+ghost use Rattle.rv_event.specs.Faults.{expected, is_bad_dependency, is_lr, is_reserved, source_fault, first_faults, lowest, event_fault, fault_of};
+ghost use Rattle.rv_event.specs.Contexts.{IsContext};
 
-use crate::event::{Dep, DepKind, Entry, Event, Id, Op};
+use crate::context::{Context, find_deps_fault, first_fault, is_bad_dependency};
+use crate::event::{Dep, Entry, Event, Id, Op};
 use crate::fault::Fault;
 use crate::search::{find_named, find_writer};
 
@@ -26,59 +28,6 @@ fn count_of_hart(log: &[Entry], event: &Event) -> usize
     count_entries(log, event.id.hart)
 }
 
-/// Whether another event may depend on the operation.
-fn is_nameable(op: Op) -> bool
-    ensures { result ≡ can_be_named op }
-{
-    matches!(op, Op::Load | Op::Lr | Op::Sc | Op::ScFailed | Op::Amo)
-}
-
-/// Whether the operation may have a dependency of this kind.
-fn does_admit(op: Op, kind: DepKind) -> bool
-    ensures { result ≡ admits op kind }
-{
-    match kind {
-        DepKind::Addr => matches!(
-            op,
-            Op::Load | Op::Lr | Op::Store | Op::Sc | Op::ScFailed | Op::Amo
-        ),
-        DepKind::DataOf => matches!(op, Op::Store | Op::Sc | Op::ScFailed | Op::Amo),
-        DepKind::Ctrl => matches!(op, Op::Branch),
-    }
-}
-
-fn find_hart_fault(event: &Event) -> Option<Fault>
-    ensures { result ≡ hart_fault event.now }
-{
-    if event.id.hart > 15 {
-        Some(Fault::Hart)
-    } else {
-        None
-    }
-}
-
-fn find_sequence_fault(log: &[Entry], event: &Event) -> Option<Fault>
-    requires { length log.now < 2 ^ 32 }
-    ensures { result ≡ sequence_fault (events log.now) event.now }
-{
-    let expected = count_of_hart(log, event) as u32;
-    if event.id.seq == expected {
-        None
-    } else {
-        Some(Fault::Sequence(expected))
-    }
-}
-
-/// Whether the id names an event that returns no value.
-fn names_no_value(log: &[Entry], id: Id) -> bool
-    ensures { result ≡ names_no_value (events log.now) id.hart id.seq }
-{
-    match find_named(log, id) {
-        Some(event) => !is_nameable(event.op),
-        None => false,
-    }
-}
-
 fn is_bad(log: &[Entry], event: &Event, dep: Dep) -> bool
     ensures { result ≡ is_bad_dependency (events log.now) event.now dep }
 {
@@ -86,45 +35,13 @@ fn is_bad(log: &[Entry], event: &Event, dep: Dep) -> bool
         hart: event.id.hart,
         seq: dep.seq,
     };
-    !(dep.seq < event.id.seq) || names_no_value(log, on) || !does_admit(event.op, dep.kind)
+    is_bad_dependency(event, dep, find_named(log, on))
 }
 
 fn has_bad_dependency(log: &[Entry], event: &Event) -> bool
     ensures { result ≡ list_any (is_bad_dependency (events log.now) event.now) event.now.deps }
 {
     event.deps.as_slice().iter().any(|d| is_bad(log, event, *d))
-}
-
-fn find_dependency_fault(log: &[Entry], event: &Event) -> Option<Fault>
-    ensures { result ≡ dependency_fault (events log.now) event.now }
-{
-    if has_bad_dependency(log, event) {
-        Some(Fault::Dependency)
-    } else {
-        None
-    }
-}
-
-fn find_zero_fault(event: &Event) -> Option<Fault>
-    ensures { result ≡ zero_fault event.now }
-{
-    if event.is_store() && event.wrote == 0 {
-        Some(Fault::VersionZero)
-    } else {
-        None
-    }
-}
-
-fn find_taken_fault(log: &[Entry], event: &Event) -> Option<Fault>
-    ensures { result ≡ taken_fault (events log.now) event.now }
-{
-    if !event.is_store() {
-        return None;
-    }
-    match find_writer(log, event.word, event.wrote) {
-        Some(store) => Some(Fault::VersionTaken(store.id)),
-        None => None,
-    }
 }
 
 /// Whether the hart has a reservation after one more event.
@@ -149,26 +66,6 @@ fn has_reservation(log: &[Entry], hart: u8) -> bool
     reserved
 }
 
-fn find_reservation_fault(log: &[Entry], event: &Event) -> Option<Fault>
-    ensures { result ≡ reservation_fault (events log.now) event.now }
-{
-    if event.op == Op::Sc && !has_reservation(log, event.id.hart) {
-        Some(Fault::NoReservation)
-    } else {
-        None
-    }
-}
-
-fn find_full_fault(log: &[Entry], event: &Event) -> Option<Fault>
-    ensures { result ≡ full_fault (events log.now) event.now }
-{
-    if count_of_hart(log, event) >= 4096 {
-        Some(Fault::Full)
-    } else {
-        None
-    }
-}
-
 /// Whether an event of the hart came from another source.
 fn has_other_source(log: &[Entry], entry: &Entry) -> bool
     ensures { result ≡ list_any (λ y. (y.event.id.hart == entry.now.event.id.hart) && not (y.source == entry.now.source)) log.now }
@@ -186,40 +83,30 @@ fn find_source_fault(log: &[Entry], entry: &Entry) -> Option<Fault>
     }
 }
 
-fn find_deps_fault(event: &Event) -> Option<Fault>
-    ensures { result ≡ deps_fault event.now }
+/// What the log tells the event, by scans.
+fn context_of(log: &[Entry], event: &Event) -> Context
+    requires { length log.now < 2 ^ 32 }
+    ensures { IsContext (events log.now) event.now result }
 {
-    if event.deps.as_slice().len() > 8 {
-        Some(Fault::TooManyDeps)
-    } else {
-        None
+    Context {
+        count: count_of_hart(log, event) as u32,
+        depends_badly: has_bad_dependency(log, event),
+        writer: match find_writer(log, event.word, event.wrote) {
+            Some(store) => Some(store.id),
+            None => None,
+        },
+        reserved: has_reservation(log, event.id.hart),
     }
 }
 
-/// The first fault up to a full hart: those that look at events alone.
-fn find_first_fault(log: &[Entry], event: &Event) -> Option<Fault>
+/// The first fault of the event over the events of the log, up to a full hart: all but `OtherSource` and `TooManyDeps`.
+///
+/// It costs a few passes over the log, and one for each dependency.
+pub fn find_first_fault(log: &[Entry], event: &Event) -> Option<Fault>
     requires { length log.now < 2 ^ 32 }
     ensures { result ≡ lowest (first_faults (events log.now) event.now) }
 {
-    if let Some(fault) = find_hart_fault(event) {
-        return Some(fault);
-    }
-    if let Some(fault) = find_sequence_fault(log, event) {
-        return Some(fault);
-    }
-    if let Some(fault) = find_dependency_fault(log, event) {
-        return Some(fault);
-    }
-    if let Some(fault) = find_zero_fault(event) {
-        return Some(fault);
-    }
-    if let Some(fault) = find_taken_fault(log, event) {
-        return Some(fault);
-    }
-    if let Some(fault) = find_reservation_fault(log, event) {
-        return Some(fault);
-    }
-    find_full_fault(log, event)
+    first_fault(event, &context_of(log, event))
 }
 
 /// The fault of the entry over the log: the first in the list of [`Fault`] that holds, with its data. None where the entry

@@ -14,6 +14,7 @@
 
 mod chunk;
 mod codes;
+mod context;
 mod edges;
 mod event;
 mod fault;
@@ -31,10 +32,11 @@ mod search;
 mod tests;
 
 pub use chunk::{Chunk, chunk_texts_tell, pack, unpack};
+pub use context::{Context, find_deps_fault, first_fault, is_bad_dependency};
 pub use edges::{find_reason, is_edge, is_stale};
 pub use event::{Dep, DepKind, Deps, Entry, Event, Id, Op, Set, is_same};
 pub use fault::Fault;
-pub use faults::{find_event_fault, find_fault, is_well_formed};
+pub use faults::{find_event_fault, find_fault, find_first_fault, is_well_formed};
 pub use laws::{
     edges_stay, logs_are_bounded, merges_are_well_formed, merges_share_orders,
     new_edges_end_at_the_new_event,
@@ -44,5 +46,7 @@ pub use no_memory::NoMemory;
 pub use pack_fault::PackFault;
 pub use preserved::{is_preserved_by, lowest_rule};
 pub use reason::{Link, Reason};
-pub use relations::{depends_on, is_acquire, is_fenced, is_paired, is_rcsc, is_release};
+pub use relations::{
+    depends_on, does_order, is_acquire, is_fenced, is_paired, is_rcsc, is_release,
+};
 pub use search::{find_named, find_writer};

@@ -74,8 +74,9 @@ fn is_in(set: Set, op: Op) -> bool
     }
 }
 
-/// Whether a fence orders an operation before it before one after it.
-fn does_order(fence: Op, a: Op, b: Op) -> bool
+/// Whether a fence orders an operation before it before one after it (manual, section 14.1, "Preserved Program Order"):
+/// what is no fence orders none.
+pub fn does_order(fence: Op, a: Op, b: Op) -> bool
     ensures { result ≡ fence_orders fence a b }
 {
     match fence {

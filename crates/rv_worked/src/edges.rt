@@ -15,7 +15,7 @@ fn add(rt: &impl Abort, history: &mut History, event: &Event) {
 }
 
 /// The history of rows.
-fn history_of(rt: &impl Abort, alloc: Global, model: MemoryModel, rows: &[Row]) -> History {
+pub fn history_of(rt: &impl Abort, alloc: Global, model: MemoryModel, rows: &[Row]) -> History {
     let mut history = History::new(alloc, model);
     for row in rows {
         let event = event_of(alloc, row).expect(rt, "memory");
@@ -25,7 +25,7 @@ fn history_of(rt: &impl Abort, alloc: Global, model: MemoryModel, rows: &[Row]) 
 }
 
 /// The edges that the next row would have.
-fn around_of(rt: &impl Abort, alloc: Global, history: &History, row: &Row) -> Around {
+pub fn around_of(rt: &impl Abort, alloc: Global, history: &History, row: &Row) -> Around {
     let event = event_of(alloc, row).expect(rt, "memory");
     assert!(rt; history.fault(&event).is_none());
     history.around(&event).expect(rt, "memory")

@@ -25,4 +25,6 @@ mod malformed;
 #[cfg(test)]
 mod rows;
 #[cfg(test)]
+mod thinned;
+#[cfg(test)]
 mod verdicts;

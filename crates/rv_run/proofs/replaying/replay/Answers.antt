@@ -23,7 +23,7 @@ pub loop-entry-preserved : goal.loop-entry-preserved
 loop-entry-preserved c =
     let told = rw c.in-Accepted.is at c.offer.ensures in
     replaying-turn c.args.model c.args.entries.now c.loop-entry.entry-index c.loop-entry.book c.offer.new.self c.entry-item.result c.loop-entry.invariant (omega arith)
-    c.entry-item.is (subst WellFormed (ap (λ (b : Booked). b.log) c.book-in-loop-entry.view_is) c.book-in-loop-entry.invariant.well_formed) told.1 told.2
+    c.entry-item.is (subst WellFormed (ap (λ (b : Booked). b.log) c.book-in-loop-entry.view_is) c.book-in-loop-entry.invariant.0.well_formed) told.1 told.2
 
 pub returns : goal.returns
 returns c =

@@ -1,14 +1,21 @@
-use Rattle.std.proofs.Common.{option_map, rules}
+use Rattle.std.proofs.Common.{List, IfOk, IfErr, option_map, rules, subst}
 use Rattle.rv_trace.specs.Source.{source_says}
+use Rattle.rv_run.specs.Comparisons.{AgreesWith, IsFaultIn}
+use Rattle.rv_run.specs.declared.feeding.Fed.{Fed}
 use Rattle.rv_run.proofs.Outcomes.{answer-true, answer-fault}
 use Rattle.rv_run.proofs.running.run_over.Goals as goal
 
 pub returns-clause-outcome : goal.returns-clause-outcome
 returns-clause-outcome g c =
     answer-true (λ r. option_map source_says (g.R.Read.remaining r)) c.args.readers.items c.in_ok-driven.driven.fed.items c.args.settings.model c.judge.result
-    (search rules) c.in_ok-driven.ensures.fed.0 c.in_ok-driven.ensures.fed.1 (search rules)
+    (search rules) c.in_ok-driven.ensures.fed.0 c.in_ok-driven.ensures.fed.1
+    (subst (λ (fed : List Fed). IfOk c.judge.result (AgreesWith c.args.settings.model fed)) c.as_slice-fed.ensures.value c.judge.ensures.outcome)
 
 pub returns-clause-fault : goal.returns-clause-fault
 returns-clause-fault g c =
     answer-fault (λ r. option_map source_says (g.R.Read.remaining r)) c.args.readers.items c.in_ok-driven.driven.fed.items c.judge.result
-    (search rules) c.in_ok-driven.ensures.fed.0 c.in_ok-driven.ensures.fed.1 (search rules)
+    (search rules) c.in_ok-driven.ensures.fed.0 c.in_ok-driven.ensures.fed.1
+    (subst (λ (fed : List Fed). IfErr c.judge.result (IsFaultIn fed)) c.as_slice-fed.ensures.value c.judge.ensures.fault)
+
+pub drive-requires-clause-fits : goal.drive-requires-clause-fits
+drive-requires-clause-fits g c κs bounds k d low = rw c.new-step.ensures.carrier (c.requires.fits k d low)

@@ -7,13 +7,13 @@ use Rattle.rv_book.proofs.book.Book.offer_chunk.Goals as goal
 
 pub returns-then-count-first : goal.returns-then-count-first
 returns-then-count-first c =
-    let known = counted _ _ _ c.args.self.now c.args.chunk.now c.count_of_source-count.ensures (c.as_slice.ensures.value ∙ ap (λ (b : Booked). b.log) c.self.view_is) c.source.ensures in
+    let known = counted _ _ _ c.args.self.now c.args.chunk.now (c.count_of_source-count.ensures c.self.inside.entries.items c.self.invariant.1) (ap (λ (b : Booked). b.log) c.self.view_is) c.source.ensures in
     let going = ap (λ (b : Booked). b.stopped) (sym c.self.view_is) ∙ c.if-self.false in
     (going, known, omega (arith, known, c.number.ensures, c.if-count-first.true), refl)
 
 pub returns-then-count-first-2 : goal.returns-then-count-first-2
 returns-then-count-first-2 c =
-    let known = counted _ _ _ c.args.self.now c.args.chunk.now c.count_of_source-count.ensures (c.as_slice.ensures.value ∙ ap (λ (b : Booked). b.log) c.self.view_is) c.source.ensures in
+    let known = counted _ _ _ c.args.self.now c.args.chunk.now (c.count_of_source-count.ensures c.self.inside.entries.items c.self.invariant.1) (ap (λ (b : Booked). b.log) c.self.view_is) c.source.ensures in
     let going = ap (λ (b : Booked). b.stopped) (sym c.self.view_is) ∙ c.if-self.false in
     (going, omega (arith, known, c.number.ensures, c.count.ensures.events, c.if-count-first-2.true), refl)
 
@@ -21,7 +21,7 @@ pub returns-in-Ok : goal.returns-in-Ok
 returns-in-Ok c =
     let chunk = c.args.chunk.now in
     let count = count_of_source c.args.self.now.log chunk.source in
-    let known = counted _ _ _ c.args.self.now chunk c.count_of_source-count.ensures (c.as_slice.ensures.value ∙ ap (λ (b : Booked). b.log) c.self.view_is) c.source.ensures in
+    let known = counted _ _ _ c.args.self.now chunk (c.count_of_source-count.ensures c.self.inside.entries.items c.self.invariant.1) (ap (λ (b : Booked). b.log) c.self.view_is) c.source.ensures in
     let going = ap (λ (b : Booked). b.stopped) (sym c.self.view_is) ∙ c.if-self.false in
     let turn : IsTurn count chunk = (
       omega (arith, known, c.number.ensures, c.if-count-first.false),
@@ -39,7 +39,7 @@ pub returns-in-Err : goal.returns-in-Err
 returns-in-Err c =
     let chunk = c.args.chunk.now in
     let count = count_of_source c.args.self.now.log chunk.source in
-    let known = counted _ _ _ c.args.self.now chunk c.count_of_source-count.ensures (c.as_slice.ensures.value ∙ ap (λ (b : Booked). b.log) c.self.view_is) c.source.ensures in
+    let known = counted _ _ _ c.args.self.now chunk (c.count_of_source-count.ensures c.self.inside.entries.items c.self.invariant.1) (ap (λ (b : Booked). b.log) c.self.view_is) c.source.ensures in
     let going = ap (λ (b : Booked). b.stopped) (sym c.self.view_is) ∙ c.if-self.false in
     let turn : IsTurn count chunk = (
       omega (arith, known, c.number.ensures, c.if-count-first.false),

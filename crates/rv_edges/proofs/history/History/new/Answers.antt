@@ -1,11 +1,21 @@
--- No entries and no links are a history.
-use Rattle.std.proofs.Common.{sym, subst}
+-- No events and no links are a history, in which no hart has events.
+use Rattle.std.proofs.Common.{◌≡◌, ℕ, List, [], sym, ap, ◌∙◌, subst, length}
+use Rattle.rv_event.specs.Log.{of_hart}
+use Rattle.rv_event.specs.declared.event.Event.{Event}
+use Rattle.rv_hart.specs.Harts.{Hart}
+use Rattle.rv_edges.specs.Kept.{kept_from}
 use Rattle.rv_edges.specs.Histories.{IsHistory}
+use Rattle.rv_edges.specs.Indexes.{hart_of, hart_from}
 use Rattle.rv_edges.proofs.Carrying.{IsHistory-nil}
 use Rattle.rv_edges.proofs.Sides.{no_sides}
 use Rattle.rv_edges.proofs.history.History.new.Goals as goal
 
 pub invariant_of-result : goal.invariant_of-result
 invariant_of-result c =
-    let none = no_sides c.new.result.items c.new-2.result.items c.new.ensures.items c.new-2.ensures.items in
-    (none.0, subst (IsHistory _) (sym none.1) (IsHistory-nil _))
+    let none = no_sides c.new.result c.new-3.result.items c.new.ensures c.new-3.ensures.items in
+    record {
+      lengths = none.0;
+      history = subst (IsHistory _) (sym none.1) (IsHistory-nil _);
+      own = λ h.
+          ap (λ (xs : List Hart). hart_of c.args.model xs h) c.new-2.ensures.items ∙ sym (ap (λ (es : List Event). hart_from c.args.model es h) c.new.ensures);
+    }

@@ -1,27 +1,22 @@
 -- The entries that are kept have the events of the history.
-use Rattle.std.proofs.Common.{ℕ, ◌<◌, List, IfSome, IfNone, sym, ap, ◌∙◌, subst}
-use Rattle.rv_event.specs.Log.{events}
+use Rattle.std.proofs.Common.{ℕ, ◌<◌, List, IfSome, IfNone, ap, subst}
 use Rattle.rv_event.specs.Preserved.{IsPreserved}
 use Rattle.rv_event.specs.declared.event.Event.{Event}
 use Rattle.rv_event.specs.declared.memory_model.MemoryModel.{MemoryModel}
 use Rattle.rv_edges.specs.Kept.{Past, happened}
-use Rattle.rv_edges.proofs.Sides.{happened-kept_from}
 use Rattle.rv_edges.proofs.history.History.preserved.Goals as goal
 
 pub returns-clause-some : goal.returns-clause-some
 returns-clause-some c =
-    let same = ap events c.as_slice.ensures.value ∙ sym (happened-kept_from c.self.inside.entries.items c.self.inside.links.items c.self.invariant.0) ∙ ap (λ (w : Past). happened w.kept) c.self.view_is in
     subst (λ (m : MemoryModel). IfSome c.lowest_rule.result (λ k. IsPreserved m (happened c.args.self.now.kept) k c.args.a c.args.b)) (ap (λ (w : Past). w.model) c.self.view_is)
-    (subst (λ (es : List Event). IfSome c.lowest_rule.result (λ k. IsPreserved c.self.inside.model es k c.args.a c.args.b)) same c.lowest_rule.ensures.some)
+    (subst (λ (es : List Event). IfSome c.lowest_rule.result (λ k. IsPreserved c.self.inside.model es k c.args.a c.args.b)) c.entries.ensures.value c.lowest_rule.ensures.some)
 
 pub returns-clause-lowest : goal.returns-clause-lowest
 returns-clause-lowest c =
-    let same = ap events c.as_slice.ensures.value ∙ sym (happened-kept_from c.self.inside.entries.items c.self.inside.links.items c.self.invariant.0) ∙ ap (λ (w : Past). happened w.kept) c.self.view_is in
     subst (λ (m : MemoryModel). IfSome c.lowest_rule.result (λ k. (j : ℕ) → j < k → IsPreserved m (happened c.args.self.now.kept) j c.args.a c.args.b → ⊥)) (ap (λ (w : Past). w.model) c.self.view_is)
-    (subst (λ (es : List Event). IfSome c.lowest_rule.result (λ k. (j : ℕ) → j < k → IsPreserved c.self.inside.model es j c.args.a c.args.b → ⊥)) same c.lowest_rule.ensures.lowest)
+    (subst (λ (es : List Event). IfSome c.lowest_rule.result (λ k. (j : ℕ) → j < k → IsPreserved c.self.inside.model es j c.args.a c.args.b → ⊥)) c.entries.ensures.value c.lowest_rule.ensures.lowest)
 
 pub returns-clause-none : goal.returns-clause-none
 returns-clause-none c =
-    let same = ap events c.as_slice.ensures.value ∙ sym (happened-kept_from c.self.inside.entries.items c.self.inside.links.items c.self.invariant.0) ∙ ap (λ (w : Past). happened w.kept) c.self.view_is in
     subst (λ (m : MemoryModel). IfNone c.lowest_rule.result ((k : ℕ) → IsPreserved m (happened c.args.self.now.kept) k c.args.a c.args.b → ⊥)) (ap (λ (w : Past). w.model) c.self.view_is)
-    (subst (λ (es : List Event). IfNone c.lowest_rule.result ((k : ℕ) → IsPreserved c.self.inside.model es k c.args.a c.args.b → ⊥)) same c.lowest_rule.ensures.none)
+    (subst (λ (es : List Event). IfNone c.lowest_rule.result ((k : ℕ) → IsPreserved c.self.inside.model es k c.args.a c.args.b → ⊥)) c.entries.ensures.value c.lowest_rule.ensures.none)

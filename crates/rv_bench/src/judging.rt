@@ -1,0 +1,174 @@
+//! What judging costs beside reading: traces from memory, read alone, and read and offered to a book.
+use rv_book::{Book, Offer};
+use rv_event::{Entry, MemoryModel};
+use rv_trace::Trace;
+use std::alloc::{AllocError, Global};
+use std::io;
+use std::time::Instant;
+
+/// How long the traces are.
+const COUNTS: [u32; 3] = [4_096, 16_384, 65_536];
+
+/// How many harts a trace has, whose events come in turn.
+const HARTS: u32 = 16;
+
+/// How often each trace is read.
+const RUNS: u32 = 5;
+
+/// What the harts do.
+#[derive(Clone, Copy, PartialEq, Eq, Debug)]
+enum Shape {
+    /// Loads and stores of eight words.
+    EightWords,
+    /// Loads and stores of 4,096 words.
+    ManyWords,
+    /// Each hart loads one word again and again.
+    Spinning,
+    /// Each hart loads words in turn.
+    Roaming,
+    /// Loads and stores of eight words, and a fence of all after each 99 of a hart.
+    Fenced,
+}
+
+impl Shape {
+    /// What it is called.
+    fn name(self) -> &'static str {
+        match self {
+            Shape::EightWords => "8 words",
+            Shape::ManyWords => "4,096 words",
+            Shape::Spinning => "each hart spins on a word",
+            Shape::Roaming => "each hart loads words in turn",
+            Shape::Fenced => "8 words, 1 % fences",
+        }
+    }
+
+    /// The word of an event, by the event's number and some number.
+    fn word(self, hart: u32, seq: u32, some: u32) -> u32 {
+        match self {
+            Shape::EightWords | Shape::Fenced => some % 8,
+            Shape::ManyWords => some % 4096,
+            Shape::Spinning => hart,
+            Shape::Roaming => seq % 4096,
+        }
+    }
+
+    /// Whether the event is a store.
+    fn is_store(self, some: u32) -> bool {
+        match self {
+            Shape::EightWords | Shape::ManyWords | Shape::Fenced => some / 4096 % 2 == 0,
+            Shape::Spinning | Shape::Roaming => false,
+        }
+    }
+
+    /// Whether the event is a fence.
+    fn is_fence(self, seq: u32) -> bool {
+        self == Shape::Fenced && seq % 100 == 99
+    }
+}
+
+/// The number after this one.
+fn next(state: u64) -> u64 {
+    state
+        .wrapping_mul(6_364_136_223_846_793_005)
+        .wrapping_add(1_442_695_040_888_963_407)
+}
+
+/// A trace in which the events of the harts come in turn: each store writes its word's next version, each load returns
+/// the last that was written.
+fn text_of(alloc: Global, shape: Shape, count: u32) -> Result<String, AllocError> {
+    let mut text = String::new(alloc);
+    text.push_str("hart,seq,op,word,read,wrote,ann,deps\n")?;
+    let mut versions = [0u32; 4096];
+    let mut state = 1;
+    for i in 0..count {
+        state = next(state);
+        let some = (state >> 33) as u32;
+        let (hart, seq) = (i % HARTS, i / HARTS);
+        let word = shape.word(hart, seq, some) % 4096;
+        let version = versions[word as usize];
+        let row = if shape.is_fence(seq) {
+            format!(in alloc; "{hart},{seq},F,,,,rw-rw,\n")?
+        } else if shape.is_store(some) {
+            let written = version.wrapping_add(1);
+            versions[word as usize] = written;
+            format!(in alloc; "{hart},{seq},S,{word},,{written},,\n")?
+        } else {
+            format!(in alloc; "{hart},{seq},L,{word},{version},,,\n")?
+        };
+        text.push_str(row.as_str())?;
+    }
+    Ok(text)
+}
+
+/// How many events are read.
+fn read(alloc: Global, text: &[u8], count: u32) -> u32 {
+    let mut trace = Trace::new(alloc, text, 0);
+    for read in 0..=count {
+        if !matches!(trace.next_event(), Ok(Some(_))) {
+            return read;
+        }
+    }
+    count
+}
+
+/// How many events are read and accepted.
+fn judge(alloc: Global, text: &[u8], count: u32) -> u32 {
+    let mut trace = Trace::new(alloc, text, 0);
+    let mut book = Book::new(alloc, MemoryModel::Rvwmo);
+    for judged in 0..=count {
+        let Ok(Some(event)) = trace.next_event() else {
+            return judged;
+        };
+        if !matches!(book.offer(&Entry { source: 0, event }), Offer::Accepted) {
+            return judged;
+        }
+    }
+    count
+}
+
+/// Nanoseconds for each of so many events.
+fn share(nanoseconds: u128, count: u32) -> u128 {
+    nanoseconds / count.max(1) as u128
+}
+
+/// Prints what a trace costs, read alone and judged.
+fn measure(rt: &HostRuntime, shape: Shape, count: u32) -> io::Result<()> {
+    let alloc = rt.alloc();
+    let text = text_of(alloc, shape, count)?;
+    let mut least = [u128::MAX; 2];
+    let mut counts = [0; 2];
+    for _ in 0..RUNS {
+        let start = Instant::now(rt)?;
+        counts[0] = read(alloc, text.as_bytes(), count);
+        least[0] = least[0].min(start.elapsed(rt)?.as_nanos());
+        let start = Instant::now(rt)?;
+        counts[1] = judge(alloc, text.as_bytes(), count);
+        least[1] = least[1].min(start.elapsed(rt)?.as_nanos());
+    }
+    println!(rt;
+        "{}: {} of {} events read, {} judged: {} ns and {} ns each",
+        shape.name(),
+        counts[0],
+        count,
+        counts[1],
+        share(least[0], count),
+        share(least[1], count)
+    )
+}
+
+/// Prints what judging costs beside reading.
+pub fn report(rt: &HostRuntime) -> io::Result<()> {
+    let shapes = [
+        Shape::EightWords,
+        Shape::ManyWords,
+        Shape::Spinning,
+        Shape::Roaming,
+        Shape::Fenced,
+    ];
+    for shape in shapes {
+        for count in COUNTS {
+            measure(rt, shape, count)?;
+        }
+    }
+    Ok(())
+}

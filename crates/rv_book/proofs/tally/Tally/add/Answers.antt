@@ -1,0 +1,12 @@
+-- The hart's source is the entry's, and its source has one more.
+use Rattle.std.proofs.Common.{rules, ◌≡◌, ℕ, ◌+◌, ◌<◌, ◌≤◌, ◌%◌, ◌==◌, List, length, count_by, slice_index_or, arith, sym, ◌∙◌}
+use Rattle.std.proofs.lemmas.List.Sums.{count_by-le-length}
+use Rattle.rv_event.specs.declared.event.Entry.{Entry}
+use Rattle.rv_book.proofs.Tallying.{tallied_push, one_more}
+use Rattle.rv_book.proofs.tally.Tally.add.Goals as goal
+
+pub returns : goal.returns
+returns c log known few sound =
+    let x = c.args.entry.now in
+    tallied_push log c.args.self.now.sources c.args.self.now.counts known x (omega arith) (omega arith) sound _
+    (one_more log c.args.self.now.sources c.args.self.now.counts known x few (omega arith))

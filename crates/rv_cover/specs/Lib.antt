@@ -1,0 +1,4 @@
+pub mod Carries
+pub mod Laws
+pub mod Paths
+pub mod Thinned

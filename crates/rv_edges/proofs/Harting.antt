@@ -1,0 +1,102 @@
+-- What a hart says of a new event, over the log.
+use Rattle.std.proofs.Common.{◌≡◌, ◌≢◌, ℕ, ◌<◌, List, [], ◌∷◌, ◌++◌, Contains, Option, None, Some, ◌⊎◌, inl, inr, sym, ap, ◌∙◌, subst, arith}
+use Rattle.std.proofs.lemmas.List.Elements.{Contains-push_cases, Contains-append_left}
+use Rattle.std.proofs.lemmas.Option.{none-some}
+use Rattle.rv_event.specs.Operations.{IsLoad, IsStore}
+use Rattle.rv_event.specs.Log.{of_hart, named, writer}
+use Rattle.rv_event.specs.Relations.{Paired}
+use Rattle.rv_event.specs.Preserved.{Rule}
+use Rattle.rv_event.specs.Edges.{IsStale}
+use Rattle.rv_event.specs.Faults.{event_fault}
+use Rattle.rv_event.proofs.Indexed.{Indexed, indexed-push, sound_of}
+use Rattle.rv_event.proofs.Names.{named-is, writer-is}
+use Rattle.rv_event.specs.declared.event.Id.{Id}
+use Rattle.rv_event.specs.declared.event.Event.{Event}
+use Rattle.rv_event.specs.declared.memory_model.MemoryModel.{MemoryModel}
+use Rattle.rv_event.specs.declared.reason.Link.{Link}
+use Rattle.rv_event.specs.declared.reason.Reason.TheVariants.{Preserved}
+use Rattle.rv_cover.specs.Carries.{IsSplit}
+use Rattle.rv_cover.specs.Thinned.{Names, Lists, IsUnsplit}
+use Rattle.rv_hart.specs.Harts.{Hart, followed, IsOwnStore, IsReturned}
+use Rattle.rv_hart.specs.RuleLinks.{IsRuleLink, AreRuleLinks}
+use Rattle.rv_hart.proofs.OfHart.{own_contains, contains_own, own-push, paired_to, paired_from, stale_to, stale_from}
+use Rattle.rv_versions.specs.Reserved.{IsPartner, IsReserved}
+use Rattle.rv_edges.specs.Indexes.{hart_from}
+use Rattle.rv_edges.proofs.Listed.{Contains-none}
+
+module _ (model : MemoryModel) (log : List Event) (e : Event) (known : Indexed log) (sound : event_fault log e ≡ None) where
+  abbrev own : Hart
+  own = hart_from model log e.id.hart
+
+  abbrev new : List Event
+  new = log ++ e ∷ []
+
+  pub known' : Indexed new
+  known' = indexed-push log e known (sound_of log e sound)
+
+  -- the hart's events with the new one are those of the log with it
+  pub own-new : of_hart e.id.hart new ≡ followed own e
+  own-new = own-push log e e.id.hart (λ i. e.id.hart)
+
+  pub partner_from : (lr : Event) → Contains own.events lr → Paired (followed own e) lr e → IsPartner log e lr
+  partner_from lr c p =
+      let f = own_contains log e.id.hart lr c in
+      record { of_log = f.0; paired = paired_from model new e.id.hart known' lr e f.1 (subst (λ (es : List Event). Paired es lr e) (sym own-new) p) }
+
+  pub partner_to : (lr : Event) → IsPartner log e lr → Contains own.events lr × Paired (followed own e) lr e
+  partner_to lr p = (
+    contains_own log e.id.hart lr known p.of_log p.paired.earlier.hart,
+    subst (λ (es : List Event). Paired es lr e) own-new (paired_to model new e.id.hart known' lr e p.paired),
+  )
+
+  pub stale_is : (s : Id) → IsStale (followed own e) e.id s → IsStale new e.id s
+  stale_is s p = stale_from model new e.id.hart known' e.id s (subst (λ (es : List Event). IsStale es e.id s) (sym own-new) p)
+
+  pub stale_was : (s : Id) → IsStale new e.id s → IsStale (followed own e) e.id s
+  stale_was s p = subst (λ (es : List Event). IsStale es e.id s) own-new (stale_to model new e.id.hart known' e.id s (λ i. e.id.hart) p)
+
+  one_of : (a : Event) → own.events ≡ [] → Contains (followed own e) a → e ≡ a
+  one_of a none c = elim (Contains-push_cases own.events e a c) [
+    | inl old ↦ absurd (Contains-none a (subst (λ (es : List Event). Contains es a) none old))
+    | inr is ↦ is
+  ]
+
+  -- a hart without events has no store that makes a load stale, and no link
+  pub none_stale_of : own.events ≡ [] → (s : Id) → IsStale new e.id s → ⊥
+  none_stale_of none s p =
+      let q : IsStale (followed own e) e.id s = stale_was s p in
+      let a : e ≡ q.a = one_of q.a none (named-is (followed own e) e.id q.a q.load_named).0 in
+      let b : e ≡ q.b = one_of q.b none (named-is (followed own e) s q.b q.store_named).0 in
+      let less : q.b.id.seq < q.a.id.seq = q.earlier.seq in
+      let at : q.b.id.seq ≡ q.a.id.seq = ap (λ (x : Event). x.id.seq) (sym b ∙ a) in
+      omega (arith, less, at)
+
+  pub none_linked : own.events ≡ [] → (links : List Link) → links ≡ [] → AreRuleLinks own e links
+  none_linked none links is =
+      let no : (l : Link) → Contains links l → ⊥ = λ l c. Contains-none l (subst (λ (ls : List Link). Contains ls l) is c) in
+      record {
+        rules = λ l c. absurd (no l c);
+        lowest = λ l c. absurd (no l c);
+        carried = λ k a c r. absurd (Contains-none a (subst (λ (es : List Event). Contains es a) none c));
+        unsplit = λ k a c of of' l r s. absurd (no (record { id = a.id; reason = Preserved k }) l);
+      }
+
+-- the own store that the event returns, from the writer of what it returned
+module _ (model : MemoryModel) (log : List Event) (e : Event) (known : Indexed log) where
+  pub returned_none : writer log e.word e.read ≡ None → IsReturned (hart_from model log e.id.hart) e None
+  returned_none none w s =
+      let c = own_contains log e.id.hart w s.of_hart in
+      let is : writer log w.word w.wrote ≡ Some w = known.written w c.0 s.store in
+      none-some w (sym none ∙ ap (λ x. writer log x e.read) s.returns.word ∙ ap (λ v. writer log w.word v) s.returns.version ∙ is)
+
+  pub returned_some : (w : Event) → writer log e.word e.read ≡ Some w → w.id.hart ≡ e.id.hart → IsLoad e → IsReturned (hart_from model log e.id.hart) e (Some w.id.seq)
+  returned_some w is at load =
+      let i = writer-is log e.word e.read w is in
+      (w, record { of_hart = contains_own log e.id.hart w known i.of_log at; store = i.store; load = load; returns = record { word = i.word; version = i.version } }, λ k. w.id.seq)
+
+  pub returned_other : (w : Event) → writer log e.word e.read ≡ Some w → w.id.hart ≢ e.id.hart → IsReturned (hart_from model log e.id.hart) e None
+  returned_other w is other x s =
+      let c = own_contains log e.id.hart x s.of_hart in
+      let has : writer log x.word x.wrote ≡ Some x = known.written x c.0 s.store in
+      let same : writer log e.word e.read ≡ Some x = ap (λ y. writer log y e.read) s.returns.word ∙ ap (λ v. writer log x.word v) s.returns.version ∙ has in
+      other (ap (λ (y : Event). y.id.hart) (Rattle.std.proofs.lemmas.Option.same_Some w x (sym is ∙ same)) ∙ c.1)

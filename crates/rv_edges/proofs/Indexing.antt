@@ -1,0 +1,50 @@
+-- What the indexes of a history say of its events.
+use Rattle.std.proofs.Common.{◌≡◌, ℕ, ◌≤◌, ◌<◌, List, [], ◌∷◌, ◌++◌, length, Contains, None, Option, Some, option_map, subst, sym, ap, ◌∙◌, slice_index_or, arith}
+use Rattle.std.proofs.lemmas.List.{length-map}
+use Rattle.rv_event.specs.Log.{events, of_hart}
+use Rattle.rv_event.specs.Faults.{event_fault}
+use Rattle.rv_event.proofs.Indexed.{Indexed}
+use Rattle.rv_event.proofs.Bounded.{length-Indexed}
+use Rattle.rv_event.specs.declared.event.Event.{Event}
+use Rattle.rv_event.specs.declared.event.Entry.{Entry}
+use Rattle.rv_event.specs.declared.memory_model.MemoryModel.{MemoryModel}
+use Rattle.rv_hart.specs.Harts.{Hart, Follows}
+use Rattle.rv_hart.proofs.OfHart.{fault_own}
+use Rattle.rv_edges.specs.declared.history.OwnLinks.{OwnLinks}
+use Rattle.rv_edges.specs.Kept.{Past, kept_from, happened}
+use Rattle.rv_edges.specs.Indexes.{AreIndexes, hart_of, hart_from, hart_in}
+use Rattle.rv_edges.proofs.Carrying.{indexed_from_IsHistory}
+use Rattle.rv_edges.proofs.Sides.{happened-kept_from}
+
+module _ (model : MemoryModel) (log : List Event) (harts : List Hart) (links : List OwnLinks) (known : AreIndexes model log harts links) where
+  -- the events of the history are those of the log
+  pub happened-is : happened (kept_from log links) ≡ log
+  happened-is = happened-kept_from log links known.lengths
+
+  pub indexed-is : Indexed (happened (kept_from log links))
+  indexed-is = indexed_from_IsHistory model (kept_from log links) known.history
+
+  module _ (past : Past) (view : record { model = model; kept = kept_from log links } ≡ past) where
+    pub log-is : log ≡ happened past.kept
+    log-is = sym happened-is ∙ ap (λ (w : Past). happened w.kept) view
+
+    pub past-indexed : Indexed (happened past.kept)
+    past-indexed = subst (λ (w : Past). Indexed (happened w.kept)) view indexed-is
+
+    pub past-few : (entries : List Entry) → events entries ≡ happened past.kept → length entries ≤ 65536
+    past-few entries e =
+        omega (arith, length-Indexed (happened past.kept) past-indexed, ap (λ (es : List Event). length es) e, length-map entries (λ (x : Entry). x.event))
+
+    -- the hart of a number, as the past has it
+    pub hart-is : (h : ℕ) → hart_of model harts h ≡ hart_in past h
+    hart-is h = known.own h ∙ ap (hart_from model log) refl-number ∙ same
+      where
+        refl-number : h ≡ h
+        refl-number = λ i. h
+
+        same : hart_from model log h ≡ hart_in past h
+        same = λ i. record { model = (view i).model; number = h; events = of_hart h (log-is i) }
+
+-- an event that may join the log may follow its hart's events
+pub follows : (past : Past) (e : Event) → event_fault (happened past.kept) e ≡ None → Follows (hart_in past e.id.hart) e
+follows past e sound = record { hart = λ i. e.id.hart; sound = fault_own (happened past.kept) e sound }

@@ -1,0 +1,37 @@
+-- The LR is one of the hart's events, and so one of the history's.
+use Rattle.std.proofs.Common.{◌≡◌, List, [], Contains, Some, None, refl, sym, ap, ◌∙◌, subst}
+use Rattle.rv_event.specs.declared.event.Event.{Event}
+use Rattle.rv_hart.specs.Harts.{Hart, Follows}
+use Rattle.rv_hart.specs.Kept.{IsPartner}
+use Rattle.rv_versions.specs.Reserved.{IsReserved}
+use Rattle.rv_edges.specs.Kept.{Past, happened}
+use Rattle.rv_edges.specs.Indexes.{hart_in}
+use Rattle.rv_edges.proofs.Indexing.{follows}
+use Rattle.rv_edges.proofs.Harting.{partner_from, partner_to}
+use Rattle.rv_edges.proofs.Listed.{Contains-none}
+use Rattle.rv_edges.proofs.history.History.reserved.Goals as goal
+
+pub partner-requires : goal.partner-requires
+partner-requires c =
+    let is : c.in_ok-hart.field-0.now ≡ hart_in c.args.self.now c.args.event.now.id.hart = c.in_ok-hart.ensures.hart in
+    subst (λ (h : Hart). Follows h c.args.event.now) (sym is) (follows c.args.self.now c.args.event.now c.requires)
+
+pub returns-in_err-lr : goal.returns-in_err-lr
+returns-in_err-lr c =
+    let is : c.in_ok-hart.field-0.now ≡ hart_in c.args.self.now c.args.event.now.id.hart = c.in_ok-hart.ensures.hart in
+    let none : IsPartner (hart_in c.args.self.now c.args.event.now.id.hart) c.args.event.now None =
+    subst (λ (h : Hart). IsPartner h c.args.event.now None) is c.in_err-lr.ensures in
+    subst (IsReserved (happened c.args.self.now.kept) c.args.event.now) (sym c.from_residual-in_err-lr.ensures)
+    (λ lr p. let q = partner_to c.args.self.now.model (happened c.args.self.now.kept) c.args.event.now c.hart.ensures.indexed c.requires lr p in none lr q.0 q.1)
+
+pub returns-in_err-hart : goal.returns-in_err-hart
+returns-in_err-hart c =
+    subst (IsReserved (happened c.args.self.now.kept) c.args.event.now) (sym c.from_residual.ensures)
+    (λ lr p. let q = partner_to c.args.self.now.model (happened c.args.self.now.kept) c.args.event.now c.hart.ensures.indexed c.requires lr p in Contains-none lr (subst (λ (es : List Event). Contains es lr) (c.in_err-hart.ensures.hart) q.0))
+
+pub returns : goal.returns
+returns c =
+    let is : c.in_ok-hart.field-0.now ≡ hart_in c.args.self.now c.args.event.now.id.hart = c.in_ok-hart.ensures.hart in
+    let some : IsPartner (hart_in c.args.self.now c.args.event.now.id.hart) c.args.event.now (Some c.in_ok-lr.lr.now) =
+    subst (λ (h : Hart). IsPartner h c.args.event.now (Some c.in_ok-lr.lr.now)) is c.in_ok-lr.ensures in
+    (c.in_ok-lr.lr.now, partner_from c.args.self.now.model (happened c.args.self.now.kept) c.args.event.now c.hart.ensures.indexed c.requires c.in_ok-lr.lr.now some.0 some.1, refl, refl)

@@ -1,0 +1,30 @@
+-- What the hart's events say, the history's say.
+use Rattle.std.proofs.Common.{◌≡◌, List, [], Option, Some, None, sym, ap, ◌∙◌, subst}
+use Rattle.rv_event.specs.declared.event.Id.{Id}
+use Rattle.rv_hart.specs.Harts.{Hart, Follows}
+use Rattle.rv_hart.specs.Kept.{IsStaleBy}
+use Rattle.rv_edges.specs.Kept.{Past, happened}
+use Rattle.rv_edges.specs.Histories.{IsStaleOf}
+use Rattle.rv_edges.specs.Indexes.{hart_in}
+use Rattle.rv_edges.proofs.Indexing.{follows}
+use Rattle.rv_edges.proofs.Harting.{none_stale_of, stale_is, stale_was}
+use Rattle.rv_edges.proofs.history.History.stale.Goals as goal
+
+pub stale-requires : goal.stale-requires
+stale-requires c =
+    let is : c.in_ok-hart.field-0.now ≡ hart_in c.args.self.now c.args.event.now.id.hart = c.in_ok-hart.ensures.hart in
+    subst (λ (h : Hart). Follows h c.args.event.now) (sym is) (follows c.args.self.now c.args.event.now c.requires)
+
+pub returns-in_err-hart : goal.returns-in_err-hart
+returns-in_err-hart c =
+    subst (IsStaleOf c.args.self.now.kept c.args.event.now) (sym c.from_residual.ensures)
+    (none_stale_of c.args.self.now.model (happened c.args.self.now.kept) c.args.event.now c.hart.ensures.indexed c.requires c.in_err-hart.ensures.hart)
+
+pub returns : goal.returns
+returns c =
+    let is : c.in_ok-hart.field-0.now ≡ hart_in c.args.self.now c.args.event.now.id.hart = c.in_ok-hart.ensures.hart in
+    go c.stale.result (subst (λ (h : Hart). IsStaleBy h c.args.event.now c.stale.result) is c.stale.ensures)
+  where
+    go : (o : Option Id) → IsStaleBy (hart_in c.args.self.now c.args.event.now.id.hart) c.args.event.now o → IsStaleOf c.args.self.now.kept c.args.event.now o
+    go None none = λ s p. none s (stale_was c.args.self.now.model (happened c.args.self.now.kept) c.args.event.now c.hart.ensures.indexed c.requires s p)
+    go (Some s) p = stale_is c.args.self.now.model (happened c.args.self.now.kept) c.args.event.now c.hart.ensures.indexed c.requires s p

@@ -1,0 +1,8 @@
+-- What the context says, the log says.
+use Rattle.std.proofs.Common.{◌∙◌, ap}
+use Rattle.rv_event.specs.Faults.{lowest}
+use Rattle.rv_event.proofs.Contexts.{faults-in}
+use Rattle.rv_event.proofs.context.first_fault.Goals as goal
+
+pub returns : goal.returns
+returns c log is = c.first_fault_in.ensures ∙ ap lowest (faults-in log c.args.event.now c.args.context.now is)

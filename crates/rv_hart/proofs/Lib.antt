@@ -1,0 +1,14 @@
+pub mod Absorbing
+pub mod Conditions
+pub mod Depending
+pub mod Joining
+pub mod Keeping
+pub mod Knowing
+pub mod Linking
+pub mod Ruling
+pub mod Staling
+pub mod Tying
+pub mod Walking
+pub mod Wording
+pub mod OfHart
+pub mod Reserving

@@ -1,0 +1,266 @@
+-- What the rules say of two events of one hart, they say over the hart's events alone.
+use Rattle.std.proofs.Common.{ltb, leb, ◌≡◌, ◌≢◌, ℕ, Bool, true, false, not, ◌&&◌, ◌||◌, ◌==◌, cond, List, [], ◌∷◌, ◌++◌, length, filter, find, reverse, map, Contains, All, Any, Option, Some, None, ◌⊎◌, inl, inr, refl, sym, ap, ◌∙◌, arith, subst, eqb-true, eq-eqb, IsFalse, IsTrue, option_map, unwrap_or}
+use Rattle.std.specs.List.{list_any}
+use Rattle.std.proofs.lemmas.Bool.{and_parts, false≢true}
+use Rattle.std.proofs.lemmas.Option.{none-some}
+use Rattle.std.proofs.lemmas.List.Elements.{All-contains, All-filter, filter_passes, filter-append}
+use Rattle.rv_event.proofs.Names.{named-is, find-found}
+use Rattle.rv_event.proofs.Indexed.{Indexed, Sound, NoneOf, lowest-none, none-lowest, not_taken}
+use Rattle.rv_event.proofs.Growing.{Any-contains, Any-from_contains, All-from_contains, named-of_hart}
+use Rattle.rv_event.specs.Operations.{IsStore, is_store, is_exclusive}
+use Rattle.rv_event.specs.Log.{same_id, named, of_hart, writer, did_write, Earlier, Between}
+use Rattle.rv_event.specs.Relations.{Paired, DependsOn, fence_orders}
+use Rattle.rv_event.specs.Preserved.{Condition, overlapping_store, different_reads, reads_atomic_write, fenced, after_acquire, before_release, both_rcsc, paired, address, data_of, control, reads_dependent_write, after_dependent_address, IsDependentWrite, Rule, IsPreserved}
+use Rattle.rv_event.specs.Edges.{IsLowest, IsStale}
+use Rattle.rv_event.specs.Faults.{fault_if, lowest, expected, first_faults, deps_fault, event_fault, is_bad_dependency, names_no_value, can_be_named, admits, taken_fault, last_exclusive, is_reserved, dependency_fault, sequence_fault, reservation_fault, full_fault}
+use Rattle.rv_event.specs.declared.event.Id.{Id}
+use Rattle.rv_event.specs.declared.event.Dep.{Dep}
+use Rattle.rv_event.specs.declared.event.DepKind.TheVariants.{Addr, Ctrl}
+use Rattle.rv_event.specs.declared.event.Event.{Event}
+use Rattle.rv_event.specs.declared.event.Op.TheVariants.{Branch}
+use Rattle.rv_event.specs.declared.fault.Fault.{Fault}
+use Rattle.rv_event.specs.declared.fault.Fault.TheVariants.{Dependency, VersionTaken}
+use Rattle.rv_event.specs.declared.memory_model.MemoryModel.{MemoryModel}
+use Rattle.rv_event.specs.declared.reason.Reason.TheVariants.{Preserved}
+use Rattle.rv_cover.specs.Paths.{AnyRule, Reaches}
+use Rattle.rv_cover.specs.Carries.{IsSplit}
+use Rattle.rv_cover.proofs.Covering.{path-map}
+
+-- what a hart's events are
+pub own_contains : (log : List Event) (h : ℕ) (a : Event) → Contains (of_hart h log) a → Contains log a × (a.id.hart ≡ h)
+own_contains log h a c =
+    let p : Event → Bool = λ x. h == x.id.hart in
+    let in_log : Contains log a =
+    All-contains (λ x. Contains log x) (filter p log) a (All-filter p (λ x. Contains log x) log (All-from_contains (λ x. Contains log x) log (λ x d. d))) c in
+    let passes : (h == a.id.hart) ≡ true = All-contains (λ x. p x ≡ true) (filter p log) a (filter_passes p log) c in
+    (in_log, sym (eqb-true h a.id.hart passes))
+
+pub contains_own : (log : List Event) (h : ℕ) (a : Event) → Indexed log → Contains log a → a.id.hart ≡ h → Contains (of_hart h log) a
+contains_own log h a known c same =
+    let found : find (λ (x : Event). same_id a.id x.id) (of_hart a.id.hart log) ≡ Some a = sym (named-of_hart log a.id) ∙ known.own a c in
+    subst (λ (n : ℕ). Contains (of_hart n log) a) same (find-found (λ (x : Event). same_id a.id x.id) (of_hart a.id.hart log) a found).0
+
+filter-again : {X : Type 0} (p : X → Bool) (xs : List X) → filter p (filter p xs) ≡ filter p xs
+filter-again p [] = refl
+filter-again {X} p (x ∷ xs) = go (p x) refl (filter-again p xs)
+  where
+    go : (b : Bool) → p x ≡ b → filter p (filter p xs) ≡ filter p xs → filter p (cond b (x ∷ filter p xs) (filter p xs)) ≡ cond b (x ∷ filter p xs) (filter p xs)
+    go true e again = rw (e, again)
+    go false e again = again
+
+pub own_again : (log : List Event) (h : ℕ) → of_hart h (of_hart h log) ≡ of_hart h log
+own_again log h = filter-again (λ (x : Event). h == x.id.hart) log
+
+-- an id of the hart names the same event
+pub named-own : (log : List Event) (h : ℕ) (i : Id) → i.hart ≡ h → named (of_hart h log) i ≡ named log i
+named-own log h i same =
+    let all : (n : ℕ) → i.hart ≡ n → named (of_hart n log) i ≡ named log i = λ n e.
+    named-of_hart (of_hart n log) i ∙ ap (λ m. find (λ (x : Event). same_id i x.id) (of_hart m (of_hart n log))) e
+    ∙ ap (find (λ (x : Event). same_id i x.id)) (own_again log n) ∙ ap (λ m. find (λ (x : Event). same_id i x.id) (of_hart m log)) (sym e) ∙ sym (named-of_hart log i) in
+    all h same
+
+-- the hart's events and one more of it
+pub own-push : (log : List Event) (e : Event) (h : ℕ) → e.id.hart ≡ h → of_hart h (log ++ e ∷ []) ≡ of_hart h log ++ e ∷ []
+own-push log e h same =
+    let p : Event → Bool = λ x. h == x.id.hart in
+    let one : (b : Bool) → b ≡ true → cond b (e ∷ []) [] ≡ e ∷ [] = λ b t. rw t in
+    filter-append p log (e ∷ []) ∙ ap (λ (ys : List Event). of_hart h log ++ ys) (one (h == e.id.hart) (eq-eqb h e.id.hart (sym same)))
+
+module _ (model : MemoryModel) (log : List Event) (h : ℕ) (known : Indexed log) where
+  abbrev own : List Event
+  own = of_hart h log
+
+  All-to : (P : Event → Type 0) → All P log → All P own
+  All-to P all = All-filter (λ x. h == x.id.hart) P log all
+
+  -- what holds of each event of the hart, and of no other, holds of all
+  All-from : (a b : Event) → a.id.hart ≡ h → (P : Event → Type 0) → All (λ m. Between a m b → P m) own → All (λ m. Between a m b → P m) log
+  All-from a b at P all =
+      All-from_contains (λ m. Between a m b → P m) log
+      (λ m c between. All-contains (λ m. Between a m b → P m) own m all (contains_own log h m known c (sym between.after.hart ∙ at)) between)
+
+  Any-to : (P : Event → Type 0) → ((m : Event) → P m → m.id.hart ≡ h) → Any P log → Any P own
+  Any-to P at any = let x = Any-contains P log any in Any-from_contains P own x.0 (contains_own log h x.0 known x.1 (at x.0 x.2)) x.2
+
+  Any-from : (P : Event → Type 0) → Any P own → Any P log
+  Any-from P any = let x = Any-contains P own any in Any-from_contains P log x.0 (own_contains log h x.0 x.1).0 x.2
+
+  pub paired_to : (lr sc : Event) → Paired log lr sc → Paired own lr sc
+  paired_to lr sc p = record { is_lr = p.is_lr; is_sc = p.is_sc; earlier = p.earlier; none_between = All-to (λ m. Between lr m sc → IsFalse (is_exclusive m.op)) p.none_between }
+
+  pub paired_from : (lr sc : Event) → lr.id.hart ≡ h → Paired own lr sc → Paired log lr sc
+  paired_from lr sc at p = record { is_lr = p.is_lr; is_sc = p.is_sc; earlier = p.earlier; none_between = All-from lr sc at (λ m. IsFalse (is_exclusive m.op)) p.none_between }
+
+  condition_to : (a b : Event) → a.id.hart ≡ h → (k : ℕ) → Condition model log a b k → Condition model own a b k
+  condition_to a b at k (overlapping_store p) = overlapping_store p
+  condition_to a b at k (different_reads p) = different_reads (record { first = p.first; second = p.second; word = p.word; versions = p.versions; none_between = All-to (λ m. Between a m b → IsStore m → m.word ≢ a.word) p.none_between })
+  condition_to a b at k (reads_atomic_write p) = reads_atomic_write p
+  condition_to a b at k (fenced p) = fenced (Any-to (λ f. Between a f b × IsTrue (fence_orders f.op a.op b.op)) (λ m q. sym q.0.after.hart ∙ at) p)
+  condition_to a b at k (after_acquire p) = after_acquire p
+  condition_to a b at k (before_release p) = before_release p
+  condition_to a b at k (both_rcsc p q) = both_rcsc p q
+  condition_to a b at k (paired p) = paired (paired_to a b p)
+  condition_to a b at k (address p) = address p
+  condition_to a b at k (data_of p) = data_of p
+  condition_to a b at k (control s p) = control s (Any-to (λ m. Between a m b × (m.op ≡ Branch) × DependsOn Ctrl m a) (λ m q. sym q.0.after.hart ∙ at) p)
+  condition_to a b at k (reads_dependent_write p) = reads_dependent_write (record { load = p.load; through = Any-to (IsDependentWrite a b) (λ m q. sym q.between.after.hart ∙ at) p.through })
+  condition_to a b at k (after_dependent_address p) = after_dependent_address (record { store = p.store; through = Any-to (λ m. Between a m b × DependsOn Addr m a) (λ m q. sym q.0.after.hart ∙ at) p.through })
+
+  condition_from : (a b : Event) → a.id.hart ≡ h → (k : ℕ) → Condition model own a b k → Condition model log a b k
+  condition_from a b at k (overlapping_store p) = overlapping_store p
+  condition_from a b at k (different_reads p) = different_reads (record { first = p.first; second = p.second; word = p.word; versions = p.versions; none_between = All-from a b at (λ m. IsStore m → m.word ≢ a.word) p.none_between })
+  condition_from a b at k (reads_atomic_write p) = reads_atomic_write p
+  condition_from a b at k (fenced p) = fenced (Any-from (λ f. Between a f b × IsTrue (fence_orders f.op a.op b.op)) p)
+  condition_from a b at k (after_acquire p) = after_acquire p
+  condition_from a b at k (before_release p) = before_release p
+  condition_from a b at k (both_rcsc p q) = both_rcsc p q
+  condition_from a b at k (paired p) = paired (paired_from a b at p)
+  condition_from a b at k (address p) = address p
+  condition_from a b at k (data_of p) = data_of p
+  condition_from a b at k (control s p) = control s (Any-from (λ m. Between a m b × (m.op ≡ Branch) × DependsOn Ctrl m a) p)
+  condition_from a b at k (reads_dependent_write p) = reads_dependent_write (record { load = p.load; through = Any-from (IsDependentWrite a b) p.through })
+  condition_from a b at k (after_dependent_address p) = after_dependent_address (record { store = p.store; through = Any-from (λ m. Between a m b × DependsOn Addr m a) p.through })
+
+  pub rule_to : (k : ℕ) (a b : Event) → a.id.hart ≡ h → Rule model log k a b → Rule model own k a b
+  rule_to k a b at r = record {
+    from = contains_own log h a known r.from at;
+    to = contains_own log h b known r.to (sym r.earlier.hart ∙ at);
+    from_memory = r.from_memory;
+    to_memory = r.to_memory;
+    earlier = r.earlier;
+    condition = condition_to a b at k r.condition;
+  }
+
+  pub rule_from : (k : ℕ) (a b : Event) → Rule model own k a b → Rule model log k a b
+  rule_from k a b r = let c = own_contains log h a r.from in record {
+    from = c.0;
+    to = (own_contains log h b r.to).0;
+    from_memory = r.from_memory;
+    to_memory = r.to_memory;
+    earlier = r.earlier;
+    condition = condition_from a b c.1 k r.condition;
+  }
+
+  pub any_rule_to : (a b : Event) → a.id.hart ≡ h → AnyRule model log a b → AnyRule model own a b
+  any_rule_to a b at r = (r.0, rule_to r.0 a b at r.1)
+
+  pub any_rule_from : (a b : Event) → AnyRule model own a b → AnyRule model log a b
+  any_rule_from a b r = (r.0, rule_from r.0 a b r.1)
+
+  pub reaches_from : (a b : Event) → Reaches model own a b → Reaches model log a b
+  reaches_from a b p = path-map Event (AnyRule model own) (AnyRule model log) any_rule_from a b p
+
+  pub preserved_to : (k : ℕ) (i j : Id) → i.hart ≡ h → IsPreserved model log k i j → IsPreserved model own k i j
+  preserved_to k i j at p =
+      let from : i.hart ≡ p.a.id.hart = ap (λ (x : Id). x.hart) (named-is log i p.a p.first).1 in
+      let to : j.hart ≡ p.b.id.hart = ap (λ (x : Id). x.hart) (named-is log j p.b p.second).1 in
+      record {
+        a = p.a;
+        b = p.b;
+        first = named-own log h i at ∙ p.first;
+        second = named-own log h j (to ∙ sym p.rule.earlier.hart ∙ sym from ∙ at) ∙ p.second;
+        rule = rule_to k p.a p.b (sym from ∙ at) p.rule;
+      }
+
+  pub preserved_from : (k : ℕ) (i j : Id) → IsPreserved model own k i j → IsPreserved model log k i j
+  preserved_from k i j p =
+      let first = named-is own i p.a p.first in
+      let second = named-is own j p.b p.second in
+      let from : i.hart ≡ h = ap (λ (x : Id). x.hart) first.1 ∙ (own_contains log h p.a first.0).1 in
+      let to : j.hart ≡ h = ap (λ (x : Id). x.hart) second.1 ∙ (own_contains log h p.b second.0).1 in
+      record {
+        a = p.a;
+        b = p.b;
+        first = sym (named-own log h i from) ∙ p.first;
+        second = sym (named-own log h j to) ∙ p.second;
+        rule = rule_from k p.a p.b p.rule;
+      }
+
+  pub lowest_from : (k : ℕ) (i j : Id) → i.hart ≡ h → IsLowest model own i (Preserved k) j → IsLowest model log i (Preserved k) j
+  lowest_from k i j at low n less p = low n less (preserved_to n i j at p)
+
+  pub stale_to : (i j : Id) → i.hart ≡ h → IsStale log i j → IsStale own i j
+  stale_to i j at s =
+      let from : i.hart ≡ s.a.id.hart = ap (λ (x : Id). x.hart) (named-is log i s.a s.load_named).1 in
+      let to : j.hart ≡ s.b.id.hart = ap (λ (x : Id). x.hart) (named-is log j s.b s.store_named).1 in
+      record {
+        a = s.a;
+        b = s.b;
+        load_named = named-own log h i at ∙ s.load_named;
+        store_named = named-own log h j (to ∙ s.earlier.hart ∙ sym from ∙ at) ∙ s.store_named;
+        is_load = s.is_load;
+        is_store = s.is_store;
+        word = s.word;
+        earlier = s.earlier;
+        versions = s.versions;
+      }
+
+  pub stale_from : (i j : Id) → IsStale own i j → IsStale log i j
+  stale_from i j s =
+      let first = named-is own i s.a s.load_named in
+      let second = named-is own j s.b s.store_named in
+      let from : i.hart ≡ h = ap (λ (x : Id). x.hart) first.1 ∙ (own_contains log h s.a first.0).1 in
+      let to : j.hart ≡ h = ap (λ (x : Id). x.hart) second.1 ∙ (own_contains log h s.b second.0).1 in
+      record {
+        a = s.a;
+        b = s.b;
+        load_named = sym (named-own log h i from) ∙ s.load_named;
+        store_named = sym (named-own log h j to) ∙ s.store_named;
+        is_load = s.is_load;
+        is_store = s.is_store;
+        word = s.word;
+        earlier = s.earlier;
+        versions = s.versions;
+      }
+
+-- ---- faults
+find-none : {X : Type 0} (p q : X → Bool) (xs : List X) → find p xs ≡ None → find p (filter q xs) ≡ None
+find-none p q [] e = refl
+find-none {X} p q (x ∷ xs) e = go (p x) refl (q x) e (find-none p q xs)
+  where
+    go :
+        (b : Bool) → p x ≡ b → (d : Bool) → cond b (Some x) (find p xs) ≡ None →
+        (find p xs ≡ None → find p (filter q xs) ≡ None) → find p (cond d (x ∷ filter q xs) (filter q xs)) ≡ None
+    go true t d f again = absurd (none-some x (sym f))
+    go false t true f again = rw t (again f)
+    go false t false f again = again f
+
+writer_none : (log : List Event) (h word version : ℕ) → writer log word version ≡ None → writer (of_hart h log) word version ≡ None
+writer_none log h word version e = go (version == 0) e
+  where
+    go : (b : Bool) → cond b None (find (did_write word version) log) ≡ None → cond b None (find (did_write word version) (of_hart h log)) ≡ None
+    go true f = refl
+    go false f = find-none (did_write word version) (λ x. h == x.id.hart) log f
+
+taken_none : (log : List Event) (h : ℕ) (e : Event) → taken_fault log e ≡ None → taken_fault (of_hart h log) e ≡ None
+taken_none log h e none = go (is_store e.op) refl
+  where
+    go : (b : Bool) → is_store e.op ≡ b → cond b (option_map (λ (w : Event). VersionTaken w.id) (writer (of_hart h log) e.word e.wrote)) None ≡ None
+    go true s = rw (writer_none log h e.word e.wrote (not_taken log e none s))
+    go false s = refl
+
+bad-own : (log : List Event) (h : ℕ) (e : Event) (d : Dep) → e.id.hart ≡ h → is_bad_dependency (of_hart h log) e d ≡ is_bad_dependency log e d
+bad-own log h e d at = rw (named-own log h (record { hart = e.id.hart; seq = d.seq }) at)
+
+pub any-same : {X : Type 0} (p q : X → Bool) (xs : List X) → ((x : X) → p x ≡ q x) → list_any p xs ≡ list_any q xs
+any-same p q [] same = refl
+any-same p q (x ∷ xs) same = rw (same x, any-same p q xs same)
+
+-- an event without a fault over the log has none over its hart's events
+pub fault_own : (log : List Event) (e : Event) → event_fault log e ≡ None → event_fault (of_hart e.id.hart log) e ≡ None
+fault_own log e none =
+    let own : List Event = of_hart e.id.hart log in
+    let each : NoneOf (first_faults log e ++ deps_fault e ∷ []) = lowest-none (first_faults log e ++ deps_fault e ∷ []) none in
+    let same : of_hart e.id.hart own ≡ own = own_again log e.id.hart in
+    let sequence : sequence_fault own e ≡ None = rw same each.1.0 in
+    let bad : list_any (is_bad_dependency own e) e.deps ≡ list_any (is_bad_dependency log e) e.deps =
+    any-same (is_bad_dependency own e) (is_bad_dependency log e) e.deps (λ d. bad-own log e.id.hart e d refl) in
+    let dependency : dependency_fault own e ≡ None = rw bad each.1.1.0 in
+    let taken : taken_fault own e ≡ None = taken_none log e.id.hart e each.1.1.1.1.0 in
+    let reservation : reservation_fault own e ≡ None = rw same each.1.1.1.1.1.0 in
+    let full : full_fault own e ≡ None = rw same each.1.1.1.1.1.1.0 in
+    none-lowest (first_faults own e ++ deps_fault e ∷ []) (each.0, (sequence, (dependency, (each.1.1.1.0, (taken, (reservation, (full, (each.1.1.1.1.1.1.1.0, tt))))))))
+
+-- nor does it change whether the hart has a reservation
+pub reserved-own : (log : List Event) (h : ℕ) → is_reserved (of_hart h log) h ≡ is_reserved log h
+reserved-own log h = rw (own_again log h)

@@ -1,0 +1,391 @@
+-- What the conditions of the rules say of a new event, by what is kept of the old ones.
+use Rattle.std.proofs.Common.{◌≡◌, ℕ, Bool, true, false, ◌||◌, ◌&&◌, ◌==◌, ◌↔◌, List, Contains, IsTrue, IsFalse, ◌⊎◌, inl, inr, sym, refl, ap, ◌∙◌, subst, eqb-true, eq-eqb}
+use Rattle.std.proofs.lemmas.Bool.{or_cases, or_left, or_right, and_parts, and_from, false≢true, cases_order}
+use Rattle.std.proofs.lemmas.Option.{same_Some}
+use Rattle.std.proofs.lemmas.List.Elements.{Contains-push, All-contains}
+use Rattle.rv_event.proofs.Growing.{Any-contains, Any-from_contains, All-from_contains}
+use Rattle.rv_hart.proofs.Conditions.{reads_atomic_write_out, fenced_out, after_acquire_out, before_release_out, both_rcsc_out, paired_out, address_out, data_of_out, control_out, reads_dependent_write_out, after_dependent_address_out}
+use Rattle.rv_event.specs.Operations.{is_amo, is_load, is_store, is_memory, is_exclusive, IsLoad, IsStore, IsMemory, Returns}
+use Rattle.rv_event.specs.Annotations.{is_annotated, IsAcquire, IsRelease, IsRcsc}
+use Rattle.rv_event.specs.Log.{Earlier, Between, writer}
+use Rattle.rv_event.specs.Relations.{Paired, in_set, fence_orders, Fenced, DependsOn}
+use Rattle.rv_event.specs.Preserved.{Condition, reads_atomic_write, fenced, after_acquire, before_release, both_rcsc, paired, address, data_of, control, reads_dependent_write, after_dependent_address, IsDependentWrite}
+use Rattle.rv_event.specs.declared.event.Event.{Event}
+use Rattle.rv_event.specs.declared.event.DepKind.TheVariants.{Addr, DataOf, Ctrl}
+use Rattle.rv_event.specs.declared.event.Op.{Op}
+use Rattle.rv_event.specs.declared.event.Op.TheVariants.{Load, Store, Lr, Sc, ScFailed, Amo, Fence, FenceTso, Branch}
+use Rattle.rv_event.specs.declared.event.Set.{Set}
+use Rattle.rv_event.specs.declared.event.Set.TheVariants.{R, W, Rw}
+use Rattle.rv_event.specs.declared.memory_model.MemoryModel.{MemoryModel}
+use Rattle.rv_event.specs.declared.memory_model.MemoryModel.TheVariants.{Rvwmo, Ztso}
+use Rattle.rv_rows.specs.Bits.{Has, has_bit}
+use Rattle.rv_hart.specs.Harts.{Hart, followed, IsOwnStore}
+use Rattle.rv_hart.specs.Rows.{IsOrderedBy}
+use Rattle.rv_hart.specs.RuleRows.{RuleRowIs}
+use Rattle.rv_hart.specs.Sets.{HasEvent, RowIs, IsFencedFor, IsControlling, IsAddressing, IsReserving}
+use Rattle.rv_hart.proofs.Knowing.{Fits, same_event, follows_all, earlier_old, old_new}
+use Rattle.rv_hart.proofs.Absorbing.{has-map, orders_by_kind}
+
+-- ---- rows put together
+pub row-none : (events : List Event) (row : List ℕ) → ((s : ℕ) → has_bit row s ≡ false) → RowIs row (λ _. ⊥) events
+row-none events row none s = (λ x. absurd (false≢true (sym (none s) ∙ x)), λ x. absurd x.holds)
+
+-- all of another row, where a test passes
+pub row-when : (P Q : Event → Type 0) (T : Type 0) (events : List Event) (test : Bool) (row other row' : List ℕ) → RowIs row P events → IsTrue test ↔ T → RowIs other Q events →
+    ((s : ℕ) → has_bit row' s ≡ (has_bit row s || (test && has_bit other s))) → RowIs row' (λ a. P a ⊎ (T × Q a)) events
+row-when P Q T events test row other row' is decides others more s = (to, from)
+  where
+    to : Has row' s → HasEvent (λ a. P a ⊎ (T × Q a)) events s
+    to x = elim (or_cases (has_bit row s) (test && has_bit other s) (sym (more s) ∙ x)) [
+      | inl y ↦ has-map P (λ a. P a ⊎ (T × Q a)) events events s (λ a c p. (c, inl p)) ((is s).0 y)
+      | inr y ↦ (let p = and_parts test (has_bit other s) y in has-map Q (λ a. P a ⊎ (T × Q a)) events events s (λ a c q. (c, inr (decides.0 p.0, q))) ((others s).0 p.1))
+    ]
+
+    from : HasEvent (λ a. P a ⊎ (T × Q a)) events s → Has row' s
+    from x = elim x.holds [
+      | inl p ↦ (more s ∙ or_left (has_bit row s) (test && has_bit other s) ((is s).1 (record { a = x.a; of_list = x.of_list; at = x.at; holds = p })))
+      | inr q ↦ (more s ∙ or_right (has_bit row s) (test && has_bit other s) (and_from test (has_bit other s) (decides.1 q.0) ((others s).1 (record { a = x.a; of_list = x.of_list; at = x.at; holds = q.1 }))))
+    ]
+
+-- all of another row
+pub row-both : (P Q : Event → Type 0) (events : List Event) (row other row' : List ℕ) → RowIs row P events → RowIs other Q events →
+    ((s : ℕ) → has_bit row' s ≡ (has_bit row s || has_bit other s)) → RowIs row' (λ a. P a ⊎ Q a) events
+row-both P Q events row other row' is others more s = (to, from)
+  where
+    to : Has row' s → HasEvent (λ a. P a ⊎ Q a) events s
+    to x = elim (or_cases (has_bit row s) (has_bit other s) (sym (more s) ∙ x)) [
+      | inl y ↦ has-map P (λ a. P a ⊎ Q a) events events s (λ a c p. (c, inl p)) ((is s).0 y)
+      | inr y ↦ has-map Q (λ a. P a ⊎ Q a) events events s (λ a c q. (c, inr q)) ((others s).0 y)
+    ]
+
+    from : HasEvent (λ a. P a ⊎ Q a) events s → Has row' s
+    from x = elim x.holds [
+      | inl p ↦ (more s ∙ or_left (has_bit row s) (has_bit other s) ((is s).1 (record { a = x.a; of_list = x.of_list; at = x.at; holds = p })))
+      | inr q ↦ (more s ∙ or_right (has_bit row s) (has_bit other s) ((others s).1 (record { a = x.a; of_list = x.of_list; at = x.at; holds = q })))
+    ]
+
+-- one number, where a test passes
+pub row-one : (T : Type 0) (w : Event) (events : List Event) (test : Bool) (row row' : List ℕ) → ((a : Event) → Contains events a → a.id.seq ≡ w.id.seq → w ≡ a) → Contains events w → ((s : ℕ) → has_bit row s ≡ false) → IsTrue test ↔ T →
+    ((s : ℕ) → has_bit row' s ≡ (has_bit row s || (test && (w.id.seq == s)))) → RowIs row' (λ a. T × (w ≡ a)) events
+row-one T w events test row row' one cw none decides more s = (to, from)
+  where
+    to : Has row' s → HasEvent (λ a. T × (w ≡ a)) events s
+    to x = elim (or_cases (has_bit row s) (test && (w.id.seq == s)) (sym (more s) ∙ x)) [
+      | inl y ↦ absurd (false≢true (sym (none s) ∙ y))
+      | inr y ↦ (let p = and_parts test (w.id.seq == s) y in record { a = w; of_list = cw; at = eqb-true w.id.seq s p.1; holds = (decides.0 p.0, refl) })
+    ]
+
+    from : HasEvent (λ a. T × (w ≡ a)) events s → Has row' s
+    from x = more s ∙ or_right (has_bit row s) (test && (w.id.seq == s)) (and_from test (w.id.seq == s) (decides.1 x.holds.0) (eq-eqb w.id.seq s (ap (λ (y : Event). y.id.seq) x.holds.1 ∙ x.at)))
+
+-- ---- annotations are of memory operations
+load-memory : (a : Event) → IsLoad a → IsMemory a
+load-memory a l = or_left (is_load a.op) (is_store a.op) l
+
+store-memory : (a : Event) → IsStore a → IsMemory a
+store-memory a w = or_right (is_load a.op) (is_store a.op) w
+
+annotated-memory : (op : Op) (b : Bool) → IsTrue (is_annotated op && b) → IsTrue (is_memory op)
+annotated-memory Lr b t = refl
+annotated-memory Sc b t = refl
+annotated-memory Amo b t = refl
+annotated-memory Load b t = absurd (false≢true t)
+annotated-memory Store b t = absurd (false≢true t)
+annotated-memory ScFailed b t = absurd (false≢true t)
+annotated-memory (Fence p q) b t = absurd (false≢true t)
+annotated-memory FenceTso b t = absurd (false≢true t)
+annotated-memory Branch b t = absurd (false≢true t)
+
+acquire-memory : (model : MemoryModel) (a : Event) → IsAcquire model a → IsMemory a
+acquire-memory Rvwmo a h = annotated-memory a.op a.acquire h
+acquire-memory Ztso a h = elim (or_cases (is_load a.op) (is_annotated a.op && a.acquire) h) [ inl l ↦ load-memory a l | inr t ↦ annotated-memory a.op a.acquire t ]
+
+amo-memory : (op : Op) → IsTrue (is_amo op) → IsTrue (is_memory op)
+amo-memory Amo t = refl
+amo-memory Load t = absurd (false≢true t)
+amo-memory Store t = absurd (false≢true t)
+amo-memory Lr t = absurd (false≢true t)
+amo-memory Sc t = absurd (false≢true t)
+amo-memory ScFailed t = absurd (false≢true t)
+amo-memory (Fence p q) t = absurd (false≢true t)
+amo-memory FenceTso t = absurd (false≢true t)
+amo-memory Branch t = absurd (false≢true t)
+
+rcsc-memory : (model : MemoryModel) (a : Event) → IsRcsc model a → IsMemory a
+rcsc-memory Rvwmo a h = annotated-memory a.op (a.acquire || a.release) h
+rcsc-memory Ztso a h = elim (or_cases (is_amo a.op) (is_annotated a.op && (a.acquire || a.release)) h) [ inl l ↦ amo-memory a.op l | inr t ↦ annotated-memory a.op (a.acquire || a.release) t ]
+
+fence-memory : (f a op : Op) → IsTrue (fence_orders f a op) → IsTrue (is_memory a)
+fence-memory f a op h = elim (or_cases (is_load a && fence_orders f Load op) (is_store a && fence_orders f Store op) (sym (orders_by_kind f a op) ∙ h)) [
+  | inl l ↦ or_left (is_load a) (is_store a) (and_parts (is_load a) (fence_orders f Load op) l).0
+  | inr w ↦ or_right (is_load a) (is_store a) (and_parts (is_store a) (fence_orders f Store op) w).0
+]
+
+-- ---- what a fence orders before an operation it orders before a load or a store that the operation is
+set_cases : (succ : Set) (b : Op) → IsTrue (in_set succ b) → (IsTrue (is_load b) × IsTrue (in_set succ Load)) ⊎ (IsTrue (is_store b) × IsTrue (in_set succ Store))
+set_cases R b h = inl (h, refl)
+set_cases W b h = inr (h, refl)
+set_cases Rw b h = elim (or_cases (is_load b) (is_store b) h) [ inl l ↦ inl (l, refl) | inr w ↦ inr (w, refl) ]
+
+set_load : (succ : Set) (b : Op) → IsTrue (is_load b) → IsTrue (in_set succ Load) → IsTrue (in_set succ b)
+set_load R b l h = l
+set_load W b l h = absurd (false≢true h)
+set_load Rw b l h = or_left (is_load b) (is_store b) l
+
+set_store : (succ : Set) (b : Op) → IsTrue (is_store b) → IsTrue (in_set succ Store) → IsTrue (in_set succ b)
+set_store R b l h = absurd (false≢true h)
+set_store W b l h = l
+set_store Rw b l h = or_right (is_load b) (is_store b) l
+
+orders_cases : (f a b : Op) → IsTrue (fence_orders f a b) → (IsTrue (is_load b) × IsTrue (fence_orders f a Load)) ⊎ (IsTrue (is_store b) × IsTrue (fence_orders f a Store))
+orders_cases (Fence pred succ) a b h =
+    let p = and_parts (in_set pred a) (in_set succ b) h in
+    elim (set_cases succ b p.1) [ inl q ↦ inl (q.0, and_from _ _ p.0 q.1) | inr q ↦ inr (q.0, and_from _ _ p.0 q.1) ]
+orders_cases FenceTso a b h = go (or_cases (is_load a && is_memory b) (is_store a && is_store b) h)
+  where
+    go : ((is_load a && is_memory b) ≡ true) ⊎ ((is_store a && is_store b) ≡ true) → (IsTrue (is_load b) × IsTrue (fence_orders FenceTso a Load)) ⊎ (IsTrue (is_store b) × IsTrue (fence_orders FenceTso a Store))
+    go (inl q) =
+        let p = and_parts (is_load a) (is_memory b) q in
+        elim (or_cases (is_load b) (is_store b) p.1) [
+          | inl l ↦ inl (l, or_left (is_load a && true) (is_store a && false) (and_from (is_load a) true p.0 refl))
+          | inr w ↦ inr (w, or_left (is_load a && true) (is_store a && true) (and_from (is_load a) true p.0 refl))
+        ]
+    go (inr q) =
+        let p = and_parts (is_store a) (is_store b) q in
+        inr (p.1, or_right (is_load a && true) (is_store a && true) (and_from (is_store a) true p.0 refl))
+orders_cases f a b h = absurd (false≢true h)
+
+orders_load : (f a b : Op) → IsTrue (is_load b) → IsTrue (fence_orders f a Load) → IsTrue (fence_orders f a b)
+orders_load (Fence pred succ) a b l h = let p = and_parts (in_set pred a) (in_set succ Load) h in and_from _ _ p.0 (set_load succ b l p.1)
+orders_load FenceTso a b l h = go (or_cases (is_load a && true) (is_store a && false) h)
+  where
+    go : ((is_load a && true) ≡ true) ⊎ ((is_store a && false) ≡ true) → IsTrue (fence_orders FenceTso a b)
+    go (inl q) = or_left (is_load a && is_memory b) (is_store a && is_store b) (and_from _ _ (and_parts (is_load a) true q).0 (or_left (is_load b) (is_store b) l))
+    go (inr q) = absurd (false≢true (and_parts (is_store a) false q).1)
+orders_load f a b l h = absurd (false≢true h)
+
+orders_store : (f a b : Op) → IsTrue (is_store b) → IsTrue (fence_orders f a Store) → IsTrue (fence_orders f a b)
+orders_store (Fence pred succ) a b l h = let p = and_parts (in_set pred a) (in_set succ Store) h in and_from _ _ p.0 (set_store succ b l p.1)
+orders_store FenceTso a b l h = go (or_cases (is_load a && true) (is_store a && true) h)
+  where
+    go : ((is_load a && true) ≡ true) ⊎ ((is_store a && true) ≡ true) → IsTrue (fence_orders FenceTso a b)
+    go (inl q) = or_left (is_load a && is_memory b) (is_store a && is_store b) (and_from _ _ (and_parts (is_load a) true q).0 (or_right (is_load b) (is_store b) l))
+    go (inr q) = or_right (is_load a && is_memory b) (is_store a && is_store b) (and_from _ _ (and_parts (is_store a) true q).0 l)
+orders_store f a b l h = absurd (false≢true h)
+
+-- ---- each rule
+module _ (h : Hart) (e : Event) (f : Fits h e) (memory : IsMemory e) where
+  abbrev new : List Event
+  new = followed h e
+
+  -- the condition of a rule holds of a memory operation
+  abbrev IsUnder : ℕ → Event → Type 0
+  IsUnder k a = IsMemory a × Condition h.model new a e k
+
+  pub ordered : (k : ℕ) (a : Event) → Contains h.events a → IsUnder k a → IsOrderedBy h e k a.id.seq
+  ordered k a ca c = record { a = a; of_hart = ca; at = refl; rule = record { from = old_new h e a ca; to = Contains-push h.events e; from_memory = c.0; to_memory = memory; earlier = follows_all h e f a ca; condition = c.1 } }
+
+  pub rule_row : (k : ℕ) (P : Event → Type 0) (row : List ℕ) → RowIs row P h.events → ((a : Event) → Contains h.events a → P a ↔ IsUnder k a) → RuleRowIs h e k row
+  rule_row k P row is says s = (to, from)
+    where
+      to : Has row s → IsOrderedBy h e k s
+      to x = let y = (is s).0 x in let o = ordered k y.a y.of_list ((says y.a y.of_list).0 y.holds) in record { a = o.a; of_hart = o.of_hart; at = o.at ∙ y.at; rule = o.rule }
+
+      from : IsOrderedBy h e k s → Has row s
+      from o = (is s).1 (record { a = o.a; of_list = o.of_hart; at = o.at; holds = (says o.a o.of_hart).1 (o.rule.from_memory, o.rule.condition) })
+
+  -- an event that stands before the new one is an old one
+  old : (m : Event) → Contains new m → Earlier m e → Contains h.events m
+  old m c earlier = earlier_old h e f m c earlier
+
+  between : (a m : Event) → Contains h.events m → Earlier a m → Between a m e
+  between a m c earlier = record { after = earlier; before = follows_all h e f m c }
+
+  -- ---- rule 4
+  pub fenced-is : (a : Event) → Contains h.events a → ((⊥ ⊎ (IsLoad e × IsFencedFor Load h.events a)) ⊎ (IsStore e × IsFencedFor Store h.events a)) ↔ IsUnder 4 a
+  fenced-is a ca = (to, from)
+    where
+      found : (op : Op) → ((g : Op) → IsTrue (fence_orders g a.op op) → IsTrue (fence_orders g a.op e.op)) → IsFencedFor op h.events a → IsUnder 4 a
+      found op turn x =
+          let y = Any-contains (λ g. Earlier a g × IsTrue (fence_orders g.op a.op op)) h.events x in
+          (fence-memory y.0.op a.op op y.2.1, fenced (Any-from_contains (λ g. Between a g e × IsTrue (fence_orders g.op a.op e.op)) new y.0 (old_new h e y.0 y.1) (between a y.0 y.1 y.2.0, turn y.0.op y.2.1)))
+
+      to : (⊥ ⊎ (IsLoad e × IsFencedFor Load h.events a)) ⊎ (IsStore e × IsFencedFor Store h.events a) → IsUnder 4 a
+      to (inl (inl x)) = absurd x
+      to (inl (inr x)) = found Load (λ g t. orders_load g a.op e.op x.0 t) x.1
+      to (inr x) = found Store (λ g t. orders_store g a.op e.op x.0 t) x.1
+
+      from_fence : Fenced new a e → (⊥ ⊎ (IsLoad e × IsFencedFor Load h.events a)) ⊎ (IsStore e × IsFencedFor Store h.events a)
+      from_fence x =
+          let y = Any-contains (λ g. Between a g e × IsTrue (fence_orders g.op a.op e.op)) new x in
+          let c = old y.0 y.1 y.2.0.before in
+          elim (orders_cases y.0.op a.op e.op y.2.1) [
+            | inl l ↦ inl (inr (l.0, Any-from_contains (λ g. Earlier a g × IsTrue (fence_orders g.op a.op Load)) h.events y.0 c (y.2.0.after, l.1)))
+            | inr w ↦ inr (w.0, Any-from_contains (λ g. Earlier a g × IsTrue (fence_orders g.op a.op Store)) h.events y.0 c (y.2.0.after, w.1))
+          ]
+
+      from : IsUnder 4 a → (⊥ ⊎ (IsLoad e × IsFencedFor Load h.events a)) ⊎ (IsStore e × IsFencedFor Store h.events a)
+      from x = from_fence (fenced_out h.model new a e x.1)
+
+  -- ---- rule 5
+  pub acquire-is : (a : Event) → Contains h.events a → (⊥ ⊎ IsAcquire h.model a) ↔ IsUnder 5 a
+  acquire-is a ca = (λ x. elim x [ inl n ↦ absurd n | inr t ↦ (acquire-memory h.model a t, after_acquire t) ], λ x. inr (after_acquire_out h.model new a e x.1))
+
+  -- ---- rule 6
+  pub release-is : (a : Event) → Contains h.events a → ((⊥ ⊎ (IsRelease h.model e × IsLoad a)) ⊎ (IsRelease h.model e × IsStore a)) ↔ IsUnder 6 a
+  release-is a ca = (to, from)
+    where
+      to : (⊥ ⊎ (IsRelease h.model e × IsLoad a)) ⊎ (IsRelease h.model e × IsStore a) → IsUnder 6 a
+      to (inl (inl x)) = absurd x
+      to (inl (inr x)) = (load-memory a x.1, before_release x.0)
+      to (inr x) = (store-memory a x.1, before_release x.0)
+
+      from : IsUnder 6 a → (⊥ ⊎ (IsRelease h.model e × IsLoad a)) ⊎ (IsRelease h.model e × IsStore a)
+      from x =
+          let r = before_release_out h.model new a e x.1 in
+          elim (or_cases (is_load a.op) (is_store a.op) x.0) [ inl l ↦ inl (inr (r, l)) | inr w ↦ inr (r, w) ]
+
+  -- ---- rule 7
+  pub rcsc-is : (a : Event) → Contains h.events a → (⊥ ⊎ (IsRcsc h.model e × IsRcsc h.model a)) ↔ IsUnder 7 a
+  rcsc-is a ca = (
+    λ x. elim x [ inl n ↦ absurd n | inr t ↦ (rcsc-memory h.model a t.1, both_rcsc t.1 t.0) ],
+    λ x. (let r = both_rcsc_out h.model new a e x.1 in inr (r.1, r.0)),
+  )
+
+  -- ---- rules 9 and 10
+  pub address-is : (a : Event) → Contains h.events a → (IsMemory a × DependsOn Addr e a) ↔ IsUnder 9 a
+  address-is a ca = (λ x. (x.0, address x.1), λ x. (x.0, address_out h.model new a e x.1))
+
+  pub data-is : (a : Event) → Contains h.events a → (IsMemory a × DependsOn DataOf e a) ↔ IsUnder 10 a
+  data-is a ca = (λ x. (x.0, data_of x.1), λ x. (x.0, data_of_out h.model new a e x.1))
+
+  -- ---- rule 11
+  pub control-is : (a : Event) → Contains h.events a → (⊥ ⊎ (IsStore e × IsControlling h.events a)) ↔ IsUnder 11 a
+  control-is a ca = (to, from)
+    where
+      to : ⊥ ⊎ (IsStore e × IsControlling h.events a) → IsUnder 11 a
+      to (inl n) = absurd n
+      to (inr x) =
+          let y = Any-contains (λ m. (m.op ≡ Branch) × DependsOn Ctrl m a) h.events x.1.1 in
+          (x.1.0, control x.0 (Any-from_contains (λ m. Between a m e × (m.op ≡ Branch) × DependsOn Ctrl m a) new y.0 (old_new h e y.0 y.1) (between a y.0 y.1 y.2.1.0, y.2.0, y.2.1)))
+
+      from : IsUnder 11 a → ⊥ ⊎ (IsStore e × IsControlling h.events a)
+      from x =
+          let r = control_out h.model new a e x.1 in
+          let y = Any-contains (λ m. Between a m e × (m.op ≡ Branch) × DependsOn Ctrl m a) new r.1 in
+          inr (r.0, (x.0, Any-from_contains (λ m. (m.op ≡ Branch) × DependsOn Ctrl m a) h.events y.0 (old y.0 y.1 y.2.0.before) (y.2.1, y.2.2)))
+
+  -- ---- rule 13
+  pub dependent_address-is : (a : Event) → Contains h.events a → (⊥ ⊎ (IsStore e × IsAddressing h.events a)) ↔ IsUnder 13 a
+  dependent_address-is a ca = (to, from)
+    where
+      to : ⊥ ⊎ (IsStore e × IsAddressing h.events a) → IsUnder 13 a
+      to (inl n) = absurd n
+      to (inr x) =
+          let y = Any-contains (λ m. DependsOn Addr m a) h.events x.1.1 in
+          (x.1.0, after_dependent_address (record { store = x.0; through = Any-from_contains (λ m. Between a m e × DependsOn Addr m a) new y.0 (old_new h e y.0 y.1) (between a y.0 y.1 y.2.0, y.2) }))
+
+      from : IsUnder 13 a → ⊥ ⊎ (IsStore e × IsAddressing h.events a)
+      from x =
+          let r = after_dependent_address_out h.model new a e x.1 in
+          let y = Any-contains (λ m. Between a m e × DependsOn Addr m a) new r.through in
+          inr (r.store, (x.0, Any-from_contains (λ m. DependsOn Addr m a) h.events y.0 (old y.0 y.1 y.2.0.before) y.2.1))
+
+  -- ---- rules 3 and 12
+  -- a version has one store
+  one_store : (w a : Event) → Contains h.events w → Contains h.events a → IsStore w → IsStore a → Returns e w → Returns e a → w ≡ a
+  one_store w a cw ca sw sa rw' ra =
+      let word : w.word ≡ a.word = sym rw'.word ∙ ra.word in
+      let version : w.wrote ≡ a.wrote = sym rw'.version ∙ ra.version in
+      same_Some w a (sym (f.known.indexed.written w cw sw) ∙ ap (λ (x : ℕ). writer h.events x w.wrote) word ∙ ap (λ (v : ℕ). writer h.events a.word v) version ∙ f.known.indexed.written a ca sa)
+
+  atomic-store : (a : Event) → (a.op ≡ Amo) ⊎ (a.op ≡ Sc) → IsStore a
+  atomic-store a (inl is) = ap is_store is
+  atomic-store a (inr is) = ap is_store is
+
+  pub atomic-is : (w : Event) → IsOwnStore h e w → (a : Event) → Contains h.events a → (((w.op ≡ Amo) ⊎ (w.op ≡ Sc)) × (w ≡ a)) ↔ IsUnder 3 a
+  atomic-is w own a ca = (to, from)
+    where
+      to : ((w.op ≡ Amo) ⊎ (w.op ≡ Sc)) × (w ≡ a) → IsUnder 3 a
+      to x = subst (IsUnder 3) x.1 (store-memory w own.store, reads_atomic_write (record { atomic = x.0; load = own.load; returns = own.returns }))
+
+      from : IsUnder 3 a → ((w.op ≡ Amo) ⊎ (w.op ≡ Sc)) × (w ≡ a)
+      from x =
+          let r = reads_atomic_write_out h.model new a e x.1 in
+          let same : w ≡ a = one_store w a own.of_hart ca own.store (atomic-store a r.atomic) own.returns r.returns in
+          (subst (λ (y : Event). (y.op ≡ Amo) ⊎ (y.op ≡ Sc)) (sym same) r.atomic, same)
+
+  pub atomic-none : ((w : Event) → IsOwnStore h e w → ⊥) → (a : Event) → Contains h.events a → ⊥ ↔ IsUnder 3 a
+  atomic-none none a ca = (
+    λ n. absurd n,
+    λ x. (
+        let r = reads_atomic_write_out h.model new a e x.1 in
+        none a (record { of_hart = ca; store = atomic-store a r.atomic; load = r.load; returns = r.returns })),
+  )
+
+  pub dependent-is : (w : Event) → IsOwnStore h e w → (a : Event) → Contains h.events a → ((⊥ ⊎ (IsMemory a × DependsOn Addr w a)) ⊎ (IsMemory a × DependsOn DataOf w a)) ↔ IsUnder 12 a
+  dependent-is w own a ca = (to, from)
+    where
+      found : IsMemory a → DependsOn Addr w a ⊎ DependsOn DataOf w a → Earlier a w → IsUnder 12 a
+      found m d earlier = (m, reads_dependent_write (record { load = own.load; through = Any-from_contains (IsDependentWrite a e) new w (old_new h e w own.of_hart) (record { between = between a w own.of_hart earlier; store = own.store; returns = own.returns; depends = d }) }))
+
+      to : (⊥ ⊎ (IsMemory a × DependsOn Addr w a)) ⊎ (IsMemory a × DependsOn DataOf w a) → IsUnder 12 a
+      to (inl (inl n)) = absurd n
+      to (inl (inr x)) = found x.0 (inl x.1) x.1.0
+      to (inr x) = found x.0 (inr x.1) x.1.0
+
+      from : IsUnder 12 a → (⊥ ⊎ (IsMemory a × DependsOn Addr w a)) ⊎ (IsMemory a × DependsOn DataOf w a)
+      from x =
+          let y = Any-contains (IsDependentWrite a e) new (reads_dependent_write_out h.model new a e x.1).through in
+          let same : y.0 ≡ w = one_store y.0 w (old y.0 y.1 y.2.between.before) own.of_hart y.2.store own.store y.2.returns own.returns in
+          elim y.2.depends [
+            | inl d ↦ inl (inr (x.0, subst (λ (z : Event). DependsOn Addr z a) same d))
+            | inr d ↦ inr (x.0, subst (λ (z : Event). DependsOn DataOf z a) same d)
+          ]
+
+  pub dependent-none : ((w : Event) → IsOwnStore h e w → ⊥) → (a : Event) → Contains h.events a → ⊥ ↔ IsUnder 12 a
+  dependent-none none a ca = (
+    λ n. absurd n,
+    λ x. (
+        let r = reads_dependent_write_out h.model new a e x.1 in
+        let y = Any-contains (IsDependentWrite a e) new r.through in
+        none y.0 (record { of_hart = old y.0 y.1 y.2.between.before; store = y.2.store; load = r.load; returns = y.2.returns })),
+  )
+
+-- ---- rule 8
+module _ (h : Hart) (e : Event) (f : Fits h e) where
+  -- a reserving LR is paired with an SC
+  pub reserving-paired : (a : Event) → Contains h.events a → IsReserving h.events a → e.op ≡ Sc → Paired (followed h e) a e
+  reserving-paired a ca r sc = record {
+    is_lr = r.0;
+    is_sc = sc;
+    earlier = follows_all h e f a ca;
+    none_between = All-from_contains (λ m. Between a m e → IsFalse (is_exclusive m.op)) (followed h e) (λ m c between. All-contains (λ m. Earlier a m → IsFalse (is_exclusive m.op)) h.events m r.1 (earlier_old h e f m c between.before) between.after);
+  }
+
+  -- and what is paired reserves
+  pub paired-reserving : (a : Event) → Paired (followed h e) a e → IsReserving h.events a
+  paired-reserving a p = (p.is_lr, All-from_contains (λ m. Earlier a m → IsFalse (is_exclusive m.op)) h.events (λ m c earlier. All-contains (λ m. Between a m e → IsFalse (is_exclusive m.op)) (followed h e) m p.none_between (old_new h e m c) (record { after = earlier; before = follows_all h e f m c })))
+
+  later-none : (a b : Event) → Contains h.events b → IsReserving h.events a → IsReserving h.events b → Earlier a b → ⊥
+  later-none a b cb ra rb earlier = false≢true (sym (All-contains (λ m. Earlier a m → IsFalse (is_exclusive m.op)) h.events b ra.1 cb earlier) ∙ ap is_exclusive rb.0)
+
+  -- one LR reserves
+  pub one_reserving : (a b : Event) → Contains h.events a → Contains h.events b → IsReserving h.events a → IsReserving h.events b → a ≡ b
+  one_reserving a b ca cb ra rb = elim (cases_order a.id.seq b.id.seq) [
+    | inl same ↦ same_event h f.known a b ca cb same
+    | inr (inl low) ↦ absurd (later-none a b cb ra rb (record { hart = f.known.own a ca ∙ sym (f.known.own b cb); seq = low }))
+    | inr (inr high) ↦ absurd (later-none b a ca rb ra (record { hart = f.known.own b cb ∙ sym (f.known.own a ca); seq = high }))
+  ]
+
+  pub paired-is : (lr : Event) → Contains h.events lr → IsReserving h.events lr → (a : Event) → Contains h.events a → ((e.op ≡ Sc) × (lr ≡ a)) ↔ (IsMemory a × Condition h.model (followed h e) a e 8)
+  paired-is lr cl r a ca = (to, from)
+    where
+      to : (e.op ≡ Sc) × (lr ≡ a) → IsMemory a × Condition h.model (followed h e) a e 8
+      to x = subst (λ (y : Event). IsMemory y × Condition h.model (followed h e) y e 8) x.1 (ap is_memory r.0, paired (reserving-paired lr cl r x.0))
+
+      from : IsMemory a × Condition h.model (followed h e) a e 8 → (e.op ≡ Sc) × (lr ≡ a)
+      from x = let p = paired_out h.model (followed h e) a e x.1 in (p.is_sc, one_reserving lr a cl ca r (paired-reserving a p))
+
+  pub paired-none : ((a : Event) → Contains h.events a → IsReserving h.events a → ⊥) → (a : Event) → Contains h.events a → ⊥ ↔ (IsMemory a × Condition h.model (followed h e) a e 8)
+  paired-none none a ca = (λ n. absurd n, λ x. none a ca (paired-reserving a (paired_out h.model (followed h e) a e x.1)))

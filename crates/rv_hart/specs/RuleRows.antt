@@ -1,0 +1,34 @@
+-- For each rule the events that it orders before a new one.
+use Rattle.std.specs.Prelude.{ℕ, ◌≡◌, ◌-◌, ◌<◌, ◌↔◌, List, [], length, slice_index_or}
+use Rattle.rv_event.specs.Preserved.{Rule}
+use Rattle.rv_event.specs.declared.event.Event.{Event}
+use Rattle.rv_rows.specs.Bits.{Has}
+use Rattle.rv_rows.specs.Closure.{IsThinned}
+use Rattle.rv_hart.specs.Harts.{Hart, followed}
+use Rattle.rv_hart.specs.Rows.{IsOrderedBy, IsGenerated, IsEnough}
+
+-- the row has the events that the rule orders before the new one, and no others
+abbrev pub RuleRowIs : Hart → Event → ℕ → List ℕ → Type 0
+RuleRowIs h e k row = (s : ℕ) → Has row s ↔ IsOrderedBy h e k s
+
+-- the row has only events that rule 1 orders before the new one, and the others lead to these
+pub record IsOverlapRow (h : Hart) (e : Event) (row : List ℕ) : Type 0 where
+  pub sound : (s : ℕ) → Has row s → IsOrderedBy h e 1 s
+  pub enough : (a : Event) → Rule h.model (followed h e) 1 a e → IsGenerated h row a
+
+-- a row for each rule, rule 1 at place 0
+pub record AreRuleRows (h : Hart) (e : Event) (rows : List (List ℕ)) : Type 0 where
+  pub count : length rows ≡ 13
+  pub overlaps : IsOverlapRow h e (slice_index_or rows 0 [])
+  pub exact : (k : ℕ) → 1 < k → RuleRowIs h e k (slice_index_or rows (k - 1) [])
+
+-- the rule orders event s before the new one, and no lower one does
+pub record IsLowestRule (h : Hart) (e : Event) (s k : ℕ) : Type 0 where
+  pub ordered : IsOrderedBy h e k s
+  pub lowest : (j : ℕ) → j < k → IsOrderedBy h e j s → ⊥
+
+-- a sweep over enough candidates
+pub record IsSwept (h : Hart) (e : Event) (rows : List (List ℕ)) (listed reach : List ℕ) : Type 0 where
+  pub candidates : List ℕ
+  pub enough : IsEnough h e candidates
+  pub thinned : IsThinned rows candidates listed reach

@@ -1,0 +1,35 @@
+//! The events of one hart, and the links that its next event asks for by preserved program order.
+//!
+//! Preserved program order is what the manual's thirteen rules order of a hart's operations (section 14.1,
+//! "Preserved Program Order"). A [`HartOrder`] keeps a hart's events, and lists for the next one the earlier events
+//! that a rule orders before it, each with the lowest such rule, but none before which another listed one stands by
+//! rules. It looks at no pair of events: sets of the hart's events, one bit an event, are joined and subtracted 64
+//! at a time.
+//!
+//! - [`hart`]: the type. Inside it [`kept`]: events, rows, sets and words together.
+//! - [`sets`]: rows of the events by what a rule asks of them (loads, acquires, what a fence orders); they grow
+//!   with the events. [`words`]: each word's operations, linked from the last one back.
+//! - [`rules`], [`walks`]: for each rule the row of the events that it orders before the next one. [`links`]: these
+//!   rows joined and thinned, and the lowest rule of each event that is left. [`rows`]: small steps on rows.
+//! - `specs/`: a hart and what may follow (`Harts`), its links (`RuleLinks`), what rows mean (`Rows`, `RuleRows`),
+//!   what the sets and the words mean (`Sets`, `Words`), and what is kept (`Kept`).
+//! - `proofs/OfHart`, `proofs/Reserving`: rules, pairs, stale pairs, faults and reservations are the same among a
+//!   hart's events as in the whole log.
+//!
+//! It stands on `rv_event`, on the rows of `rv_rows` and on the definitions of `rv_cover`. Its one contract to the
+//! others: each link is a rule under its lowest number, and each event that a rule orders before the new one is
+//! linked, or another event splits the rule.
+#![tactic(auto)]
+
+mod hart;
+mod kept;
+mod links;
+mod rows;
+mod rules;
+mod sets;
+#[cfg(test)]
+mod tests;
+mod walks;
+mod words;
+
+pub use hart::HartOrder;

@@ -1,0 +1,139 @@
+//! Sets of a hart's events that grow with them.
+ghost use Rattle.std.specs.Prelude.{ℕ, ◌≡◌, ◌<◌, ◌↔◌, ◌||◌, ◌++◌, ◌∷◌, [], All, Contains, IsTrue, List};
+ghost use Rattle.rv_rows.specs.Bits.{Has, has_bit};
+ghost use Rattle.rv_hart.specs.Harts.{Hart, IsHart, Follows, followed, hart_with};
+ghost use Rattle.rv_hart.specs.Sets.{AreSets, IsReservation};
+
+use crate::rows::{insert_if, join_if};
+use rv_event::{DepKind, Event, MemoryModel, Op, does_order, is_acquire, is_rcsc};
+use rv_rows::Row;
+
+/// Which events of a hart so far a rule may order before the next one, by what the rule asks of them.
+#[derive(Drop)]
+pub struct Sets {
+    /// The loads.
+    pub loads: Row,
+    /// The stores.
+    pub stores: Row,
+    /// The events with an acquire annotation.
+    pub acquires: Row,
+    /// The events with an RCsc annotation.
+    pub rcsc: Row,
+    /// The events that a fence orders before a later load.
+    pub fenced_for_load: Row,
+    /// The events that a fence orders before a later store.
+    pub fenced_for_store: Row,
+    /// The memory operations on which a branch depends.
+    pub controlled: Row,
+    /// The memory operations on which an address depends.
+    pub addressed: Row,
+    /// The last LR, SC or failed SC, where it is an LR.
+    pub reserved: Option<u32>,
+}
+
+impl Sets {
+    /// The sets of no events.
+    pub fn new() -> Sets
+        ensures { (h : Hart) → h.events ≡ [] → AreSets h result }
+    {
+        Sets {
+            loads: Row::new(),
+            stores: Row::new(),
+            acquires: Row::new(),
+            rcsc: Row::new(),
+            fenced_for_load: Row::new(),
+            fenced_for_store: Row::new(),
+            controlled: Row::new(),
+            addressed: Row::new(),
+            reserved: None,
+        }
+    }
+
+    /// Whether the number is that of a memory operation.
+    pub fn is_memory(&self, number: usize) -> bool
+        requires { number < 4096 }
+        ensures { result ≡ (has_bit self.now.loads number || has_bit self.now.stores number) }
+    {
+        self.loads.has(number) || self.stores.has(number)
+    }
+
+    /// The memory operations on which the event lists a dependency of this kind.
+    pub fn dependencies(&self, event: &Event, kind: DepKind) -> Row
+        requires { All (λ d. d.seq < 4096) event.now.deps }
+        ensures { (s : ℕ) → Has result s
+            ↔ (Contains event.now.deps (record { kind = kind; seq = s }) × IsTrue (has_bit self.now.loads s || has_bit self.now.stores s)) }
+    {
+        let mut row = Row::new();
+        for dep in event.deps.as_slice() {
+            let number = dep.seq as usize;
+            if dep.kind == kind && self.is_memory(number) {
+                row.insert(number);
+            }
+        }
+        row
+    }
+
+    /// Takes the hart's next event in.
+    pub fn absorb(&mut self, model: MemoryModel, event: &Event)
+        requires number { event.now.id.seq < 4096 }
+        requires dependencies { All (λ d. d.seq < 4096) event.now.deps }
+        ensures { (h : Hart) → IsHart h → Follows h event.now → h.model ≡ model → AreSets h self.old → AreSets (hart_with h event.now) self.new }
+    {
+        let op = event.op;
+        let number = event.id.seq as usize;
+        join_if(
+            &mut self.fenced_for_load,
+            does_order(op, Op::Load, Op::Load),
+            &self.loads,
+        );
+        join_if(
+            &mut self.fenced_for_load,
+            does_order(op, Op::Store, Op::Load),
+            &self.stores,
+        );
+        join_if(
+            &mut self.fenced_for_store,
+            does_order(op, Op::Load, Op::Store),
+            &self.loads,
+        );
+        join_if(
+            &mut self.fenced_for_store,
+            does_order(op, Op::Store, Op::Store),
+            &self.stores,
+        );
+        let tested = self.dependencies(event, DepKind::Ctrl);
+        join_if(&mut self.controlled, op == Op::Branch, &tested);
+        let based = self.dependencies(event, DepKind::Addr);
+        self.addressed.join(&based);
+        insert_if(&mut self.loads, event.is_load(), number);
+        insert_if(&mut self.stores, event.is_store(), number);
+        insert_if(&mut self.acquires, is_acquire(model, event), number);
+        insert_if(&mut self.rcsc, is_rcsc(model, event), number);
+        self.reserved = reserved_after(self.reserved, event);
+    }
+}
+
+/// The last LR, SC or failed SC after the event, where it is an LR.
+fn reserved_after(reserved: Option<u32>, event: &Event) -> Option<u32>
+    ensures { (h : Hart) → IsHart h → Follows h event.now → IsReservation h.events reserved → IsReservation (followed h event.now) result }
+{
+    if !event.op.is_exclusive() {
+        reserved
+    } else if event.op == Op::Lr {
+        Some(event.id.seq)
+    } else {
+        None
+    }
+}
+
+/// The sets of a hart's events.
+pub fn sets_of(model: MemoryModel, events: &[Event]) -> Sets
+    requires { All (λ e. (e.id.seq < 4096) × All (λ d. d.seq < 4096) e.deps) events.now }
+    ensures { (h : Hart) → IsHart h → h.model ≡ model → h.events ≡ events.now → AreSets h result }
+{
+    let mut sets = Sets::new();
+    for event in events {
+        sets.absorb(model, event);
+    }
+    sets
+}

@@ -1,0 +1,70 @@
+//! Walks back over the memory operations of a word: rules 1 and 2 of preserved program order (manual, section 14.1).
+ghost use Rattle.std.specs.Prelude.{◌≢◌, ◌↔◌, IsTrue};
+ghost use Rattle.rv_event.specs.Operations.{IsLoad};
+ghost use Rattle.rv_hart.specs.Kept.{hart_of, IsAsked};
+ghost use Rattle.rv_hart.specs.RuleRows.{RuleRowIs, IsOverlapRow};
+
+use crate::kept::Kept;
+use crate::rows::insert_if;
+use rv_event::Event;
+use rv_rows::Row;
+
+impl Kept {
+    /// Rule 1: where the event is a store, the operations of its word back to the last store, which all earlier
+    /// ones lead to.
+    pub fn overlapping(&self, event: &Event) -> Row
+        requires { IsAsked self.now event.now }
+        ensures { IsOverlapRow (hart_of self.now) event.now result }
+    {
+        let mut row = Row::new();
+        if !event.is_store() {
+            return row;
+        }
+        let mut next = self.words.last(event.word);
+        'met: while let Some(number) = next {
+            let number = number as usize;
+            row.insert(number);
+            let met = &self.events[number];
+            if met.is_store() {
+                return row;
+            }
+            let link = self.words.links[number];
+            next = link.previous;
+        }
+        row
+    }
+
+    /// Rule 2: where the event is a load, the loads of its word back to the last store that returned another version.
+    pub fn different_reads(&self, event: &Event) -> Row
+        requires { IsAsked self.now event.now }
+        ensures { RuleRowIs (hart_of self.now) event.now 2 result }
+    {
+        let mut row = Row::new();
+        if !event.is_load() {
+            return row;
+        }
+        let mut next = self.words.last(event.word);
+        'met: while let Some(number) = next {
+            let number = number as usize;
+            let met = &self.events[number];
+            insert_if(&mut row, is_other_read(met, event), number);
+            if met.is_store() {
+                return row;
+            }
+            let link = self.words.links[number];
+            next = if met.read == event.read {
+                link.before_run
+            } else {
+                link.previous
+            };
+        }
+        row
+    }
+}
+
+/// Whether it is a load that returned another version than the event.
+fn is_other_read(met: &Event, event: &Event) -> bool
+    ensures { IsTrue result ↔ (IsLoad met.now × (met.now.read ≢ event.now.read)) }
+{
+    met.is_load() && met.read != event.read
+}

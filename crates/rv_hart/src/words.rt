@@ -1,0 +1,161 @@
+//! The memory operations of each word of a hart, linked from the last one back.
+ghost use Rattle.std.specs.Prelude.{ℕ, ◌≡◌, ◌≢◌, ◌<◌, ◌++◌, ◌∷◌, [], List, length, OnOk, OnErr, IsSome, Some, nat_eq};
+ghost use Rattle.std.specs.HashMap.{get};
+ghost use Rattle.rv_event.specs.Operations.{IsMemory};
+ghost use Rattle.rv_event.specs.declared.event.Event.{Event};
+ghost use Rattle.rv_hart.specs.Words.{AreNumbered, AreWords, IsWordLink, IsBeforeRun, IsHighestStore};
+
+use rv_event::{Event, NoMemory};
+use std::alloc::Global;
+use std::collections::HashMap;
+
+/// Where a walk over a word's memory operations goes on from one of them.
+#[derive(Clone, Copy)]
+pub struct WordLink {
+    /// The last memory operation of the word before it.
+    pub previous: Option<u32>,
+    /// An earlier one, with only loads between the two that returned what this one returned.
+    pub before_run: Option<u32>,
+    /// The store of the highest version of the word before it.
+    pub highest: Option<u32>,
+}
+
+/// The memory operations of each word. Contracts see the fields.
+#[derive(Drop)]
+pub struct Words {
+    /// The number of each word's last memory operation.
+    pub lasts: HashMap<u32, u32>,
+    /// A link for each event of the hart. Those of events that are no memory operations are never read.
+    pub links: Vec<WordLink>,
+}
+
+impl Words {
+    /// The words of no events. It takes no memory.
+    pub fn new(alloc: Global) -> Words
+        ensures { (events : List Event) → events ≡ [] → AreWords events result }
+    {
+        Words {
+            lasts: HashMap::new(alloc),
+            links: Vec::new(alloc),
+        }
+    }
+
+    /// The number of the word's last memory operation.
+    pub fn last(&self, word: u32) -> Option<u32>
+        ensures { result ≡ get nat_eq self.now.lasts word }
+    {
+        self.lasts.get(&word).copied()
+    }
+
+    /// The number of the word's store of the highest version.
+    pub fn highest_store(&self, events: &[Event], word: u32) -> Option<u32>
+        requires numbered { AreNumbered events.now }
+        requires words { AreWords events.now self.now }
+        ensures { IsHighestStore events.now word (length events.now) result }
+    {
+        let number = self.last(word)?;
+        let last = &events[number as usize];
+        let before = self.links[number as usize].highest;
+        if !last.is_store() {
+            return before;
+        }
+        let Some(store) = before else {
+            return Some(number);
+        };
+        if events[store as usize].wrote < last.wrote {
+            Some(number)
+        } else {
+            Some(store)
+        }
+    }
+
+    /// Takes the hart's next event in.
+    ///
+    /// # Errors
+    /// `NoMemory` where it could not be kept; the words stay as they are.
+    pub fn push(&mut self, events: &[Event], event: &Event) -> Result<(), NoMemory>
+        requires numbered { AreNumbered events.now }
+        requires next { event.now.id.seq ≡ length events.now }
+        requires words { AreWords events.now self.old }
+        ensures pushed { OnOk result (AreWords (events.now ++ event.now ∷ []) self.new) }
+        ensures unchanged { OnErr result (AreWords events.now self.new) }
+    {
+        self.links.reserve(1)?;
+        let link = self.link_of(events, event);
+        if event.is_memory() {
+            self.lasts.insert(event.word, event.id.seq)?;
+        }
+        self.links.push_reserved(link);
+        Ok(())
+    }
+
+    /// The link of the hart's next event.
+    fn link_of(&self, events: &[Event], event: &Event) -> WordLink
+        requires numbered { AreNumbered events.now }
+        requires next { event.now.id.seq ≡ length events.now }
+        requires words { AreWords events.now self.now }
+        ensures { IsMemory event.now → IsWordLink events.now event.now result }
+    {
+        let previous = self.last(event.word);
+        let before_run = match previous {
+            None => None,
+            Some(number) => self.before_run(events, event, number),
+        };
+        WordLink {
+            previous,
+            before_run,
+            highest: self.highest_store(events, event.word),
+        }
+    }
+
+    /// Where a walk goes on from the hart's next event, where the word's last memory operation has this number.
+    fn before_run(&self, events: &[Event], event: &Event, number: u32) -> Option<u32>
+        requires numbered { AreNumbered events.now }
+        requires next { event.now.id.seq ≡ length events.now }
+        requires words { AreWords events.now self.now }
+        requires last { get nat_eq self.now.lasts event.now.word ≡ Some number }
+        ensures { IsBeforeRun events.now event.now result }
+    {
+        let last = &events[number as usize];
+        if last.is_store() || last.read != event.read {
+            return Some(number);
+        }
+        self.links[number as usize].before_run
+    }
+
+    /// Takes the last of the hart's events off. It takes no memory.
+    pub fn pop(&mut self, events: &[Event])
+        requires numbered { AreNumbered events.now }
+        requires words { AreWords events.now self.old }
+        ensures { (front : List Event) (e : Event) → events.now ≡ front ++ e ∷ [] → AreWords front self.new }
+    {
+        let Some(event) = events.last() else {
+            return;
+        };
+        let Some(link) = self.links.pop() else {
+            return;
+        };
+        if event.is_memory() {
+            self.step_back(event.word, link.previous);
+        }
+    }
+
+    /// Makes the operation with this number the word's last, where there is one, and else forgets the word.
+    fn step_back(&mut self, word: u32, last: Option<u32>)
+        requires { IsSome (get nat_eq self.old.lasts word) }
+        ensures links { self.new.links ≡ self.old.links }
+        ensures here { get nat_eq self.new.lasts word ≡ last }
+        ensures others { (other : ℕ) → word ≢ other → get nat_eq self.new.lasts other ≡ get nat_eq self.old.lasts other }
+    {
+        match last {
+            Some(number) => {
+                if let Some(place) = self.lasts.get_mut(&word) {
+                    *place = number;
+                }
+            }
+            None => {
+                self.lasts.remove(&word);
+            }
+        }
+    }
+}

@@ -1,0 +1,223 @@
+-- What the indexes have after an event joined a log, and after the last one left it.
+use Rattle.std.proofs.Common.{◌≡◌, ◌≢◌, ◌+◌, Bool, true, false, cond, List, [], ◌∷◌, ◌++◌, length, Contains, Option, Some, None, Result, Ok, Err, OnOk, OnErr, inl, inr, refl, sym, ap, ◌∙◌, arith, subst, append_assoc, length-append}
+use Rattle.std.specs.Result.{is_err}
+use Rattle.std.proofs.lemmas.Bool.{false≢true}
+use Rattle.std.proofs.lemmas.Option.{same_Some, none-some}
+use Rattle.std.proofs.lemmas.List.Elements.{Contains-append_left, Contains-push, Contains-push_cases}
+use Rattle.rv_cover.proofs.Indexing.{indexed_from_events}
+use Rattle.rv_event.proofs.Indexed.{Indexed, Sound, sound_of}
+use Rattle.rv_event.proofs.Pushed.{split_push}
+use Rattle.rv_event.specs.Operations.{is_load, is_store}
+use Rattle.rv_event.specs.Faults.{event_fault}
+use Rattle.rv_event.specs.WellFormed.{WellFormedEvents}
+use Rattle.rv_event.specs.declared.event.Event.{Event}
+use Rattle.rv_versions.specs.Accesses.{access}
+use Rattle.rv_versions.specs.Reserved.{IsReserved}
+use Rattle.rv_versions.specs.Indexes.{store_of, load_of, pair_of, postings_of, IsInserted, IsRemoved, IsSame, AreInserted, AreRemoved, AreSame, AreAbsent, IsIndex, IsReservation, beside, AreIndexes}
+use Rattle.rv_versions.specs.declared.accesses.Access.{Access}
+use Rattle.rv_versions.specs.declared.indexes.Indexes.{Indexes}
+use Rattle.rv_versions.specs.declared.reservation.Reservation.{Reservation}
+use Rattle.rv_versions.proofs.Beside.{beside-push, beside_left}
+use Rattle.rv_versions.proofs.Keys.{id_of}
+use Rattle.rv_versions.proofs.Paired.{is_new, reservation_grows, reservation_settled, reservation_new}
+use Rattle.rv_versions.proofs.Ranges.{Contains-none}
+
+pub failed : {X E : Type 0} (r : Result X E) (P : Type 0) → is_err r ≡ true → OnErr r P → P
+failed (Ok x) P e h = absurd (false≢true e)
+failed (Err x) P e h = h
+
+pub went : {X E : Type 0} (r : Result X E) (P : Type 0) → is_err r ≡ false → OnOk r P → P
+went (Ok x) P e h = h
+went (Err x) P e h = absurd (false≢true (sym e))
+
+pub same_itself : (xs ys : List Access) → ys ≡ xs → IsSame xs ys
+same_itself xs ys e x = (
+  λ c. subst (λ (zs : List Access). Contains zs x) e c,
+  λ c. subst (λ
+      (zs : List Access). Contains zs x) (sym e) c,
+)
+
+-- what was put in and taken out again
+pub same_again :
+    (xs ys zs : List Access) (o : Option Access) → ((x : Access) → o ≡ Some x → Contains xs x → ⊥) →
+    IsInserted xs o ys → IsRemoved ys o zs → IsSame xs zs
+same_again xs ys zs o absent put taken x = (to, from)
+  where
+    to : Contains zs x → Contains xs x
+    to c = let h = (taken x).0 c in elim ((put x).0 h.0) [ inl old ↦ old | inr e ↦ absurd (h.1 e) ]
+
+    from : Contains xs x → Contains zs x
+    from c = (taken x).1 ((put x).1 (inl c), λ e. absent x e c)
+
+module _ {X : Type 0} (post : X → Option Access) (items : List X) (i : X) (xs ys : List Access) where
+  pub index_push : IsIndex post items xs → IsInserted xs (post i) ys → IsIndex post (items ++ i ∷ []) ys
+  index_push is put x = (to, from)
+    where
+      to : Contains ys x → (j : X) × Contains (items ++ i ∷ []) j × (post j ≡ Some x)
+      to c = elim ((put x).0 c) [
+        | inl old ↦ let h = (is x).0 old in (h.0, Contains-append_left items (i ∷ []) h.0 h.1, h.2)
+        | inr e ↦ (i, Contains-push items i, e)
+      ]
+
+      from : (j : X) × Contains (items ++ i ∷ []) j × (post j ≡ Some x) → Contains ys x
+      from (j, c, e) = elim (Contains-push_cases items i j c) [
+        | inl old ↦ (put x).1 (inl ((is x).1 (j, old, e)))
+        | inr same ↦ (put x).1 (inr (ap post same ∙ e))
+      ]
+
+  pub index_pop : IsIndex post (items ++ i ∷ []) xs → IsRemoved xs (post i) ys → ((j : X) (x : Access) →
+      Contains items j → post j ≡ Some x → post i ≢ Some x) → IsIndex post items ys
+  index_pop is taken apart x = (to, from)
+    where
+      to : Contains ys x → (j : X) × Contains items j × (post j ≡ Some x)
+      to c =
+          let h = (taken x).0 c in
+          let g = (is x).0 h.0 in
+          elim (Contains-push_cases items i g.0 g.1) [
+            | inl old ↦ (g.0, old, g.2)
+            | inr same ↦ absurd (h.1 (ap post same ∙ g.2))
+          ]
+
+      from : (j : X) × Contains items j × (post j ≡ Some x) → Contains ys x
+      from (j, c, e) = (taken x).1 ((is x).1 (j, Contains-append_left items (i ∷ []) j c, e), apart j x c e)
+
+pub index_same : {X : Type 0} (post : X → Option Access) (items : List X) (xs ys : List Access) →
+    IsIndex post items xs → IsSame xs ys → IsIndex post items ys
+index_same post items xs ys is same x = (λ c. (is x).0 ((same x).0 c), λ h. (same x).1 ((is x).1 h))
+
+-- a posting names its event
+pub store_id : (e : Event) (x : Access) → store_of e ≡ Some x → id_of x ≡ e.id
+store_id e x h = go (is_store e.op) h
+  where
+    go : (b : Bool) → cond b (Some (access e.word e.wrote e.id)) None ≡ Some x → id_of x ≡ e.id
+    go true q = ap id_of (sym (same_Some (access e.word e.wrote e.id) x q))
+    go false q = absurd (none-some x q)
+
+pub load_id : (e : Event) (x : Access) → load_of e ≡ Some x → id_of x ≡ e.id
+load_id e x h = go (is_load e.op) h
+  where
+    go : (b : Bool) → cond b (Some (access e.word e.read e.id)) None ≡ Some x → id_of x ≡ e.id
+    go true q = ap id_of (sym (same_Some (access e.word e.read e.id) x q))
+    go false q = absurd (none-some x q)
+
+pub pair_id : (e : Event) (r : Option Reservation) (x : Access) → pair_of e r ≡ Some x → id_of x ≡ e.id
+pair_id e None x h = absurd (none-some x h)
+pair_id e (Some r) x h = ap id_of (sym (same_Some (access r.word r.version e.id) x h))
+
+-- ---- logs without a fault
+
+pub well_formed-nil : WellFormedEvents []
+well_formed-nil before after e is = absurd (omega (arith, ap length is, length-append before (e ∷ after)))
+
+pub well_formed-push : (log : List Event) (e : Event) → WellFormedEvents log → event_fault log e ≡ None →
+    WellFormedEvents (log ++ e ∷ [])
+well_formed-push log e ok none before after y is = elim (split_push log e before after y is) [
+  | inl s ↦ subst (λ (l : List Event). event_fault l y ≡ None) s.0 (subst (λ
+      (z : Event). event_fault log z ≡ None) s.1 none)
+  | inr s ↦ ok before s.0 y s.1
+]
+
+pub well_formed-front : (log more : List Event) → WellFormedEvents (log ++ more) → WellFormedEvents log
+well_formed-front log more ok before after e is =
+    ok before (after ++ more) e (ap (λ (l : List Event). l ++ more) is ∙ append_assoc before (e ∷ after) more)
+
+-- ---- all together
+
+pub indexes-nil : AreIndexes [] [] (record { stores = []; loads = []; pairs = [] })
+indexes-nil = record {
+  well_formed = well_formed-nil;
+  as_long = refl;
+  reservations = λ e r c. absurd (Contains-none (e, r) c);
+  stores = λ x. (λ c. absurd (Contains-none x c), λ h. absurd (Contains-none h.0 h.1));
+  loads = λ x. (λ c. absurd (Contains-none x c), λ h. absurd (Contains-none h.0 h.1));
+  pairs = λ x. (λ c. absurd (Contains-none x c), λ h. absurd (Contains-none h.0 h.1));
+}
+
+module _ (log : List Event) (rs : List (Option Reservation)) (ix : Indexes) (e : Event) (r : Option Reservation)
+    (known : AreIndexes log rs ix) (sound : event_fault log e ≡ None) where
+  old : Indexed log
+  old = indexed_from_events log known.well_formed
+
+  fresh : (a : Event) → Contains log a → a.id ≢ e.id
+  fresh = is_new log e old (sound_of log e sound)
+
+  pub absent : AreAbsent ix (postings_of e r)
+  absent = record {
+    stores = λ x p c. let h = (known.stores x).0 c in fresh h.0 h.1 (sym (store_id h.0 x h.2) ∙ store_id e x p);
+    loads = λ x p c. let h = (known.loads x).0 c in fresh h.0 h.1 (sym (load_id h.0 x h.2) ∙ load_id e x p);
+    pairs = λ x p c. let h = (known.pairs x).0 c in fresh h.0.0 (beside_left log rs h.0 h.1) (sym
+        (pair_id h.0.0 h.0.1 x h.2) ∙ pair_id e r x p);
+  }
+
+  pub indexes_push : (new : Indexes) → IsReserved log e r → AreInserted ix (postings_of e r) new →
+      AreIndexes (log ++ e ∷ []) (rs ++ r ∷ []) new
+  indexes_push new is put = record {
+    well_formed = well_formed-push log e known.well_formed sound;
+    as_long = length-append log (e ∷ []) ∙ ap (λ n. n + 1) known.as_long ∙ sym (length-append rs (r ∷ []));
+    reservations = λ s q c. elim (Contains-push_cases (beside log rs) (e, r) (s, q) (subst (λ l. Contains l
+        (s, q)) pushed c)) [
+          | inl was ↦ reservation_grows log e old (sound_of log e sound) s q (beside_left log rs (s, q) was)
+              (known.reservations s q was)
+          | inr same ↦ subst (λ (p : Event × Option Reservation). IsReservation (log ++ e ∷ []) p.0 p.1) same
+              (reservation_new log e old (sound_of log e sound) r is)
+        ];
+    stores = index_push store_of log e ix.stores new.stores known.stores put.stores;
+    loads = index_push load_of log e ix.loads new.loads known.loads put.loads;
+    pairs = subst (λ l. IsIndex pair_posting l new.pairs) (sym pushed) (index_push pair_posting (beside log rs)
+        (e, r) ix.pairs new.pairs known.pairs put.pairs);
+  }
+    where
+      pair_posting : Event × Option Reservation → Option Access
+      pair_posting p = pair_of p.0 p.1
+
+      pushed : beside (log ++ e ∷ []) (rs ++ r ∷ []) ≡ beside log rs ++ (e, r) ∷ []
+      pushed = beside-push log rs e r known.as_long
+
+  pub indexes_same : (new : Indexes) → AreSame ix (postings_of e r) new → AreIndexes log rs new
+  indexes_same new same = record {
+    well_formed = known.well_formed;
+    as_long = known.as_long;
+    reservations = known.reservations;
+    stores = index_same store_of log ix.stores new.stores known.stores same.stores;
+    loads = index_same load_of log ix.loads new.loads known.loads same.loads;
+    pairs = index_same (λ p. pair_of p.0 p.1) (beside log rs) ix.pairs new.pairs known.pairs same.pairs;
+  }
+
+module _ (log : List Event) (rs : List (Option Reservation)) (ix new : Indexes) (e : Event) (r : Option Reservation)
+    (known : AreIndexes (log ++ e ∷ []) (rs ++ r ∷ []) ix) (taken : AreRemoved ix (postings_of e r) new) where
+  front : WellFormedEvents log
+  front = well_formed-front log (e ∷ []) known.well_formed
+
+  last : Sound log e
+  last = sound_of log e (known.well_formed log [] e refl)
+
+  before : Indexed log
+  before = indexed_from_events log front
+
+  other : (a : Event) → Contains log a → a.id ≢ e.id
+  other = is_new log e before last
+
+  lengths : length log ≡ length rs
+  lengths = omega (arith, known.as_long, length-append log (e ∷ []), length-append rs (r ∷ []))
+
+  cut : beside (log ++ e ∷ []) (rs ++ r ∷ []) ≡ beside log rs ++ (e, r) ∷ []
+  cut = beside-push log rs e r lengths
+
+  pub indexes_pop : AreIndexes log rs new
+  indexes_pop = record {
+    well_formed = front;
+    as_long = lengths;
+    reservations = λ s q c. reservation_settled log e before last s q (beside_left log rs (s, q) c)
+        (known.reservations s q (subst (λ l. Contains l (s, q)) (sym cut) (Contains-append_left (beside log rs)
+        ((e, r) ∷ []) (s, q) c)));
+    stores = index_pop store_of log e ix.stores new.stores known.stores taken.stores (λ a x c p q. other a c (sym
+        (store_id a x p) ∙ store_id e x q));
+    loads = index_pop load_of log e ix.loads new.loads known.loads taken.loads (λ a x c p q. other a c (sym
+        (load_id a x p) ∙ load_id e x q));
+    pairs = index_pop pair_posting (beside log rs) (e, r) ix.pairs new.pairs (subst
+        (λ l. IsIndex pair_posting l ix.pairs) cut known.pairs) taken.pairs
+        (λ j x c p q. other j.0 (beside_left log rs j c) (sym (pair_id j.0 j.1 x p) ∙ pair_id e r x q));
+  }
+    where
+      pair_posting : Event × Option Reservation → Option Access
+      pair_posting p = pair_of p.0 p.1

@@ -1,0 +1,16 @@
+pub mod Around
+pub mod Beside
+pub mod Best
+pub mod Carrying
+pub mod Found
+pub mod Gathered
+pub mod Indexing
+pub mod Keys
+pub mod Listing
+pub mod Looking
+pub mod Nearing
+pub mod Nearest
+pub mod Owning
+pub mod Paired
+pub mod Ranges
+pub mod Stored

@@ -1,0 +1,479 @@
+-- Lists of links that grow by those that are meant.
+use Rattle.std.proofs.Common.{◌≡◌, ◌≢◌, ℕ, ◌+◌, ◌<◌, ◌≤◌, List, [], ◌∷◌, ◌++◌, Contains, Option, Some, None, Result, Ok, Err, OnOk, ◌↔◌, ◌⊎◌, inl, inr, refl, sym, ap, ◌∙◌, arith, subst}
+use Rattle.std.proofs.lemmas.Bool.{cases_eq, cases_lt}
+use Rattle.std.proofs.lemmas.Option.{same_Some}
+use Rattle.std.proofs.lemmas.List.Elements.{Contains-append_left, Contains-push, Contains-push_cases}
+use Rattle.rv_event.proofs.Indexed.{Indexed}
+use Rattle.rv_event.specs.Operations.{IsLoad, IsStore}
+use Rattle.rv_event.specs.declared.event.Event.{Event}
+use Rattle.rv_event.specs.declared.event.Id.{Id}
+use Rattle.rv_event.specs.declared.reason.Link.{Link}
+use Rattle.rv_event.specs.declared.reason.Reason.{Reason}
+use Rattle.rv_event.specs.declared.reason.Reason.TheVariants.{Coherence, ReadsFrom, FromRead, AtomicIn, AtomicOut}
+use Rattle.rv_cover.specs.Thinned.{IsNextLower, IsNextHigher}
+use Rattle.rv_versions.specs.Accesses.{access}
+use Rattle.rv_versions.specs.Listed.{link, IsExtended, IsUncovered, IsParted, CoherenceBefore, FromReadBefore, AtomicOutsBefore, CoherenceAfter, ReadsFromAfter, FromReadAfter, AtomicInAfter, AtomicOutAfter}
+use Rattle.rv_versions.specs.Lookups.{IsLowerStore, IsHigherStore, IsForeign, IsForeignLower, IsForeignHigher, IsLoadBetween, IsPairBetween}
+use Rattle.rv_versions.specs.declared.accesses.Access.{Access}
+use Rattle.rv_versions.specs.declared.reservation.Reservation.{Reservation}
+use Rattle.rv_versions.proofs.Keys.{id_of}
+use Rattle.rv_versions.proofs.Nearing.{same_version}
+use Rattle.rv_versions.proofs.Ranges.{Contains-none}
+
+-- one link more, the only one that is meant
+pub extended_push : (old new : List Link) (k : Link) (P : Link → Type 0) → new ≡ old ++ k ∷ [] → P k →
+    ((l : Link) → P l → l ≡ k) → IsExtended old new P
+extended_push old new k P is here only = subst (λ (ls : List Link). IsExtended old ls P) (sym is) (λ l. (to l, from l))
+  where
+    to : (l : Link) → Contains (old ++ k ∷ []) l → Contains old l ⊎ P l
+    to l c = elim (Contains-push_cases old k l c) [ inl was ↦ inl was | inr same ↦ inr (subst P same here) ]
+
+    from : (l : Link) → Contains old l ⊎ P l → Contains (old ++ k ∷ []) l
+    from l (inl c) = Contains-append_left old (k ∷ []) l c
+    from l (inr p) = subst (Contains (old ++ k ∷ [])) (sym (only l p)) (Contains-push old k)
+
+pub extended_same : (old new : List Link) (P Q : Link → Type 0) → ((l : Link) → P l ↔ Q l) → IsExtended old new P →
+    IsExtended old new Q
+extended_same old new P Q same h l = (to, from)
+  where
+    to : Contains new l → Contains old l ⊎ Q l
+    to c = elim ((h l).0 c) [ inl was ↦ inl was | inr p ↦ inr ((same l).0 p) ]
+
+    from : Contains old l ⊎ Q l → Contains new l
+    from (inl c) = (h l).1 (inl c)
+    from (inr q) = (h l).1 (inr ((same l).1 q))
+
+-- ---- a loop over ids, of which those that pass are linked
+
+module _ (Pass : Id → Type 0) (reason : Reason) where
+  abbrev pub Linked : List Id → Link → Type 0
+  Linked ids l = (i : Id) × Contains ids i × Pass i × (l ≡ link i reason)
+
+  pub linked_none : (old : List Link) → IsExtended old old (Linked [])
+  linked_none old l = (λ c. inl c, λ h. elim h [ inl c ↦ c | inr p ↦ absurd (Contains-none p.0 p.1) ])
+
+  pub linked_more : (old mid new : List Link) (seen : List Id) (i : Id) → IsExtended old mid (Linked seen) →
+      Pass i → new ≡ mid ++ link i reason ∷ [] → IsExtended old new (Linked (seen ++ i ∷ []))
+  linked_more old mid new seen i h pass is = subst (λ (ls : List Link). IsExtended old ls (Linked (seen ++ i ∷ [])))
+      (sym is) (λ l. (to l, from l))
+    where
+      to : (l : Link) → Contains (mid ++ link i reason ∷ []) l → Contains old l ⊎ Linked (seen ++ i ∷ []) l
+      to l c = elim (Contains-push_cases mid (link i reason) l c) [
+        | inl was ↦ elim ((h l).0 was) [
+          | inl older ↦ inl older
+          | inr p ↦ inr (p.0, Contains-append_left seen (i ∷ []) p.0 p.1, p.2, p.3)
+        ]
+        | inr same ↦ inr (i, Contains-push seen i, pass, sym same)
+      ]
+
+      from : (l : Link) → Contains old l ⊎ Linked (seen ++ i ∷ []) l → Contains (mid ++ link i reason ∷ []) l
+      from l (inl c) = Contains-append_left mid (link i reason ∷ []) l ((h l).1 (inl c))
+      from l (inr (j, c, p, e)) = elim (Contains-push_cases seen i j c) [
+        | inl was ↦ Contains-append_left mid (link i reason ∷ []) l ((h l).1 (inr (j, was, p, e)))
+        | inr same ↦ subst (Contains (mid ++ link i reason ∷ [])) (ap (λ (x : Id). link x reason) same ∙
+            sym e) (Contains-push mid (link i reason))
+      ]
+
+  pub linked_past : (old mid : List Link) (seen : List Id) (i : Id) → IsExtended old mid (Linked seen) → (Pass i →
+      ⊥) → IsExtended old mid (Linked (seen ++ i ∷ []))
+  linked_past old mid seen i h fails = extended_same old mid (Linked seen) (Linked (seen ++ i ∷ [])) (λ l.
+      (to l, from l)) h
+    where
+      to : (l : Link) → Linked seen l → Linked (seen ++ i ∷ []) l
+      to l p = (p.0, Contains-append_left seen (i ∷ []) p.0 p.1, p.2, p.3)
+
+      from : (l : Link) → Linked (seen ++ i ∷ []) l → Linked seen l
+      from l (j, c, p, e) = elim (Contains-push_cases seen i j c) [
+        | inl was ↦ (j, was, p, e)
+        | inr same ↦ absurd (fails (subst Pass (sym same) p))
+      ]
+
+-- ---- the nearest stores, which are one each
+
+module _ (log : List Event) (known : Indexed log) where
+  pub one_lower : (w v : ℕ) (s t : Event) → IsNextLower log w v s → IsNextLower log w v t → s ≡ t
+  one_lower w v s t p q =
+      let a : s.wrote ≤ t.wrote = q.highest s p.of_log p.store p.same p.below in
+      let b : t.wrote ≤ s.wrote = p.highest t q.of_log q.store q.same q.below in
+      same_version log known s t p.of_log q.of_log p.store q.store (p.same ∙ sym q.same) (omega arith)
+
+  one_higher : (w v : ℕ) (s t : Event) → IsNextHigher log w v s → IsNextHigher log w v t → s ≡ t
+  one_higher w v s t p q =
+      let a : t.wrote ≤ s.wrote = q.lowest s p.of_log p.store p.same p.above in
+      let b : s.wrote ≤ t.wrote = p.lowest t q.of_log q.store q.same q.above in
+      same_version log known s t p.of_log q.of_log p.store q.store (p.same ∙ sym q.same) (omega arith)
+
+  named_by : (x : Access) (s : Event) → x ≡ access s.word s.wrote s.id → id_of x ≡ s.id
+  named_by x s e = ap id_of e
+
+  pub coherence_before_of :
+      (e : Event) (old new : List Link) (x : Access) (v : ℕ) → IsStore e → v ≡ e.wrote →
+      IsLowerStore log e.word v (Some x) →
+      new ≡ old ++ link (id_of x) Coherence ∷ [] → IsExtended old new (CoherenceBefore log e)
+  coherence_before_of e old new x v store same h is =
+      let found : IsLowerStore log e.word e.wrote (Some x) = subst (λ (n : ℕ). IsLowerStore log e.word n
+      (Some x)) same h in
+      extended_push old new (link (id_of x) Coherence) (CoherenceBefore log e) is
+      (record {
+        store = store;
+        next = found.0;
+        is_next = found.1;
+        same = ap (λ (i : Id). link i Coherence)
+            (named_by x found.0 found.2);
+      })
+      (λ l p. p.same ∙ ap (λ (s : Event). link s.id Coherence)
+      (one_lower e.word e.wrote p.next found.0 p.is_next found.1) ∙
+      ap (λ (i : Id). link i Coherence) (sym (named_by x found.0 found.2)))
+
+  pub coherence_after_of :
+      (e : Event) (old new : List Link) (x : Access) → IsStore e → IsHigherStore log e.word e.wrote (Some x) →
+      new ≡ old ++ link (id_of x) Coherence ∷ [] → IsExtended old new (CoherenceAfter log e)
+  coherence_after_of e old new x store found is =
+      extended_push old new (link (id_of x) Coherence) (CoherenceAfter log e) is
+      (record {
+        store = store;
+        next = found.0;
+        is_next = found.1;
+        same = ap (λ (i : Id). link i Coherence)
+            (named_by x found.0 found.2);
+      })
+      (λ l p. p.same ∙ ap (λ (s : Event). link s.id Coherence)
+      (one_higher e.word e.wrote p.next found.0 p.is_next found.1) ∙
+      ap (λ (i : Id). link i Coherence) (sym (named_by x found.0 found.2)))
+
+  pub from_read_after_of :
+      (e : Event) (old new : List Link) (x : Access) → IsLoad e → IsHigherStore log e.word e.read (Some x) →
+      new ≡ old ++ link (id_of x) FromRead ∷ [] → IsExtended old new (FromReadAfter log e)
+  from_read_after_of e old new x load found is =
+      extended_push old new (link (id_of x) FromRead) (FromReadAfter log e) is
+      (record {
+        load = load;
+        next = found.0;
+        is_next = found.1;
+        same = ap (λ (i : Id). link i FromRead)
+            (named_by x found.0 found.2);
+      })
+      (λ l p. p.same ∙ ap (λ (s : Event). link s.id FromRead)
+      (one_higher e.word e.read p.next found.0 p.is_next found.1) ∙
+      ap (λ (i : Id). link i FromRead) (sym (named_by x found.0 found.2)))
+
+  pub atomic_out_after_of :
+      (e : Event) (reserved : Option Reservation) (r : Reservation) (old new : List Link) (x : Access) →
+      reserved ≡ Some r → IsForeignHigher log r.word r.version e.id.hart (Some x) →
+      new ≡ old ++ link (id_of x) AtomicOut ∷ [] → IsExtended old new (AtomicOutAfter log e reserved)
+  atomic_out_after_of e reserved r old new x some (t, foreign, above, same, lowest) is =
+      extended_push old new (link (id_of x) AtomicOut) (AtomicOutAfter log e reserved) is
+      (record {
+        reservation = r;
+        is_reserved = some;
+        store = t;
+        foreign = foreign;
+        above = above;
+        lowest = lowest;
+        same = ap (λ (i : Id). link i AtomicOut) (named_by x t same);
+      })
+      (λ l p. p.same ∙ ap (λ (s : Event). link s.id AtomicOut) (one p.reservation (same_Some p.reservation r
+      (sym p.is_reserved ∙ some)) p.store p.foreign p.above p.lowest) ∙
+      ap (λ (i : Id). link i AtomicOut) (sym (named_by x t same)))
+    where
+      one :
+          (q : Reservation) → q ≡ r → (s : Event) → IsForeign log q.word e.id.hart s → q.version < s.wrote →
+          ((a : Event) → IsForeign log q.word e.id.hart a → q.version < a.wrote → s.wrote ≤ a.wrote) → s ≡ t
+      one q eq s f high least =
+          let word : r.word ≡ q.word = ap (λ (y : Reservation). y.word) (sym eq) in
+          let version : q.version ≡ r.version = ap (λ (y : Reservation). y.version) eq in
+          let f' : IsForeign log r.word e.id.hart s = subst (λ (n : ℕ). IsForeign log n e.id.hart s) (sym word) f in
+          let g' : IsForeign log q.word e.id.hart t = subst (λ (n : ℕ). IsForeign log n e.id.hart t) word foreign in
+          let a : s.wrote ≤ t.wrote = least t g' (omega arith) in
+          let b : t.wrote ≤ s.wrote = lowest s f' (omega arith) in
+          same_version log known s t f.of_log foreign.of_log f.store foreign.store (f'.same ∙
+          sym foreign.same) (omega arith)
+
+-- ---- below which version no SC needs a link
+
+module _ (log : List Event) (e : Event) where
+  -- the next lower store is of the event's hart: it parts all SCs of other harts
+  pub parted_by_first : (w : ℕ) (x : Access) → w ≡ e.wrote → IsLowerStore log e.word w (Some x) →
+      x.hart ≡ e.id.hart → (version hart : ℕ) → version < x.version → hart ≢ e.id.hart →
+      IsParted log e.word version e.wrote hart
+  parted_by_first w x eq (s, next, same) own version hart low other =
+      let v : x.version ≡ s.wrote = ap (λ (y : Access). y.version) same in
+      let below : s.wrote < w = next.below in
+      record {
+        store = s;
+        foreign = record {
+          of_log = next.of_log;
+          store = next.store;
+          same = next.same;
+          other_hart = λ h. other
+              (sym h ∙ sym (ap (λ (y : Access). y.hart) same) ∙ own);
+        };
+        above = omega arith;
+        below = omega arith;
+      }
+
+  -- else it, or the next lower store of another hart
+  pub parted_by_either :
+      (w : ℕ) (x y : Access) → w ≡ e.wrote → IsLowerStore log e.word w (Some x) →
+      IsForeignLower log e.word x.version x.hart (Some y) →
+      (version hart : ℕ) → version < y.version → hart ≢ e.id.hart → IsParted log e.word version e.wrote hart
+  parted_by_either w x y eq (s, next, same) (t, foreign, under, is, most) version hart low other = go
+      (cases_eq hart x.hart)
+    where
+      v : x.version ≡ s.wrote
+      v = ap (λ (z : Access). z.version) same
+
+      u : y.version ≡ t.wrote
+      u = ap (λ (z : Access). z.version) is
+
+      go : (hart ≡ x.hart) ⊎ (hart ≡ x.hart → ⊥) → IsParted log e.word version e.wrote hart
+      go (inl own) =
+          let below : s.wrote < w = next.below in
+          let second : t.wrote < x.version = under in
+          let first_is : x.version ≡ s.wrote = v in
+          let second_is : y.version ≡ t.wrote = u in
+          let high : version < y.version = low in
+          record {
+            store = t;
+            foreign = record {
+              of_log = foreign.of_log;
+              store = foreign.store;
+              same = foreign.same;
+              other_hart = λ h.
+                  foreign.other_hart (h ∙ own);
+            };
+            above = omega arith;
+            below = omega arith;
+          }
+      go (inr apart) =
+          let below : s.wrote < w = next.below in
+          let second : t.wrote < x.version = under in
+          let first_is : x.version ≡ s.wrote = v in
+          let second_is : y.version ≡ t.wrote = u in
+          let high : version < y.version = low in
+          record {
+            store = s;
+            foreign = record {
+              of_log = next.of_log;
+              store = next.store;
+              same = next.same;
+              other_hart = λ h. apart
+                  (sym h ∙ sym (ap (λ (z : Access). z.hart) same));
+            };
+            above = omega arith;
+            below = omega arith;
+          }
+
+-- ---- from which version on loads are uncovered
+
+module _ (log : List Event) (e : Event) where
+  pub uncovered_none : (w : ℕ) → w ≡ e.wrote → IsLowerStore log e.word w None → (v : ℕ) → (0 ≤ v) ↔ IsUncovered log e v
+  uncovered_none w eq none v = (
+    λ l s next. let n : w ≤ s.wrote = none s next.of_log next.store next.same in let
+        below = next.below in absurd (omega arith),
+    λ u. omega arith,
+  )
+
+  pub uncovered_some : Indexed log → (w : ℕ) (x : Access) → w ≡ e.wrote → IsLowerStore log e.word w (Some x) →
+      (v : ℕ) → (x.version ≤ v) ↔ IsUncovered log e v
+  uncovered_some known w x eq found v =
+      let here = subst (λ (n : ℕ). IsLowerStore log e.word n (Some x)) eq found in
+      let version : x.version ≡ here.0.wrote = ap (λ (y : Access). y.version) here.2 in (
+        λ l s next. let same : s.wrote ≡ here.0.wrote = ap (λ (a : Event). a.wrote)
+            (one_lower log known e.word e.wrote s here.0 next here.1) in omega arith,
+        λ u. let n : here.0.wrote ≤ v = u here.0 here.1 in omega arith,
+      )
+
+-- ---- what was found is what is meant
+
+module _ (log : List Event) (e : Event) (old new : List Link) where
+  all : Id → Type 0
+  all i = Unit {0}
+
+  pub reads_from_after_of : (ids : List Id) (w : ℕ) → IsStore e → w ≡ e.wrote → ((i : Id) →
+      Contains ids i ↔ IsLoadBetween log e.word w (w + 1) i) →
+      IsExtended old new (λ l. (i : Id) × Contains ids i × (l ≡ link i ReadsFrom)) →
+      IsExtended old new (ReadsFromAfter log e)
+  reads_from_after_of ids w store eq found h = extended_same old new (λ l. (i : Id) × Contains ids i ×
+      (l ≡ link i ReadsFrom)) (ReadsFromAfter log e) (λ l. (to l, from l)) h
+    where
+      to : (l : Link) → (i : Id) × Contains ids i × (l ≡ link i ReadsFrom) → ReadsFromAfter log e l
+      to l (i, c, is) =
+          let f = (found i).0 c in
+          let low = f.at_least in
+          let high = f.below in
+          record {
+            store = store;
+            load = f.load;
+            of_log = f.of_log;
+            is_load = f.is_load;
+            word = f.same;
+            version =
+                omega arith;
+            same = is ∙ ap (λ (j : Id). link j ReadsFrom) (sym f.named);
+          }
+
+      from : (l : Link) → ReadsFromAfter log e l → (i : Id) × Contains ids i × (l ≡ link i ReadsFrom)
+      from l p =
+          let version = p.version in (
+            p.load.id,
+            (found p.load.id).1
+                (record {
+                  load = p.load;
+                  of_log = p.of_log;
+                  is_load = p.is_load;
+                  same = p.word;
+                  at_least = omega
+                      arith;
+                  below = omega arith;
+                  named = refl;
+                }),
+            p.same,
+          )
+
+  pub atomic_in_after_of : (ids : List Id) (w : ℕ) → IsStore e → w ≡ e.wrote → ((i : Id) →
+      Contains ids i ↔ IsPairBetween log e.word w (w + 1) i) →
+      IsExtended old new (λ l. (i : Id) × Contains ids i × (l ≡ link i AtomicIn)) →
+      IsExtended old new (AtomicInAfter log e)
+  atomic_in_after_of ids w store eq found h = extended_same old new (λ l. (i : Id) × Contains ids i ×
+      (l ≡ link i AtomicIn)) (AtomicInAfter log e) (λ l. (to l, from l)) h
+    where
+      to : (l : Link) → (i : Id) × Contains ids i × (l ≡ link i AtomicIn) → AtomicInAfter log e l
+      to l (i, c, is) =
+          let f = (found i).0 c in
+          let low = f.at_least in
+          let high = f.below in
+          record {
+            store = store;
+            sc = f.sc;
+            lr = f.lr;
+            of_log = f.of_log;
+            pair = f.pair;
+            word = f.same;
+            version =
+                omega arith;
+            same = is ∙ ap (λ (j : Id). link j AtomicIn) (sym f.named);
+          }
+
+      from : (l : Link) → AtomicInAfter log e l → (i : Id) × Contains ids i × (l ≡ link i AtomicIn)
+      from l p =
+          let version = p.version in (
+            p.sc.id,
+            (found p.sc.id).1 (record {
+              sc = p.sc;
+              lr = p.lr;
+              of_log = p.of_log;
+              pair = p.pair;
+              same =
+                  p.word;
+              at_least = omega arith;
+              below = omega arith;
+              named = refl;
+            }),
+            p.same,
+          )
+
+  -- the loads from a version on which exactly the uncovered ones have
+  pub from_read_before_of :
+      (ids : List Id) (low w : ℕ) → IsStore e → w ≡ e.wrote → ((v : ℕ) → (low ≤ v) ↔ IsUncovered log e v) →
+      ((i : Id) → Contains ids i ↔ IsLoadBetween log e.word low w i) →
+      IsExtended old new (λ l. (i : Id) × Contains ids i × (l ≡ link i FromRead)) →
+      IsExtended old new (FromReadBefore log e)
+  from_read_before_of ids low w store eq bound found h = extended_same old new (λ l. (i : Id) × Contains ids i ×
+      (l ≡ link i FromRead)) (FromReadBefore log e) (λ l. (to l, from l)) h
+    where
+      to : (l : Link) → (i : Id) × Contains ids i × (l ≡ link i FromRead) → FromReadBefore log e l
+      to l (i, c, is) =
+          let f = (found i).0 c in
+          let high = f.below in
+          record {
+            store = store;
+            load = f.load;
+            of_log = f.of_log;
+            is_load = f.is_load;
+            word = f.same;
+            uncovered =
+                (bound f.load.read).0 f.at_least;
+            below = omega arith;
+            same = is ∙
+                ap (λ (j : Id). link j FromRead) (sym f.named);
+          }
+
+      from : (l : Link) → FromReadBefore log e l → (i : Id) × Contains ids i × (l ≡ link i FromRead)
+      from l p =
+          let below = p.below in (
+            p.load.id,
+            (found p.load.id).1
+                (record {
+                  load = p.load;
+                  of_log = p.of_log;
+                  is_load = p.is_load;
+                  same = p.word;
+                  at_least =
+                      (bound p.load.read).1 p.uncovered;
+                  below = omega arith;
+                  named = refl;
+                }),
+            p.same,
+          )
+
+  pub atomic_outs_before_of :
+      (ids : List Id) (low w : ℕ) → IsStore e → w ≡ e.wrote →
+      ((version hart : ℕ) → version < low → hart ≢ e.id.hart → IsParted log e.word version e.wrote hart) →
+      ((i : Id) → Contains ids i ↔ IsPairBetween log e.word low w i) →
+      IsExtended old new (λ l. (i : Id) × Contains ids i × (i.hart ≢ e.id.hart) × (l ≡ link i AtomicOut)) →
+      AtomicOutsBefore log e old new
+  atomic_outs_before_of ids low w store eq parted found h = record {
+    kept = λ l c. (h l).1 (inl c);
+    only = λ l c. elim ((h l).0 c) [
+      | inl was ↦ inl was
+      | inr p ↦ let f = (found p.0).0 p.1 in
+          let high = f.below in
+          inr (
+            f.sc,
+            f.lr,
+            record {
+              store = store;
+              of_log = f.of_log;
+              pair = f.pair;
+              word = f.same;
+              below = omega arith;
+              other_hart
+                  = λ e. p.2 (sym (ap (λ (i : Id). i.hart) f.named) ∙ e);
+            },
+            p.3 ∙ ap (λ (i : Id). link i AtomicOut) (sym f.named),
+          )
+    ];
+    each = λ sc lr a. let below = a.below in elim (cases_lt lr.read low) [
+      | inl under ↦ inr (parted lr.read sc.id.hart under a.other_hart)
+      | inr over ↦ inl ((h (link sc.id AtomicOut)).1 (inr (
+        sc.id,
+        (found sc.id).1
+            (record {
+              sc = sc;
+              lr = lr;
+              of_log = a.of_log;
+              pair = a.pair;
+              same = a.word;
+              at_least = over;
+              below =
+                  omega arith;
+              named = refl;
+            }),
+        a.other_hart,
+        refl,
+      )))
+    ];
+  }
+
+pub on_ok : {X E : Type 0} (P Q : Type 0) → (P → Q) → (r : Result X E) → OnOk r P → OnOk r Q
+on_ok P Q f (Ok x) h = f h
+on_ok P Q f (Err e) h = tt
+
+-- every id passes
+pub linked_all : (reason : Reason) (ids : List Id) (old new : List Link) →
+    IsExtended old new (Linked (λ i. Unit {0}) reason ids) →
+    IsExtended old new (λ l. (i : Id) × Contains ids i × (l ≡ link i reason))
+linked_all reason ids old new h =
+    extended_same old new (Linked (λ i. Unit {0}) reason ids) (λ l. (i : Id) × Contains ids i × (l ≡ link i reason))
+    (λ l. (λ p. (p.0, p.1, p.3), λ p. (p.0, p.1, tt, p.2))) h

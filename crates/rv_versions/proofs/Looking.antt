@@ -1,0 +1,224 @@
+-- Look-ups in the indexes, told of the log.
+use Rattle.std.proofs.Common.{◌≡◌, ◌≢◌, ℕ, ◌+◌, ◌<◌, ◌≤◌, List, Contains, Option, Some, None, Result, Ok, Err, IfOk, ◌↔◌, inl, inr, sym, ap, ◌∙◌, arith, subst}
+use Rattle.std.proofs.lemmas.Bool.{cases_lt}
+use Rattle.rv_event.proofs.Indexed.{Indexed}
+use Rattle.rv_event.specs.Operations.{IsStore}
+use Rattle.rv_event.specs.declared.event.Event.{Event}
+use Rattle.rv_event.specs.declared.event.Id.{Id}
+use Rattle.rv_versions.specs.Accesses.{access, IsOf, IsLower, IsFirstFrom, IsForeignFrom, IsBetween}
+use Rattle.rv_versions.specs.Indexes.{AreIndexes}
+use Rattle.rv_versions.specs.Lookups.{IsLowerStore, IsHigherStore, IsForeign, IsForeignLower, IsForeignHigher, IsLoadBetween, IsPairBetween}
+use Rattle.rv_versions.specs.declared.accesses.Access.{Access}
+use Rattle.rv_versions.specs.declared.indexes.Indexes.{Indexes}
+use Rattle.rv_versions.specs.declared.reservation.Reservation.{Reservation}
+use Rattle.rv_versions.proofs.Found.{store_access, store_found, store_listed, load_found, load_listed, pair_found, pair_listed}
+use Rattle.rv_versions.proofs.Keys.{id_of}
+use Rattle.rv_versions.proofs.Nearing.{same_version}
+
+module _ (log now : List Event) (rs : List (Option Reservation)) (ix : Indexes) (known : AreIndexes log rs ix)
+    (is : log ≡ now) where
+  of_word : (w : ℕ) (a : Event) → Contains log a → IsStore a → a.word ≡ w → IsOf ix.stores w (store_access a)
+  of_word w a c s e = record { known = store_listed log rs ix known a c s; same = e }
+
+  lower : (w v : ℕ) (o : Option Access) → IsLower ix.stores w v o → IsLowerStore log w v o
+  lower w v None h = λ a c s e. h (store_access a) (of_word w a c s e)
+  lower w v (Some x) h =
+      let f = store_found log rs ix known x h.0.known in
+      let word : x.word ≡ f.store.word = ap (λ (y : Access). y.word) f.same in
+      let version : x.version ≡ f.store.wrote = ap (λ (y : Access). y.version) f.same in
+      let below : x.version < v = h.1 in (
+        f.store,
+        record {
+          of_log = f.of_log;
+          store = f.is_store;
+          same = sym word ∙ h.0.same;
+          below = omega arith;
+          highest = λ a c s e low. let n : a.wrote ≤ x.version = h.2 (store_access a)
+              (of_word w a c s e) low in omega arith;
+        },
+        f.same,
+      )
+
+  pub lower_store_of : (w v : ℕ) (o : Option Access) → IsLower ix.stores w v o → IsLowerStore now w v o
+  lower_store_of w v o h = subst (λ (l : List Event). IsLowerStore l w v o) is (lower w v o h)
+
+  higher : (w v : ℕ) (o : Option Access) → IsFirstFrom ix.stores w (v + 1) o → IsHigherStore log w v o
+  higher w v None h = λ a c s e. let n : a.wrote < v + 1 = h (store_access a) (of_word w a c s e) in omega arith
+  higher w v (Some x) h =
+      let f = store_found log rs ix known x h.0.known in
+      let word : x.word ≡ f.store.word = ap (λ (y : Access). y.word) f.same in
+      let version : x.version ≡ f.store.wrote = ap (λ (y : Access). y.version) f.same in
+      let above : v + 1 ≤ x.version = h.1 in (
+        f.store,
+        record {
+          of_log = f.of_log;
+          store = f.is_store;
+          same = sym word ∙ h.0.same;
+          above = omega arith;
+          lowest = λ a c s e high. let n : x.version ≤ a.wrote = h.2 (store_access a) (of_word w a c s e)
+              (omega arith) in omega arith;
+        },
+        f.same,
+      )
+
+  pub higher_store_of : (w v m : ℕ) (o : Option Access) → m ≡ v → IsFirstFrom ix.stores w (m + 1) o →
+      IsHigherStore now w v o
+  higher_store_of w v m o same h =
+      subst (λ (l : List Event). IsHigherStore l w v o) is (higher w v o (subst (λ (n : ℕ). IsFirstFrom ix.stores w
+      (n + 1) o) same h))
+
+  foreign_higher : (w v hart : ℕ) (o : Option Access) → IsForeignFrom ix.stores w (v + 1) hart o →
+      IsForeignHigher log w v hart o
+  foreign_higher w v hart None h = λ a f. elim (cases_lt v a.wrote) [
+    | inl high ↦ absurd (f.other_hart (h (store_access a) (of_word w a f.of_log f.store f.same) (omega arith)))
+    | inr low ↦ low
+  ]
+  foreign_higher w v hart (Some x) h =
+      let f = store_found log rs ix known x h.0.known in
+      let word : x.word ≡ f.store.word = ap (λ (y : Access). y.word) f.same in
+      let version : x.version ≡ f.store.wrote = ap (λ (y : Access). y.version) f.same in
+      let above : v + 1 ≤ x.version = h.1 in (
+        f.store,
+        record {
+          of_log = f.of_log;
+          store = f.is_store;
+          same = sym word ∙ h.0.same;
+          other_hart = λ e. h.2 (ap (λ (y : Access). y.hart) f.same ∙ e);
+        },
+        omega arith,
+        f.same,
+        λ a g high. let n : x.version ≤ a.wrote = h.3 (store_access a) (of_word w a g.of_log g.store g.same)
+            (omega arith) g.other_hart in omega arith,
+      )
+
+  pub foreign_higher_of : (w v m hart : ℕ) (o : Option Access) → m ≡ v → IsForeignFrom ix.stores w (m + 1) hart o →
+      IsForeignHigher now w v hart o
+  foreign_higher_of w v m hart o same h =
+      subst (λ (l : List Event). IsForeignHigher l w v hart o) is (foreign_higher w v hart o (subst (λ
+      (n : ℕ). IsForeignFrom ix.stores w (n + 1) hart o) same h))
+
+  load_between : (w from to : ℕ) (i : Id) → IsBetween ix.loads w from to i → IsLoadBetween log w from to i
+  load_between w from to i b =
+      let f = load_found log rs ix known (access w b.version i) b.known in
+      let version : b.version ≡ f.load.read = ap (λ (y : Access). y.version) f.same in
+      let low = b.at_least in
+      let high = b.below in
+      record {
+        load = f.load;
+        of_log = f.of_log;
+        is_load = f.is_load;
+        same = sym (ap (λ (y : Access). y.word) f.same);
+        at_least = omega arith;
+        below = omega arith;
+        named = sym (ap id_of f.same);
+      }
+
+  between_load : (w from to : ℕ) (i : Id) → IsLoadBetween log w from to i → IsBetween ix.loads w from to i
+  between_load w from to i b = record {
+    version = b.load.read;
+    at_least = b.at_least;
+    below = b.below;
+    known = subst (λ (n : ℕ). Contains ix.loads (access n b.load.read i)) b.same
+        (subst (λ (j : Id). Contains ix.loads (access b.load.word b.load.read j)) b.named
+        (load_listed log rs ix known b.load b.of_log b.is_load));
+  }
+
+  pub loads_of : (w from to : ℕ) (ids : List Id) → ((i : Id) → Contains ids i ↔ IsBetween ix.loads w from to i) →
+      (i : Id) → Contains ids i ↔ IsLoadBetween now w from to i
+  loads_of w from to ids h i = subst (λ (l : List Event). Contains ids i ↔ IsLoadBetween l w from to i) is
+      (λ c. load_between w from to i ((h i).0 c), λ b. (h i).1 (between_load w from to i b))
+
+  pair_between : (w from to : ℕ) (i : Id) → IsBetween ix.pairs w from to i → IsPairBetween log w from to i
+  pair_between w from to i b =
+      let f = pair_found log rs ix known (access w b.version i) b.known in
+      let version : b.version ≡ f.lr.read = ap (λ (y : Access). y.version) f.same in
+      let low = b.at_least in
+      let high = b.below in
+      record {
+        sc = f.sc;
+        lr = f.lr;
+        of_log = f.of_log;
+        pair = f.pair;
+        same = sym (ap (λ (y : Access). y.word) f.same);
+        at_least = omega arith;
+        below = omega arith;
+        named = sym (ap id_of f.same);
+      }
+
+  between_pair : (w from to : ℕ) (i : Id) → IsPairBetween log w from to i → IsBetween ix.pairs w from to i
+  between_pair w from to i b = record {
+    version = b.lr.read;
+    at_least = b.at_least;
+    below = b.below;
+    known = subst (λ (n : ℕ). Contains ix.pairs (access n b.lr.read i)) b.same
+        (subst (λ (j : Id). Contains ix.pairs (access b.lr.word b.lr.read j)) b.named
+        (pair_listed log rs ix known b.sc b.lr b.of_log b.pair));
+  }
+
+  pub pairs_of : (w from to : ℕ) (ids : List Id) → ((i : Id) → Contains ids i ↔ IsBetween ix.pairs w from to i) →
+      (i : Id) → Contains ids i ↔ IsPairBetween now w from to i
+  pairs_of w from to ids h i = subst (λ (l : List Event). Contains ids i ↔ IsPairBetween l w from to i) is
+      (λ c. pair_between w from to i ((h i).0 c), λ b. (h i).1 (between_pair w from to i b))
+
+-- ---- a store of another hart, by the stores below it in turn
+
+-- no store of another hart stands from the bound up to the version
+pub record Passed (log : List Event) (w v hart bound : ℕ) : Type 0 where
+  pub at_most : bound ≤ v
+  pub none : (a : Event) → IsForeign log w hart a → bound ≤ a.wrote → a.wrote < v → ⊥
+
+module _ (log : List Event) (known : Indexed log) (w v hart : ℕ) where
+  pub passed_none : Passed log w v hart v
+  passed_none = record { at_most = omega arith; none = λ a f high low. omega arith }
+
+  -- past a store of the hart itself
+  pub passed_more : (bound : ℕ) (x : Access) → Passed log w v hart bound → IsLowerStore log w bound (Some x) →
+      x.hart ≡ hart → Passed log w v hart x.version
+  passed_more bound x p (s, next, same) own =
+      let version : x.version ≡ s.wrote = ap (λ (y : Access). y.version) same in
+      let here : s.id.hart ≡ hart = sym (ap (λ (y : Access). y.hart) same) ∙ own in
+      let below : s.wrote < bound = next.below in
+      let most : bound ≤ v = p.at_most in
+      record {
+        at_most = omega arith;
+        none = λ a f high low. elim (cases_lt a.wrote bound) [
+          | inl under ↦ let top : a.wrote ≤ s.wrote = next.highest a f.of_log f.store f.same under in
+              let at : a.wrote ≡ s.wrote = omega arith in
+              let one : a ≡ s = same_version log known a s f.of_log next.of_log f.store next.store (f.same ∙
+              sym next.same) at in
+              f.other_hart (ap (λ (e : Event). e.id.hart) one ∙ here)
+          | inr over ↦ p.none a f over low
+        ];
+      }
+
+  pub foreign_found : (bound : ℕ) (x : Access) → Passed log w v hart bound → IsLowerStore log w bound (Some x) →
+      x.hart ≢ hart → IsForeignLower log w v hart (Some x)
+  foreign_found bound x p (s, next, same) other =
+      let most : bound ≤ v = p.at_most in
+      let below : s.wrote < bound = next.below in (
+        s,
+        record {
+          of_log = next.of_log;
+          store = next.store;
+          same = next.same;
+          other_hart = λ e. other (ap (λ
+              (y : Access). y.hart) same ∙ e);
+        },
+        omega arith,
+        same,
+        λ a f low. elim (cases_lt a.wrote bound) [
+          | inl under ↦ next.highest a f.of_log f.store f.same under
+          | inr over ↦ absurd (p.none a f over low)
+        ],
+      )
+
+  pub none_foreign : (bound : ℕ) → Passed log w v hart bound → IsLowerStore log w bound None →
+      IsForeignLower log w v hart None
+  none_foreign bound p h = λ a f. elim (cases_lt a.wrote v) [
+    | inl low ↦ absurd (p.none a f (h a f.of_log f.store f.same) low)
+    | inr high ↦ high
+  ]
+
+pub if_ok : {X E : Type 0} (P Q : X → Type 0) → ((x : X) → P x → Q x) → (r : Result X E) → IfOk r P → IfOk r Q
+if_ok P Q f (Ok x) h = f x h
+if_ok P Q f (Err e) h = tt

@@ -1,0 +1,84 @@
+-- An event has an edge to itself exactly where it or its LR returned what it stores.
+use Rattle.std.proofs.Common.{◌≡◌, List, [], ◌∷◌, ◌++◌, Contains, Option, ◌↔◌, inl, inr, refl, sym, ◌∙◌, arith, subst}
+use Rattle.std.proofs.lemmas.Option.{same_Some}
+use Rattle.std.proofs.lemmas.List.Elements.{Contains-push}
+use Rattle.rv_cover.proofs.Covering.{edge_of}
+use Rattle.rv_event.proofs.Indexed.{Indexed, Sound, indexed-push}
+use Rattle.rv_event.proofs.Names.{writer-is}
+use Rattle.rv_event.specs.Edges.{HasReason, IsEdge}
+use Rattle.rv_event.specs.declared.event.Event.{Event}
+use Rattle.rv_event.specs.declared.memory_model.MemoryModel.{MemoryModel}
+use Rattle.rv_event.specs.declared.reason.Reason.{Reason}
+use Rattle.rv_event.specs.declared.reason.Reason.TheVariants.{Preserved, Coherence, ReadsFrom, FromRead, AtomicIn, AtomicOut}
+use Rattle.rv_versions.specs.Own.{ReturnsOwn}
+use Rattle.rv_versions.specs.Reserved.{IsReserved}
+use Rattle.rv_versions.specs.declared.reservation.Reservation.{Reservation}
+use Rattle.rv_versions.proofs.Around.{reserved_is, reserved_of, writer_own, store-memory}
+use Rattle.rv_versions.proofs.Paired.{in_new}
+
+module _ (model : MemoryModel) (log : List Event) (e : Event) (reserved : Option Reservation) (known : Indexed log)
+    (sound : Sound log e) (is : IsReserved log e reserved) where
+  abbrev new : List Event
+  new = log ++ e ∷ []
+
+  known' : Indexed new
+  known' = indexed-push log e known sound
+
+  here : Contains new e
+  here = Contains-push log e
+
+  why_of : ReturnsOwn e reserved → (r : Reason) × HasReason model new r e e
+  why_of (store, inl (load, same)) = (
+    ReadsFrom,
+    record {
+      load = load;
+      is_writer = writer_own model log e reserved known sound is e.word e.read store refl same;
+      not_earlier = λ h. let s = h.seq in omega arith;
+    },
+  )
+  why_of (store, inr p) =
+      let h = reserved_is model log e reserved known sound is p.reservation p.is_reserved in (
+        AtomicIn,
+        record {
+          lr = h.0;
+          of_log = in_new log e known sound h.0 h.1.of_log;
+          paired = h.1.paired;
+          is_writer = writer_own model log e reserved known sound is h.0.word h.0.read store (h.2 ∙ p.word) (h.3 ∙
+              p.version);
+        },
+      )
+
+  own_of : (r : Reason) → HasReason model new r e e → ReturnsOwn e reserved
+  own_of (Preserved k) h = let s = h.earlier.seq in absurd (omega arith)
+  own_of Coherence h = let v = h.versions in absurd (omega arith)
+  own_of ReadsFrom h = let f = writer-is new e.word e.read e h.is_writer in (f.store, inl (h.load, f.version))
+  own_of FromRead h = absurd (h.other refl)
+  own_of AtomicIn h =
+      let f = writer-is new h.lr.word h.lr.read e h.is_writer in
+      let r = reserved_of model log e reserved known sound is h.lr (record { of_log = h.of_log; paired = h.paired })
+      in (
+        f.store,
+        inr (record {
+          reservation = r.0;
+          is_reserved = r.1;
+          word = sym r.2 ∙ f.word;
+          version = sym r.3 ∙
+              f.version;
+        }),
+      )
+  own_of AtomicOut h = absurd (h.other_hart refl)
+
+  pub own_edge : ReturnsOwn e reserved ↔ ((r : Reason) × IsEdge model new e.id r e.id)
+  own_edge = (to, from)
+    where
+      to : ReturnsOwn e reserved → (r : Reason) × IsEdge model new e.id r e.id
+      to p =
+          let w = why_of p in
+          (w.0, edge_of model new known' w.0 e e here here (store-memory e p.0) (store-memory e p.0) w.1)
+
+      from : (r : Reason) × IsEdge model new e.id r e.id → ReturnsOwn e reserved
+      from (r, edge) =
+          let a : edge.a ≡ e = same_Some edge.a e (sym edge.from_named ∙ known'.own e here) in
+          let b : edge.b ≡ e = same_Some edge.b e (sym edge.to_named ∙ known'.own e here) in
+          own_of r (subst (λ (x : Event). HasReason model new r e x) b (subst (λ
+          (x : Event). HasReason model new r x edge.b) a edge.why))

@@ -1,0 +1,129 @@
+-- A new event changes no pair of old ones, and an SC is paired with one LR alone.
+use Rattle.std.proofs.Common.{◌≡◌, ◌≢◌, ◌<◌, List, [], ◌∷◌, ◌++◌, length, Contains, Option, Some, None, IsFalse, inl, inr, sym, ap, ◌∙◌, arith, subst}
+use Rattle.std.proofs.lemmas.Bool.{cases_lt, false≢true}
+use Rattle.std.proofs.lemmas.Option.{same_Some}
+use Rattle.std.proofs.lemmas.List.Elements.{All-contains, Contains-append_left, Contains-push_cases}
+use Rattle.rv_event.proofs.Growing.{All-from_contains, Paired-grows}
+use Rattle.rv_event.proofs.Indexed.{Indexed, Sound, indexed-push}
+use Rattle.rv_event.proofs.Settled.{grows-push}
+use Rattle.rv_event.specs.Operations.{is_exclusive}
+use Rattle.rv_event.specs.Log.{named, of_hart, Earlier, Between}
+use Rattle.rv_event.specs.Relations.{Paired}
+use Rattle.rv_event.specs.declared.event.Id.{Id}
+use Rattle.rv_event.specs.declared.event.Event.{Event}
+use Rattle.rv_event.specs.declared.memory_model.MemoryModel.TheVariants.{Rvwmo}
+use Rattle.rv_versions.specs.Indexes.{IsPair, IsReservation}
+use Rattle.rv_versions.specs.Reserved.{IsPartner, IsReserved}
+use Rattle.rv_versions.specs.declared.reservation.Reservation.{Reservation}
+
+-- one id, one event
+pub same_event : (log : List Event) → Indexed log → (a b : Event) → Contains log a → Contains log b → a.id ≡ b.id →
+    a ≡ b
+same_event log known a b ca cb same = same_Some a b (sym (known.own a ca) ∙ ap (named log) same ∙ known.own b cb)
+
+-- of two LRs that are paired with one SC, neither is earlier
+not_earlier : (log : List Event) (a b sc : Event) → Contains log b → IsPair log a sc → IsPair log b sc →
+    a.id.seq < b.id.seq → ⊥
+not_earlier log a b sc cb p q low =
+    let between : Between a b sc = record {
+      after = record {
+        hart = p.paired.earlier.hart ∙
+            sym q.paired.earlier.hart;
+        seq = low;
+      };
+      before = q.paired.earlier;
+    } in
+    let none : IsFalse (is_exclusive b.op) = All-contains (λ m. Between a m sc →
+    IsFalse (is_exclusive m.op)) log b p.paired.none_between cb between in
+    false≢true (sym none ∙ ap is_exclusive q.paired.is_lr)
+
+pub one_partner : (log : List Event) → Indexed log → (a b sc : Event) → IsPair log a sc → IsPair log b sc → a ≡ b
+one_partner log known a b sc p q = same_event log known a b p.of_log q.of_log same
+  where
+    seqs : a.id.seq ≡ b.id.seq
+    seqs = elim (cases_lt a.id.seq b.id.seq) [
+      | inl low ↦ absurd (not_earlier log a b sc q.of_log p q low)
+      | inr high ↦ elim (cases_lt b.id.seq a.id.seq) [
+        | inl low ↦ absurd
+            (not_earlier log b a sc p.of_log q p low)
+        | inr high' ↦ omega arith
+      ]
+    ]
+
+    harts : a.id.hart ≡ b.id.hart
+    harts = p.paired.earlier.hart ∙ sym q.paired.earlier.hart
+
+    same : a.id ≡ b.id
+    same i = record { hart = harts i; seq = seqs i }
+
+module _ (log : List Event) (e : Event) (known : Indexed log) (sound : Sound log e) where
+  abbrev new : List Event
+  new = log ++ e ∷ []
+
+  pub is_new : (a : Event) → Contains log a → a.id ≢ e.id
+  is_new a c same =
+      let low : a.id.seq < length (of_hart a.id.hart log) = known.below a c in
+      let at : e.id.seq ≡ length (of_hart e.id.hart log) = sound.seq in
+      let low' : e.id.seq < length (of_hart e.id.hart log) = subst (λ (i : Id). i.seq < length
+      (of_hart i.hart log)) same low in
+      omega arith
+
+  pub in_new : (a : Event) → Contains log a → Contains new a
+  in_new a c = Contains-append_left log (e ∷ []) a c
+
+  -- the new event is not earlier than an old one
+  pub none_after : (b : Event) → Contains log b → Earlier e b → ⊥
+  none_after b c earlier =
+      let low : b.id.seq < length (of_hart b.id.hart log) = known.below b c in
+      let at : e.id.seq ≡ length (of_hart e.id.hart log) = sound.seq in
+      let later : e.id.seq < b.id.seq = earlier.seq in
+      let low' : b.id.seq < length (of_hart e.id.hart log) = rw earlier.hart low in
+      omega arith
+
+  pub settled : (lr sc : Event) → Paired new lr sc → Paired log lr sc
+  settled lr sc p = record {
+    is_lr = p.is_lr;
+    is_sc = p.is_sc;
+    earlier = p.earlier;
+    none_between = All-from_contains (λ m. Between lr m sc → IsFalse (is_exclusive m.op)) log
+        (λ m c. All-contains (λ m. Between lr m sc → IsFalse (is_exclusive m.op)) new m p.none_between (in_new m c));
+  }
+
+  pub grown : (lr sc : Event) → Contains log sc → Paired log lr sc → Paired new lr sc
+  grown lr sc c p = Paired-grows Rvwmo log new (grows-push log e) known (indexed-push log e known sound) lr sc c p
+
+  pub pair_grows : (lr sc : Event) → Contains log sc → IsPair log lr sc → IsPair new lr sc
+  pair_grows lr sc c p = record { of_log = in_new lr p.of_log; paired = grown lr sc c p.paired }
+
+  -- an LR that is paired with an old SC is old
+  pub pair_settled : (lr sc : Event) → Contains log sc → IsPair new lr sc → IsPair log lr sc
+  pair_settled lr sc c p = elim (Contains-push_cases log e lr p.of_log) [
+    | inl old ↦ record { of_log = old; paired = settled lr sc p.paired }
+    | inr is ↦ absurd (none_after sc c (subst (λ (x : Event). Earlier x sc) (sym is) p.paired.earlier))
+  ]
+
+  -- so is one that is paired with the new event
+  pub partner_of : (lr : Event) → IsPair new lr e → IsPartner log e lr
+  partner_of lr p = elim (Contains-push_cases log e lr p.of_log) [
+    | inl old ↦ record { of_log = old; paired = p.paired }
+    | inr is ↦ let s : lr.id.seq < e.id.seq = p.paired.earlier.seq in
+        let same : e.id.seq ≡ lr.id.seq = ap (λ (x : Event). x.id.seq) is in
+        absurd (omega arith)
+  ]
+
+  pub pair_of_partner : (lr : Event) → IsPartner log e lr → IsPair new lr e
+  pair_of_partner lr p = record { of_log = in_new lr p.of_log; paired = p.paired }
+
+  pub reservation_grows : (sc : Event) (r : Option Reservation) → Contains log sc → IsReservation log sc r →
+      IsReservation new sc r
+  reservation_grows sc (Some r) c h = (h.0, pair_grows h.0 sc c h.1, h.2, h.3)
+  reservation_grows sc None c h = λ lr p. h lr (pair_settled lr sc c p)
+
+  pub reservation_settled : (sc : Event) (r : Option Reservation) → Contains log sc → IsReservation new sc r →
+      IsReservation log sc r
+  reservation_settled sc (Some r) c h = (h.0, pair_settled h.0 sc c h.1, h.2, h.3)
+  reservation_settled sc None c h = λ lr p. h lr (pair_grows lr sc c p)
+
+  pub reservation_new : (r : Option Reservation) → IsReserved log e r → IsReservation new e r
+  reservation_new (Some r) h = (h.0, pair_of_partner h.0 h.1, h.2, h.3)
+  reservation_new None h = λ lr p. h lr (partner_of lr p)

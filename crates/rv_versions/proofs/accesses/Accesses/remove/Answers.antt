@@ -1,0 +1,7 @@
+use Rattle.rv_versions.proofs.Keys.{removed}
+use Rattle.rv_versions.proofs.accesses.Accesses.remove.Goals as goal
+
+pub returns-in-Some : goal.returns-in-Some
+returns-in-Some c =
+    removed c.self.inside.set c.remove.new.self c.args.self.now c.self.view_is c.in-Some.access
+    c.remove.ensures.updates.0 c.args.access c.in-Some.is

@@ -1,0 +1,10 @@
+-- The last event leaves the log and the indexes together.
+use Rattle.rv_versions.proofs.Stored.{popped}
+use Rattle.rv_versions.proofs.versions.Versions.pop.Goals as goal
+
+pub invariant_of-self-2 : goal.invariant_of-self-2
+invariant_of-self-2 c =
+    popped c.self.inside.entries.items c.pop.new.self.items c.self.inside.reserved.items c.pop-2.new.self.items
+    c.self.inside.indexes c.remove.new.self
+    c.postings_of.result c.in-Some.entry c.in-Some-pop.reserved c.self.invariant c.in-Some.ensures.items
+    c.in-Some-pop.ensures.items c.remove.ensures c.postings_of.ensures

@@ -1,0 +1,172 @@
+//! A log whose stores, loads and pairs are found by word and version.
+ghost use Rattle.std.specs.Prelude.{◌≡◌, ◌≢◌, ◌↔◌, IsTrue, ◌++◌, ◌∷◌, [], None, IfOk, OnOk, OnErr, List};
+ghost use Rattle.std.specs.Option.{option_map};
+ghost use Rattle.rv_event.specs.Faults.{event_fault};
+ghost use Rattle.rv_event.specs.Log.{events, writer};
+ghost use Rattle.rv_event.specs.WellFormed.{WellFormedEvents};
+ghost use Rattle.rv_event.specs.declared.event.Event.{Event};
+ghost use Rattle.rv_event.specs.Edges.{IsEdge};
+ghost use Rattle.rv_event.specs.declared.reason.Reason.{Reason};
+ghost use Rattle.rv_event.specs.declared.memory_model.MemoryModel.{MemoryModel};
+ghost use Rattle.rv_versions.specs.Reserved.{IsReserved};
+ghost use Rattle.rv_versions.specs.VersionLinks.{AreVersionLinks};
+
+mod after;
+mod before;
+mod links;
+mod lookups;
+mod own;
+
+use self::own::returns_own;
+use crate::indexes::{Indexes, postings_of};
+use crate::reservation::Reservation;
+use rv_event::{Entry, Event, Id, Link, NoMemory};
+use std::alloc::Global;
+use std::marker::Model;
+
+/// Links from other events to a new one and back, for each reason but the rules of preserved program order.
+#[derive(Drop, Debug)]
+pub struct VersionLinks {
+    /// Links from other events to it.
+    pub before: Vec<Link>,
+    /// Links from it to other events.
+    pub after: Vec<Link>,
+}
+
+/// A log whose stores, loads and pairs are found by word and version.
+///
+/// Contracts see it as the list of its events. Its type keeps that each event has no fault over those before it, and that
+/// the indexes have the log's stores, loads and pairs, and nothing else.
+#[derive(Drop)]
+pub struct Versions {
+    alloc: Global,
+    entries: Vec<Entry>,
+    reserved: Vec<Option<Reservation>>,
+    indexes: Indexes,
+}
+
+impl Model for Versions {
+    ghost use Rattle.std.specs.Prelude.{List};
+    ghost use Rattle.rv_event.specs.Log.{events};
+    ghost use Rattle.rv_event.specs.declared.event.Event.{Event};
+    ghost use Rattle.rv_versions.specs.Indexes.{AreIndexes};
+
+    ghost Value = { List Event };
+
+    ghost view = { λ v. events v.entries.items };
+
+    ghost invariant = { λ v. AreIndexes (events v.entries.items) v.reserved.items v.indexes };
+}
+
+impl Versions {
+    /// The empty log. It takes no memory; the allocator serves the calls to come.
+    pub fn new(alloc: Global) -> Self
+        ensures { result ≡ [] }
+    {
+        Versions {
+            alloc,
+            entries: Vec::new(alloc),
+            reserved: Vec::new(alloc),
+            indexes: Indexes::new(alloc),
+        }
+    }
+
+    /// The events in the order in which they came, as entries of source 0. It takes no memory.
+    pub fn entries(&self) -> &[Entry]
+        ensures value { events result.now ≡ self.now }
+        ensures well_formed { WellFormedEvents self.now }
+    {
+        self.entries.as_slice()
+    }
+
+    /// The links of the event, which has no fault over the log, with what its LR returned.
+    ///
+    /// Each link is an edge between the event and another one, for one of the reasons that look at versions: coherence,
+    /// reads-from, from-read, atomic-in and atomic-out (Unprivileged ISA, section 14.1, "Memory Model Axioms"). Each edge
+    /// for such a reason is linked, or another event splits it.
+    ///
+    /// It costs a few look-ups, each logarithmic in the events, a step for each link, and for atomic-out a step for each
+    /// store that it passes on the way to another hart's.
+    ///
+    /// # Errors
+    /// `NoMemory` where a list could not be had; nothing changes.
+    pub fn around(
+        &self,
+        event: &Event,
+        reserved: Option<Reservation>,
+    ) -> Result<VersionLinks, NoMemory>
+        requires sound { event_fault self.now event.now ≡ None }
+        requires reserved { IsReserved self.now event.now reserved }
+        ensures { IfOk result (λ w. (model : MemoryModel) → AreVersionLinks model self.now event.now w.before.items w.after.items) }
+    {
+        let before = self.links_before(event, reserved)?;
+        let after = self.links_after(event, reserved)?;
+        Ok(VersionLinks { before, after })
+    }
+
+    /// Whether an edge leads from the event to itself: where an AMO returned what it writes, or an SC's LR returned what
+    /// the SC writes. No rule holds of an event and itself.
+    ///
+    /// It takes no memory and constant time.
+    pub fn has_own_edge(&self, event: &Event, reserved: Option<Reservation>) -> bool
+        requires sound { event_fault self.now event.now ≡ None }
+        requires reserved { IsReserved self.now event.now reserved }
+        ensures { (model : MemoryModel) →
+            IsTrue result ↔
+            ((r : Reason) × IsEdge model (self.now ++ event.now ∷ []) event.now.id r event.now.id) }
+    {
+        let _ = &self.alloc;
+        returns_own(event, reserved)
+    }
+
+    /// The store that wrote this version of the word. Version 0, the initial value, has none.
+    ///
+    /// It takes no memory, and costs one look-up, logarithmic in the stores.
+    pub fn writer(&self, word: u32, version: u32) -> Option<Id>
+        ensures { result ≡ option_map (λ w. w.id) (writer self.now word version) }
+    {
+        let version = u64::from(version);
+        let Some(store) = self.indexes.stores.first_from(word, version) else {
+            return None;
+        };
+        if store.version != version {
+            return None;
+        }
+        Some(store.id())
+    }
+
+    /// Adds the event, which has no fault over the log, with what its LR returned.
+    ///
+    /// It costs at most three insertions, each logarithmic in the events.
+    ///
+    /// # Errors
+    /// `NoMemory` where the event could not be kept; the log stays as it is.
+    pub fn push(&mut self, event: &Event, reserved: Option<Reservation>) -> Result<(), NoMemory>
+        requires sound { event_fault self.old event.now ≡ None }
+        requires reserved { IsReserved self.old event.now reserved }
+        ensures pushed { OnOk result (self.new ≡ self.old ++ event.now ∷ []) }
+        ensures unchanged { OnErr result (self.new ≡ self.old) }
+    {
+        let event = event.copy(self.alloc)?;
+        self.entries.reserve(1)?;
+        self.reserved.reserve(1)?;
+        self.indexes.insert(postings_of(&event, reserved))?;
+        self.entries.push_reserved(Entry { source: 0, event });
+        self.reserved.push_reserved(reserved);
+        Ok(())
+    }
+
+    /// Takes the last event off; there is one. It takes no memory.
+    ///
+    /// It costs at most three removals, each logarithmic in the events.
+    pub fn pop(&mut self)
+        requires { self.old ≢ [] }
+        ensures { (front : List Event) (e : Event) → self.old ≡ front ++ e ∷ [] → self.new ≡ front }
+    {
+        if let Some(entry) = self.entries.pop()
+            && let Some(reserved) = self.reserved.pop()
+        {
+            self.indexes.remove(postings_of(&entry.event, reserved));
+        }
+    }
+}
