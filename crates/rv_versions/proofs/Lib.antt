@@ -14,3 +14,4 @@ pub mod Owning
 pub mod Paired
 pub mod Ranges
 pub mod Stored
+pub mod Topping

@@ -12,7 +12,7 @@ use Rattle.rv_event.specs.declared.reason.Reason.{Reason}
 use Rattle.rv_event.specs.declared.reason.Reason.TheVariants.{Coherence, ReadsFrom, FromRead, AtomicIn, AtomicOut}
 use Rattle.rv_cover.specs.Thinned.{IsNextLower, IsNextHigher}
 use Rattle.rv_versions.specs.Accesses.{access}
-use Rattle.rv_versions.specs.Listed.{link, IsExtended, IsUncovered, IsParted, CoherenceBefore, FromReadBefore, AtomicOutsBefore, CoherenceAfter, ReadsFromAfter, FromReadAfter, AtomicInAfter, AtomicOutAfter}
+use Rattle.rv_versions.specs.Listed.{AtomicOutBefore, link, IsExtended, IsUncovered, IsParted, CoherenceBefore, FromReadBefore, AtomicOutsBefore, CoherenceAfter, ReadsFromAfter, FromReadAfter, AtomicInAfter, AtomicOutAfter}
 use Rattle.rv_versions.specs.Lookups.{IsLowerStore, IsHigherStore, IsForeign, IsForeignLower, IsForeignHigher, IsLoadBetween, IsPairBetween}
 use Rattle.rv_versions.specs.declared.accesses.Access.{Access}
 use Rattle.rv_versions.specs.declared.reservation.Reservation.{Reservation}
@@ -477,3 +477,13 @@ pub linked_all : (reason : Reason) (ids : List Id) (old new : List Link) →
 linked_all reason ids old new h =
     extended_same old new (Linked (λ i. Unit {0}) reason ids) (λ l. (i : Id) × Contains ids i × (l ≡ link i reason))
     (λ l. (λ p. (p.0, p.1, p.3), λ p. (p.0, p.1, tt, p.2))) h
+
+-- where no SC is one of these, nothing is added
+pub no_atomic_outs :
+    (log : List Event) (e : Event) (links : List Link) → ((sc lr : Event) → AtomicOutBefore log e sc lr → ⊥) →
+    AtomicOutsBefore log e links links
+no_atomic_outs log e links none = record {
+  kept = λ l c. c;
+  only = λ l c. inl c;
+  each = λ sc lr a. absurd (none sc lr a);
+}

@@ -1,6 +1,7 @@
 -- Look-ups in the indexes, told of the log.
-use Rattle.std.proofs.Common.{◌≡◌, ◌≢◌, ℕ, ◌+◌, ◌<◌, ◌≤◌, List, Contains, Option, Some, None, Result, Ok, Err, IfOk, ◌↔◌, inl, inr, sym, ap, ◌∙◌, arith, subst}
-use Rattle.std.proofs.lemmas.Bool.{cases_lt}
+use Rattle.std.proofs.Common.{◌≡◌, ◌≢◌, ℕ, ◌+◌, ◌<◌, ◌≤◌, true, List, Contains, Option, Some, None, Result, Ok, Err, IfOk, ◌↔◌, inl, inr, refl, sym, ap, ◌∙◌, arith, subst}
+use Rattle.std.proofs.lemmas.Bool.{cases_lt, false≢true}
+use Rattle.std.specs.Option.{is_some}
 use Rattle.rv_event.proofs.Indexed.{Indexed}
 use Rattle.rv_event.specs.Operations.{IsStore}
 use Rattle.rv_event.specs.declared.event.Event.{Event}
@@ -159,6 +160,32 @@ module _ (log now : List Event) (rs : List (Option Reservation)) (ix : Indexes) 
       (i : Id) → Contains ids i ↔ IsPairBetween now w from to i
   pairs_of w from to ids h i = subst (λ (l : List Event). Contains ids i ↔ IsPairBetween l w from to i) is
       (λ c. pair_between w from to i ((h i).0 c), λ b. (h i).1 (between_pair w from to i b))
+
+  -- a pair of a lower version, by the pair of the highest
+  no_pair_of : (w to : ℕ) → IsLower ix.pairs w to None → (i : Id) → IsPairBetween now w 0 to i → ⊥
+  no_pair_of w to none i p =
+      let b = between_pair w 0 to i (subst (λ (l : List Event). IsPairBetween l w 0 to i) (sym is) p) in
+      let high = none (access w b.version i) (record { known = b.known; same = refl }) in
+      let low = b.below in
+      omega arith
+
+  some_pair_of : (w to : ℕ) (x : Access) → IsLower ix.pairs w to (Some x) → IsPairBetween now w 0 to (id_of x)
+  some_pair_of w to x h =
+      let same : x ≡ access w x.version (id_of x) = λ j. record {
+        word = h.0.same j;
+        version = x.version;
+        hart = x.hart;
+        seq = x.seq;
+      } in
+      subst (λ (l : List Event). IsPairBetween l w 0 to (id_of x)) is
+      (pair_between w 0 to (id_of x)
+      (record { version = x.version; at_least = omega arith; below = h.1; known = subst (Contains ix.pairs) same h.0.known }))
+
+  pub pair_below_of :
+      (w to : ℕ) (o : Option Access) → IsLower ix.pairs w to o →
+      (is_some o ≡ true) ↔ ((i : Id) × IsPairBetween now w 0 to i)
+  pair_below_of w to None h = (λ e. absurd (false≢true e), λ p. absurd (no_pair_of w to h p.0 p.1))
+  pair_below_of w to (Some x) h = (λ e. (id_of x, some_pair_of w to x h), λ p. refl)
 
 -- ---- a store of another hart, by the stores below it in turn
 

@@ -1,10 +1,15 @@
 //! Accesses to words, found by word and version.
+//!
+//! Where events come in commit order, nearly all that is asked of a word is about its highest version, and one look-up in
+//! the tops answers it. The rest is searched in an ordered set.
 ghost use Rattle.std.specs.Prelude.{ℕ, ◌≡◌, ◌≢◌, ◌↔◌, ◌⊎◌, ◌<◌, ◌≤◌, [], Contains, OnOk, OnErr, IfOk};
 ghost use Rattle.rv_versions.specs.Accesses.{IsLower, IsFirstFrom, IsForeignFrom, IsBetween};
 ghost use Rattle.rv_versions.specs.Indexes.{IsInserted, IsRemoved};
+ghost use Rattle.rv_versions.specs.Tops.{IsTop};
 ghost use Rattle.rv_versions.specs.declared.accesses.Access.{Access};
 ghost use Rattle.rv_event.specs.declared.event.Id.{Id};
 
+use crate::tops::{Top, Tops};
 use rv_event::{Id, NoMemory};
 use std::alloc::Global;
 use std::collections::BTreeSet;
@@ -41,15 +46,19 @@ impl Access {
 #[derive(Drop)]
 pub struct Accesses {
     set: BTreeSet<Access>,
+    tops: Tops,
 }
 
 impl Model for Accesses {
     ghost use Rattle.std.specs.Prelude.{List};
+    ghost use Rattle.rv_versions.specs.Tops.{AreTops};
     ghost use Rattle.rv_versions.specs.declared.accesses.Access.{Access};
 
     ghost Value = { List Access };
 
     ghost view = { λ a. a.set.keys };
+
+    ghost invariant = { λ a. AreTops a.set.keys a.tops };
 }
 
 /// What comes first of a version of a word.
@@ -71,6 +80,7 @@ impl Accesses {
     {
         Accesses {
             set: BTreeSet::new(alloc),
+            tops: Tops::new(alloc),
         }
     }
 
@@ -83,7 +93,9 @@ impl Accesses {
         ensures unchanged { OnErr result (self.new ≡ self.old) }
     {
         if let Some(access) = access {
+            self.tops.note(access.word)?;
             self.set.insert(access)?;
+            self.tops.raise(access);
         }
         Ok(())
     }
@@ -94,11 +106,75 @@ impl Accesses {
     {
         if let Some(access) = access {
             self.set.remove(&access);
+            self.tops.forget(access);
         }
+    }
+
+    /// What is known of the word.
+    fn top(&self, word: u32) -> Top
+        ensures { IsTop self.now word result }
+    {
+        self.tops.get(u64::from(word))
     }
 
     /// The access of the lowest version of the word from this one on.
     pub fn first_from(&self, word: u32, version: u64) -> Option<Access>
+        ensures { IsFirstFrom self.now word version result }
+    {
+        match self.top(word) {
+            Top::Nothing => None,
+            Top::Known(top) if top.version < version => None,
+            Top::Known(top) if top.version == version => Some(top),
+            _ => self.search_from(word, version),
+        }
+    }
+
+    /// The access of the highest version of the word below this one.
+    pub fn lower(&self, word: u32, version: u64) -> Option<Access>
+        ensures { IsLower self.now word version result }
+    {
+        match self.top(word) {
+            Top::Nothing => None,
+            Top::Known(top) if top.version < version => Some(top),
+            _ => self.search_below(word, version),
+        }
+    }
+
+    /// The access of the lowest version of the word from this one on that another hart has made.
+    pub fn foreign_from(&self, word: u32, version: u64, hart: u8) -> Option<Access>
+        ensures { IsForeignFrom self.now word version hart result }
+    {
+        match self.top(word) {
+            Top::Nothing => None,
+            Top::Known(top) if top.version < version => None,
+            _ => self.search_foreign(word, version, hart),
+        }
+    }
+
+    /// The ids of the accesses to a version of the word from the first on and below the second.
+    ///
+    /// # Errors
+    /// `NoMemory` where the list could not grow.
+    pub fn ids_between(
+        &self,
+        alloc: Global,
+        word: u32,
+        from: u64,
+        to: u64,
+    ) -> Result<Vec<Id>, NoMemory>
+        requires { from ≤ to }
+        ensures { IfOk result (λ ids. (i : Id) →
+            Contains ids.items i ↔ IsBetween self.now word from to i) }
+    {
+        match self.top(word) {
+            Top::Nothing => Ok(Vec::new(alloc)),
+            Top::Known(top) if top.version < from => Ok(Vec::new(alloc)),
+            _ => self.search_between(alloc, word, from, to),
+        }
+    }
+
+    /// What `first_from` answers, by a search.
+    fn search_from(&self, word: u32, version: u64) -> Option<Access>
         ensures { IsFirstFrom self.now word version result }
     {
         let word = u64::from(word);
@@ -108,8 +184,8 @@ impl Accesses {
             .copied()
     }
 
-    /// The access of the highest version of the word below this one.
-    pub fn lower(&self, word: u32, version: u64) -> Option<Access>
+    /// What `lower` answers, by a search.
+    fn search_below(&self, word: u32, version: u64) -> Option<Access>
         ensures { IsLower self.now word version result }
     {
         let word = u64::from(word);
@@ -119,8 +195,8 @@ impl Accesses {
             .copied()
     }
 
-    /// The access of the lowest version of the word from this one on that another hart has made.
-    pub fn foreign_from(&self, word: u32, version: u64, hart: u8) -> Option<Access>
+    /// What `foreign_from` answers, by a search.
+    fn search_foreign(&self, word: u32, version: u64, hart: u8) -> Option<Access>
         ensures { IsForeignFrom self.now word version hart result }
     {
         let word = u64::from(word);
@@ -132,8 +208,8 @@ impl Accesses {
         None
     }
 
-    /// The ids of the accesses to a version of the word from the first on and below the second.
-    pub fn ids_between(
+    /// What `ids_between` answers, by a search.
+    fn search_between(
         &self,
         alloc: Global,
         word: u32,

@@ -6,7 +6,7 @@
 //! ordered sets, and a step for each link that it lists.
 //!
 //! - `reservation`: what an LR returned. The caller knows with which LR an SC is paired.
-//! - `accesses`: a set of accesses in the order of word and version.
+//! - `accesses`: a set of accesses in the order of word and version. `tops`: an access of each word's highest version.
 //! - `indexes`: three such sets: the stores, the loads, and the SCs under what their LRs returned.
 //! - `versions`: the log, with its look-ups (`lookups`) and the links of a new event (`before`, `after`, `own`).
 //! - `specs/`: what is promised of the links (`VersionLinks`, with `Reserved`); which links are listed, reason by reason
@@ -23,6 +23,7 @@ mod indexes;
 mod reservation;
 #[cfg(test)]
 mod tests;
+mod tops;
 mod versions;
 
 pub use reservation::Reservation;

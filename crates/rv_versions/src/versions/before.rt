@@ -107,11 +107,12 @@ impl Versions {
         ensures { OnOk result
             (AtomicOutsBefore self.now event.now links.old.items links.new.items) }
     {
-        if !event.is_store() {
+        let wrote = u64::from(event.wrote);
+        if !event.is_store() || !self.has_pair_below(event.word, wrote) {
             return Ok(());
         }
         let low = self.unparted_from(event);
-        let scs = self.pairs_between(event.word, low, u64::from(event.wrote))?;
+        let scs = self.pairs_between(event.word, low, wrote)?;
         append_foreign(links, &scs, event.id.hart, Reason::AtomicOut)
     }
 

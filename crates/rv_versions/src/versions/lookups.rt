@@ -1,5 +1,5 @@
 //! Stores, loads and pairs of the log, by word and version.
-ghost use Rattle.std.specs.Prelude.{ℕ, ◌≡◌, ◌↔◌, ◌≤◌, Contains, IfOk};
+ghost use Rattle.std.specs.Prelude.{ℕ, ◌≡◌, ◌↔◌, ◌≤◌, Contains, IfOk, IsTrue};
 ghost use Rattle.rv_event.specs.WellFormed.{WellFormedEvents};
 ghost use Rattle.rv_event.specs.declared.event.Id.{Id};
 ghost use Rattle.rv_versions.specs.Lookups.{IsLowerStore, IsHigherStore, IsForeignLower, IsForeignHigher, IsLoadBetween, IsPairBetween};
@@ -60,6 +60,13 @@ impl Versions {
             Contains ids.items i ↔ IsLoadBetween self.now word from to i) }
     {
         self.indexes.loads.ids_between(self.alloc, word, from, to)
+    }
+
+    /// Whether there is an SC whose LR returned a version of the word below this one.
+    pub(crate) fn has_pair_below(&self, word: u32, version: u64) -> bool
+        ensures { IsTrue result ↔ ((i : Id) × IsPairBetween self.now word 0 version i) }
+    {
+        self.indexes.pairs.lower(word, version).is_some()
     }
 
     /// The SCs whose LRs returned a version of the word from the first on and below the second.

@@ -1,15 +1,6 @@
-use Rattle.std.proofs.Common.{◌∙◌, ◌+◌, ap, ℕ}
-use Rattle.rv_versions.proofs.Keys.{start}
-use Rattle.rv_versions.proofs.Ranges.{first_of, part_is}
+use Rattle.std.proofs.Common.{subst}
+use Rattle.rv_versions.specs.Tops.{IsTop}
 use Rattle.rv_versions.proofs.accesses.Accesses.first_from.Goals as goal
 
-pub returns : goal.returns
-returns c =
-    let w = c.args.word in
-    let v = c.args.version in
-    first_of c.self.inside.set.keys c.args.self.now c.self.view_is w v c.range.result c.next.new.self
-    c.range.ensures.ordered
-    (part_is c.self.inside.set.keys c.range.result c.start.result c.start-2.result c.from-word.result w v (w + 1) 0
-    (c.range.ensures.between tt) c.from-word.ensures c.start.ensures (c.start-2.ensures ∙
-    ap (λ (m : ℕ). start (m + 1) 0) c.from-word.ensures))
-    c.next.result c.copied.result c.next.ensures.steps c.copied.ensures
+pub returns-in-Nothing : goal.returns-in-Nothing
+returns-in-Nothing c = λ x of. absurd (subst (IsTop c.args.self.now c.args.word) c.in-Nothing.is c.top.ensures x of)

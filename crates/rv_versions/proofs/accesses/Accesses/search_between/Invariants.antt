@@ -1,6 +1,6 @@
 use Rattle.std.proofs.Common.{◌≡◌, map}
 use Rattle.rv_versions.proofs.Keys.{id_of}
-use Rattle.rv_versions.proofs.accesses.Accesses.ids_between.Given as goal
+use Rattle.rv_versions.proofs.accesses.Accesses.search_between.Given as goal
 
 -- the ids of what came so far
 abbrev pub invariant-loop-access : goal.invariant-loop-access

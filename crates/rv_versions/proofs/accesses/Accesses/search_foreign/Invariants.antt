@@ -1,5 +1,5 @@
 use Rattle.std.proofs.Common.{◌≡◌, All}
-use Rattle.rv_versions.proofs.accesses.Accesses.foreign_from.Given as goal
+use Rattle.rv_versions.proofs.accesses.Accesses.search_foreign.Given as goal
 
 -- what came so far is of the hart
 abbrev pub invariant-loop-access : goal.invariant-loop-access
