@@ -1,8 +1,8 @@
-//! A reader that may take no more than so many bytes and calls.
-ghost use Rattle.std.specs.Prelude.{◌≡◌, ◌+◌, ◌≤◌, ◌<◌, ◌⊎◌, ◌^◌, ◌-◌, min, IfOk, IsErr, is_err, false};
+//! A reader that may take no more than so many bytes and calls, and that has ended once and for all.
+ghost use Rattle.std.specs.Prelude.{◌≡◌, ◌+◌, ◌≤◌, ◌<◌, ◌⊎◌, ◌^◌, ◌-◌, min, IfOk, IsErr, is_err, length, true, false};
 ghost use Rattle.std.specs.Io.{ReadsAtMost};
 ghost use Rattle.std.specs.Io.KnownBytes.{ReadConsumes};
-ghost use Rattle.rv_trace.specs.Counted.{bytes_taken, calls_made, last_refused};
+ghost use Rattle.rv_trace.specs.Counted.{bytes_taken, calls_made, last_refused, has_ended, bytes_left};
 
 use std::io;
 use std::io::Read;
@@ -11,13 +11,15 @@ use std::io::Read;
 pub const LIMIT: u64 = 67_108_864;
 
 /// A reader that counts the bytes and the calls, and refuses each read from the limit on. So a source that never ends
-/// is left in the end.
+/// is left in the end. Once a read gave nothing, the reader underneath is not asked again: a terminal, or a file that
+/// grows, may have more after its end.
 #[derive(Drop)]
 pub struct Counted<R> {
     inner: R,
     bytes: u64,
     calls: u64,
     refused: bool,
+    ended: bool,
 }
 
 impl<R: Read> Counted<R> {
@@ -27,12 +29,14 @@ impl<R: Read> Counted<R> {
         ensures bytes { bytes_taken result ≡ 0 }
         ensures calls { calls_made result ≡ 0 }
         ensures refused { last_refused result ≡ false }
+        ensures ended { has_ended result ≡ false }
     {
         Counted {
             inner,
             bytes: 0,
             calls: 0,
             refused: false,
+            ended: false,
         }
     }
 
@@ -45,12 +49,12 @@ impl<R: Read> Counted<R> {
 }
 
 impl<R: Read> Read for Counted<R> {
-    ghost remaining = { λ c. R.remaining c.inner };
+    ghost remaining = { bytes_left R.remaining };
 
     fn read(&mut self, buf: &mut [u8]) -> io::Result<usize>
         ensures bound { ReadsAtMost result buf.new }
         ensures bytes { ReadConsumes
-            (R.remaining self.old.inner) (R.remaining self.new.inner) result buf.new }
+            (bytes_left R.remaining self.old) (bytes_left R.remaining self.new) result buf.new }
         ensures limit { (LIMIT ≤ bytes_taken self.old) ⊎ (LIMIT ≤ calls_made self.old)
             → IsErr result }
         ensures refused { last_refused self.new ≡ is_err result }
@@ -58,14 +62,18 @@ impl<R: Read> Read for Counted<R> {
             → calls_made self.new ≡ calls_made self.old + 1 }
         ensures taken { IfOk result
             (λ n. bytes_taken self.new ≡ min (bytes_taken self.old + n) (2 ^ 64 - 1)) }
+        ensures ends { IfOk result (λ n. n ≡ 0 → 0 < length buf.new → has_ended self.new ≡ true) }
+        ensures stays { has_ended self.old ≡ true
+            → IfOk result (λ n. n ≡ 0) × (has_ended self.new ≡ true) }
     {
         self.refused = true;
         if self.bytes >= LIMIT || self.calls >= LIMIT {
             return Err(io::Error::from(io::ErrorKind::Other));
         }
         self.calls += 1;
-        let count = self.inner.read(buf)?;
+        let count = if self.ended { 0 } else { self.inner.read(buf)? };
         self.refused = false;
+        self.ended |= count == 0 && !buf.is_empty();
         self.bytes = self.bytes.saturating_add(count as u64);
         Ok(count)
     }

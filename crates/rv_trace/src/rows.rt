@@ -22,7 +22,7 @@ pub struct Rows<R: Read> {
 impl<R: Read> Model for Rows<R> {
     ghost use Rattle.rv_trace.specs.Rows.{RowsLeft, rows_left, IsPlain};
     ghost use Rattle.csv.specs.Reading.{has_failed, source_of, reader_source, reader_state};
-    ghost use Rattle.rv_trace.specs.Counted.{last_refused};
+    ghost use Rattle.rv_trace.specs.Counted.{last_refused, bytes_left};
     ghost use Rattle.std.specs.Prelude.{◌≡◌, false};
 
     ghost Value = { RowsLeft };
@@ -32,7 +32,7 @@ impl<R: Read> Model for Rows<R> {
         (has_failed a.reader)
         (last_refused (reader_source a.reader))
         (reader_state a.reader)
-        (source_of (λ c. R.remaining c.inner) a.reader)
+        (source_of (bytes_left R.remaining) a.reader)
         a.row };
 
     ghost invariant = { λ a. a.stopped ≡ false → IsPlain a.reader };

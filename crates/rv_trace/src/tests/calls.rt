@@ -1,19 +1,21 @@
-//! The limit of calls, by a reader that gives few bytes.
+//! The limit of calls, by reads without room, and the end of a reader that would give more.
 use crate::counted::{Counted, LIMIT};
 use std::io;
 use std::io::Read;
 
-/// Gives one byte at every second call, none at the others, and counts the calls.
+/// Gives a byte where there is room from some call on, nothing before, and counts the calls.
 #[derive(Drop)]
-struct Sparing {
+struct Late {
+    /// The number of the first call that gives a byte.
+    first: u64,
     /// How many calls were made.
     calls: u64,
 }
 
-impl Read for Sparing {
+impl Read for Late {
     fn read(&mut self, buf: &mut [u8]) -> io::Result<usize> {
         self.calls = self.calls.saturating_add(1);
-        if self.calls % 2 == 0 || buf.is_empty() {
+        if self.calls < self.first || buf.is_empty() {
             return Ok(0);
         }
         buf[0] = b'0';
@@ -23,12 +25,17 @@ impl Read for Sparing {
 
 #[test]
 fn a_reader_is_left_after_so_many_calls(rt: HostRuntime) {
-    let mut sparing = Sparing { calls: 0 };
-    let mut reader = Counted::new(&mut sparing);
+    let mut late = Late { first: 0, calls: 0 };
+    let mut reader = Counted::new(&mut late);
     let mut buf = [0; 1];
     let mut given: u64 = 0;
     for call in 0..LIMIT {
-        let count = reader.read(&mut buf).unwrap_or(2);
+        let read = if call % 2 == 0 {
+            reader.read(&mut [])
+        } else {
+            reader.read(&mut buf)
+        };
+        let count = read.unwrap_or(2);
         assert!(rt; count < 2, "at {call}");
         given = given.saturating_add(count as u64);
     }
@@ -40,5 +47,18 @@ fn a_reader_is_left_after_so_many_calls(rt: HostRuntime) {
         assert!(rt; reader.last_refused());
     }
     drop(reader);
-    assert_eq!(rt; sparing.calls, LIMIT);
+    assert_eq!(rt; late.calls, LIMIT);
+}
+
+#[test]
+fn a_reader_that_gave_nothing_is_not_asked_again(rt: HostRuntime) {
+    let mut late = Late { first: 3, calls: 0 };
+    let mut reader = Counted::new(&mut late);
+    let mut buf = [0; 1];
+    assert!(rt; reader.read(&mut []).is_ok_and(|count| count == 0));
+    for _ in 0..3 {
+        assert!(rt; reader.read(&mut buf).is_ok_and(|count| count == 0));
+    }
+    drop(reader);
+    assert_eq!(rt; late.calls, 2);
 }

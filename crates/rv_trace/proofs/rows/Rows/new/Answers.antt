@@ -1,3 +1,4 @@
+use Rattle.rv_trace.specs.Counted.{bytes_left}
 use Rattle.std.proofs.Common.{◌∙◌, ap, option_map}
 use Rattle.csv.specs.Reading.{strip_bom}
 use Rattle.rv_trace.proofs.Rests.{new-left}
@@ -5,5 +6,5 @@ use Rattle.rv_trace.proofs.rows.Rows.new.Goals as goal
 
 pub returns-clause-left : goal.returns-clause-left
 returns-clause-left g c =
-    new-left (λ x. g.R.Read.remaining x.inner) c.from_reader.result (g.R.Read.remaining c.args.reader)
+    new-left (bytes_left g.R.Read.remaining) c.from_reader.result (g.R.Read.remaining c.args.reader)
     c.from_reader.ensures.state (c.from_reader.ensures.source ∙ ap (option_map strip_bom) c.new-2.ensures.remaining)
