@@ -14,9 +14,9 @@ use Rattle.rv_event.specs.declared.event.Op.TheVariants.{Load, Store, Lr, Sc, Sc
 use Rattle.rv_event.specs.declared.event.Set.TheVariants.{R, W, Rw}
 use Rattle.rv_rows.specs.Bits.{Has, has_bit}
 use Rattle.rv_hart.specs.Harts.{Hart, followed}
-use Rattle.rv_hart.specs.Sets.{HasEvent, RowIs, IsFencedFor, IsControlling, IsAddressing, IsReserving, IsReservation}
+use Rattle.rv_hart.specs.Sets.{HasEvent, RowIs, NamesMemory, IsFencedFor, IsControlling, IsAddressing, IsReserving, IsReservation}
 use Rattle.rv_hart.proofs.Knowing.{Known, Fits, follows_all, old_new}
-use Rattle.rv_hart.proofs.Depending.{DependsAmong}
+use Rattle.rv_hart.proofs.Depending.{AddsNamed}
 
 -- what is true of an event of the list may be changed at it
 pub has-map : (P Q : Event → Type 0) (xs ys : List Event) (s : ℕ) → ((a : Event) → Contains xs a → P a → Contains ys a × Q a) → HasEvent P xs s → HasEvent Q ys s
@@ -195,20 +195,26 @@ module _ (events : List Event) (loads stores : List ℕ) (loads_are : RowIs load
         | inr w ↦ (let p = and_parts (is_store x.a.op) (fence_orders e.op Store op) w in two s ∙ or_right (has_bit row' s) (second && has_bit stores s) (and_from second (has_bit stores s) (is_second ∙ p.1) ((stores_are s).1 (record { a = x.a; of_list = x.of_list; at = x.at; holds = p.0 }))))
       ]
 
--- the row of dependencies has the memory operations on which the event depends
-pub depended : (h : Hart) → Known h → (x : Event) → x.id.hart ≡ h.number → ((d : _) → Contains x.deps d → d.seq < x.id.seq) → (kind : DepKind) (loads stores row : List ℕ) → RowIs loads IsLoad h.events → RowIs stores IsStore h.events → DependsAmong kind loads stores x.deps row → RowIs row (λ a. IsMemory a × DependsOn kind x a) h.events
-depended h known x hart below kind loads stores row loads_are stores_are among s = (to, from)
+-- what a dependency names is a memory operation on which the event depends
+pub depended : (h : Hart) → Known h → (x : Event) → x.id.hart ≡ h.number →
+    ((d : _) → Contains x.deps d → d.seq < x.id.seq) → (kind : DepKind) (loads stores : List ℕ) →
+    RowIs loads IsLoad h.events → RowIs stores IsStore h.events → (s : ℕ) →
+    NamesMemory kind x.deps loads stores s ↔ HasEvent (λ a. IsMemory a × DependsOn kind x a) h.events s
+depended h known x hart below kind loads stores loads_are stores_are s = (to, from)
   where
-    to : Has row s → HasEvent (λ a. IsMemory a × DependsOn kind x a) h.events s
-    to y =
-        let n = (among s).0 y in
+    to : NamesMemory kind x.deps loads stores s → HasEvent (λ a. IsMemory a × DependsOn kind x a) h.events s
+    to n =
         let m = (memory-row h.events loads stores loads_are stores_are s).0 n.1 in
         let low : s < x.id.seq = below (record { kind = kind; seq = s }) n.0 in
         let at : m.a.id.seq ≡ s = m.at in
         record { a = m.a; of_list = m.of_list; at = m.at; holds = (m.holds, (record { hart = known.own m.a m.of_list ∙ sym hart; seq = omega arith }, subst (λ (k : ℕ). Contains x.deps (record { kind = kind; seq = k })) (sym m.at) n.0)) }
 
-    from : HasEvent (λ a. IsMemory a × DependsOn kind x a) h.events s → Has row s
-    from y = (among s).1 (subst (λ (k : ℕ). Contains x.deps (record { kind = kind; seq = k })) y.at y.holds.1.1, (memory-row h.events loads stores loads_are stores_are s).1 (record { a = y.a; of_list = y.of_list; at = y.at; holds = y.holds.0 }))
+    from : HasEvent (λ a. IsMemory a × DependsOn kind x a) h.events s → NamesMemory kind x.deps loads stores s
+    from y = (
+      subst (λ (k : ℕ). Contains x.deps (record { kind = kind; seq = k })) y.at y.holds.1.1,
+      (memory-row h.events loads stores loads_are stores_are s).1
+          (record { a = y.a; of_list = y.of_list; at = y.at; holds = y.holds.0 }),
+    )
 
 -- the event is a branch that depends on a memory operation
 abbrev BranchDepends : Event → Event → Type 0
@@ -262,28 +268,35 @@ module _ (h : Hart) (e : Event) (f : Fits h e) where
       (fenced-more h e f op) (fenced-never h e f op)
 
   -- what a new branch depends on
-  pub controls-absorbed : (test : Bool) (loads stores row row' tested : List ℕ) → RowIs loads IsLoad h.events → RowIs stores IsStore h.events → RowIs row (IsControlling h.events) h.events →
-      IsTrue test ↔ (e.op ≡ Branch) → DependsAmong Ctrl loads stores e.deps tested →
-      ((s : ℕ) → has_bit row' s ≡ (has_bit row s || (test && has_bit tested s))) →
+  pub controls-absorbed : (loads stores row row' : List ℕ) → RowIs loads IsLoad h.events →
+      RowIs stores IsStore h.events → RowIs row (IsControlling h.events) h.events →
+      ((s : ℕ) → Has row' s ↔ (Has row s ⊎ ((e.op ≡ Branch) × NamesMemory Ctrl e.deps loads stores s))) →
       RowIs row' (IsControlling (followed h e)) (followed h e)
-  controls-absorbed test loads stores row row' tested loads_are stores_are is decides among more =
+  controls-absorbed loads stores row row' loads_are stores_are is more =
       row-join h e f (IsControlling h.events) (IsControlling (followed h e)) (BranchDepends e) row row' is joined says never
     where
-      named : RowIs tested (λ a. IsMemory a × DependsOn Ctrl e a) h.events
-      named = depended h f.known e f.hart f.deps Ctrl loads stores tested loads_are stores_are among
+      named : (s : ℕ) → NamesMemory Ctrl e.deps loads stores s ↔ HasEvent (λ a. IsMemory a × DependsOn Ctrl e a)
+          h.events s
+      named = depended h f.known e f.hart f.deps Ctrl loads stores loads_are stores_are
 
       joined : (s : ℕ) → Has row' s ↔ (Has row s ⊎ HasEvent (BranchDepends e) h.events s)
       joined s = (to, from)
         where
           to : Has row' s → Has row s ⊎ HasEvent (BranchDepends e) h.events s
-          to x = elim (or_cases (has_bit row s) (test && has_bit tested s) (sym (more s) ∙ x)) [
+          to x = elim ((more s).0 x) [
             | inl old ↦ inl old
-            | inr new ↦ (let p = and_parts test (has_bit tested s) new in inr (has-map (λ a. IsMemory a × DependsOn Ctrl e a) (BranchDepends e) h.events h.events s (λ a c d. (c, (d.0, decides.0 p.0, d.1))) ((named s).0 p.1)))
+            | inr new ↦ inr (has-map (λ a. IsMemory a × DependsOn Ctrl e a) (BranchDepends e) h.events h.events s
+                (λ a c d. (c, (d.0, new.0, d.1))) ((named s).0 new.1))
           ]
 
           from : Has row s ⊎ HasEvent (BranchDepends e) h.events s → Has row' s
-          from (inl old) = more s ∙ or_left (has_bit row s) (test && has_bit tested s) old
-          from (inr new) = more s ∙ or_right (has_bit row s) (test && has_bit tested s) (and_from test (has_bit tested s) (decides.1 new.holds.1) ((named s).1 (has-map (BranchDepends e) (λ a. IsMemory a × DependsOn Ctrl e a) h.events h.events s (λ a c d. (c, (d.0, d.2))) new)))
+          from (inl old) = (more s).1 (inl old)
+          from (inr new) = (more s).1 (inr (
+            new.holds.1,
+            (named s).1
+                (has-map (BranchDepends e) (λ a. IsMemory a × DependsOn Ctrl e a) h.events h.events s
+                (λ a c d. (c, (d.0, d.2))) new),
+          ))
 
       says : (a : Event) → Contains h.events a → IsControlling (followed h e) a ↔ (IsControlling h.events a ⊎ BranchDepends e a)
       says a ca = (to, from)
@@ -304,25 +317,25 @@ module _ (h : Hart) (e : Event) (f : Fits h e) where
       never x = let y = Any-contains (λ m. (m.op ≡ Branch) × DependsOn Ctrl m e) (followed h e) x.1 in none_after h e f y.0 y.1 y.2.1.0
 
   -- what a new address depends on
-  pub addresses-absorbed : (loads stores row row' based : List ℕ) → RowIs loads IsLoad h.events → RowIs stores IsStore h.events → RowIs row (IsAddressing h.events) h.events →
-      DependsAmong Addr loads stores e.deps based →
-      ((s : ℕ) → has_bit row' s ≡ (has_bit row s || has_bit based s)) →
+  pub addresses-absorbed : (loads stores row row' : List ℕ) → RowIs loads IsLoad h.events →
+      RowIs stores IsStore h.events → RowIs row (IsAddressing h.events) h.events →
+      AddsNamed Addr loads stores e.deps row row' →
       RowIs row' (IsAddressing (followed h e)) (followed h e)
-  addresses-absorbed loads stores row row' based loads_are stores_are is among more =
+  addresses-absorbed loads stores row row' loads_are stores_are is more =
       row-join h e f (IsAddressing h.events) (IsAddressing (followed h e)) (AddressDepends e) row row' is joined says never
     where
-      named : RowIs based (AddressDepends e) h.events
-      named = depended h f.known e f.hart f.deps Addr loads stores based loads_are stores_are among
+      named : (s : ℕ) → NamesMemory Addr e.deps loads stores s ↔ HasEvent (AddressDepends e) h.events s
+      named = depended h f.known e f.hart f.deps Addr loads stores loads_are stores_are
 
       joined : (s : ℕ) → Has row' s ↔ (Has row s ⊎ HasEvent (AddressDepends e) h.events s)
       joined s = (to, from)
         where
           to : Has row' s → Has row s ⊎ HasEvent (AddressDepends e) h.events s
-          to x = elim (or_cases (has_bit row s) (has_bit based s) (sym (more s) ∙ x)) [ inl old ↦ inl old | inr new ↦ inr ((named s).0 new) ]
+          to x = elim ((more s).0 x) [ inl old ↦ inl old | inr new ↦ inr ((named s).0 new) ]
 
           from : Has row s ⊎ HasEvent (AddressDepends e) h.events s → Has row' s
-          from (inl old) = more s ∙ or_left (has_bit row s) (has_bit based s) old
-          from (inr new) = more s ∙ or_right (has_bit row s) (has_bit based s) ((named s).1 new)
+          from (inl old) = (more s).1 (inl old)
+          from (inr new) = (more s).1 (inr ((named s).1 new))
 
       says : (a : Event) → Contains h.events a → IsAddressing (followed h e) a ↔ (IsAddressing h.events a ⊎ AddressDepends e a)
       says a ca = (to, from)

@@ -181,6 +181,13 @@ old_new h e a c = Contains-append_left h.events (e ∷ []) a c
 pub read_is : (h : Hart) → Known h → (w x : Event) (n : ℕ) → Contains h.events w → w.id.seq ≡ n → x ≡ get_or h.events n x → x ≡ w
 read_is h known w x n cw at read = read ∙ ap (λ (k : ℕ). get_or h.events k x) (sym at) ∙ event_at h known w x cw
 
+-- an event's number is below the limit on numbers
+pub number-few : (h : Hart) → Known h → (a : Event) → Contains h.events a → a.id.seq < 4096
+number-few h known a ca =
+    let low = known.below a ca in
+    let few = known.few in
+    omega arith
+
 -- dependencies stand below the limit on numbers
 pub deps-few : (h : Hart) → Known h → (w : Event) → Contains h.events w → All (λ d. d.seq < 4096) w.deps
 deps-few h known w cw k d low =

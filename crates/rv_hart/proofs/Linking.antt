@@ -1,6 +1,6 @@
 -- The lowest rules of candidates, and the links of the listed ones.
-use Rattle.std.proofs.Common.{◌≡◌, ℕ, ◌+◌, ◌-◌, ◌<◌, ◌≤◌, false, ◌||◌, ◌==◌, ◌↔◌, List, [], ◌∷◌, ◌++◌, length, get_or, take, Contains, ◌⊎◌, inl, inr, sym, refl, ap, ◌∙◌, arith, subst, eqb-true, eq-eqb}
-use Rattle.std.proofs.lemmas.Bool.{or_cases, or_left, or_right, false≢true, cases_lt, cases_eq}
+use Rattle.std.proofs.Common.{◌≡◌, ℕ, ◌+◌, ◌<◌, ◌≤◌, false, ◌||◌, ◌==◌, ◌↔◌, List, [], ◌∷◌, ◌++◌, length, get_or, take, Contains, ◌⊎◌, inl, inr, sym, refl, ap, ◌∙◌, arith, subst, eqb-true, eq-eqb}
+use Rattle.std.proofs.lemmas.Bool.{or_cases, or_left, or_right, false≢true, cases_lt}
 use Rattle.std.proofs.lemmas.List.{take_more}
 use Rattle.std.proofs.lemmas.List.Elements.{Contains-push_cases, Contains-push, Contains-append_left, Contains-get_or}
 use Rattle.std.proofs.lemmas.Option.{same_Some}
@@ -8,7 +8,7 @@ use Rattle.rv_event.proofs.Names.{named-is}
 use Rattle.rv_event.proofs.Conditions.{Condition-number, Condition-above}
 use Rattle.rv_event.specs.Operations.{IsMemory}
 use Rattle.rv_event.specs.Log.{named}
-use Rattle.rv_event.specs.Preserved.{Rule, IsPreserved, OverlappingStore, overlapping_store}
+use Rattle.rv_event.specs.Preserved.{Rule, IsPreserved}
 use Rattle.rv_event.specs.Edges.{IsLowest}
 use Rattle.rv_event.specs.declared.event.Id.{Id}
 use Rattle.rv_event.specs.declared.event.Event.{Event}
@@ -20,46 +20,40 @@ use Rattle.rv_rows.specs.Bits.{Has, has_bit}
 use Rattle.rv_hart.specs.Harts.{Hart, followed, hart_with}
 use Rattle.rv_hart.specs.Rows.{IsOrderedBy, IsCandidate, IsBefore, RowsMean}
 use Rattle.rv_hart.specs.RuleLinks.{AreRuleLinks}
-use Rattle.rv_hart.specs.RuleRows.{AreRuleRows, IsLowestRule, IsSwept}
-use Rattle.rv_hart.proofs.Conditions.{overlapping_store_out}
+use Rattle.rv_hart.specs.RuleRows.{IsOperationOf, ConditionOf, IsLowestRule, IsSwept}
 use Rattle.rv_hart.proofs.Knowing.{Known, Fits, known_with, same_event, old_new}
 use Rattle.rv_hart.proofs.Tying.{only, carried, unsplit, row_is, rule-old}
 use Rattle.rv_hart.proofs.Ruling.{ordered}
 
 -- ---- the lowest rule of a candidate
-module _ (h : Hart) (e : Event) (f : Fits h e) (memory : IsMemory e) (rows : List (List ℕ)) (are : AreRuleRows h e rows) (s : ℕ) (candidate : IsCandidate h e s) where
+module _ (h : Hart) (e : Event) (f : Fits h e) (memory : IsMemory e) (s : ℕ) (candidate : IsCandidate h e s) where
   abbrev a : Event
   a = candidate.1.a
 
-  -- rule 1 by its test
-  pub lowest-first : OverlappingStore a e → IsLowestRule h e s 1
-  lowest-first o = record {
-    ordered = (let x = ordered h e f memory 1 a candidate.1.of_hart (candidate.1.rule.from_memory, overlapping_store o) in record { a = x.a; of_hart = x.of_hart; at = x.at ∙ candidate.1.at; rule = x.rule });
-    lowest = λ j low x. (let above = Condition-above h.model (followed h e) x.a e j x.rule.condition in omega arith);
+  pub candidate-operation : IsOperationOf h a
+  candidate-operation = record { of_hart = candidate.1.of_hart; memory = candidate.1.rule.from_memory }
+
+  pub none-first : (j : ℕ) → j < 1 → IsOrderedBy h e j s → ⊥
+  none-first j low x = let above = Condition-above h.model (followed h e) x.a e j x.rule.condition in omega arith
+
+  pub lowest-here : (k : ℕ) → ConditionOf h e k a → ((j : ℕ) → j < k → IsOrderedBy h e j s → ⊥) → IsLowestRule h e s k
+  lowest-here k holds none = record {
+    ordered = (let x = ordered h e f memory k a candidate.1.of_hart (candidate.1.rule.from_memory, holds) in
+        record { a = x.a; of_hart = x.of_hart; at = x.at ∙ candidate.1.at; rule = x.rule });
+    lowest = none;
   }
 
-  pub none-first : (OverlappingStore a e → ⊥) → (j : ℕ) → j < 2 → IsOrderedBy h e j s → ⊥
-  none-first none j low x = go (cases_eq j 1)
+  pub none-here : (k : ℕ) → (ConditionOf h e k a → ⊥) → ((j : ℕ) → j < k → IsOrderedBy h e j s → ⊥) → (j : ℕ) →
+      j < k + 1 → IsOrderedBy h e j s → ⊥
+  none-here k fails none j low x = go (cases_lt j k)
     where
-      go : (j ≡ 1) ⊎ (j ≡ 1 → ⊥) → ⊥
-      go (inl first) =
-          let o : IsOrderedBy h e 1 s = subst (λ (k : ℕ). IsOrderedBy h e k s) first x in
-          let same : o.a ≡ a = same_event h f.known o.a a o.of_hart candidate.1.of_hart (o.at ∙ sym candidate.1.at) in
-          none (subst (λ (y : Event). OverlappingStore y e) same (overlapping_store_out h.model (followed h e) o.a e o.rule.condition))
-      go (inr other) = let above = Condition-above h.model (followed h e) x.a e j x.rule.condition in omega (arith, other)
-
-  -- a higher one by its row
-  pub lowest-here : (k : ℕ) (row : List ℕ) → 1 < k → row ≡ get_or rows (k - 1) [] → Has row s → ((j : ℕ) → j < k → IsOrderedBy h e j s → ⊥) → IsLowestRule h e s k
-  lowest-here k row above is has none = record { ordered = (are.exact k above s).0 (subst (λ (r : List ℕ). Has r s) is has); lowest = none }
-
-  pub none-here : (k : ℕ) (row : List ℕ) → 1 < k → row ≡ get_or rows (k - 1) [] → has_bit row s ≡ false → ((j : ℕ) → j < k → IsOrderedBy h e j s → ⊥) → (j : ℕ) → j < k + 1 → IsOrderedBy h e j s → ⊥
-  none-here k row above is lacks none j low x = elim (cases_lt j k) [
-    | inl under ↦ none j under x
-    | inr over ↦ (
-        let same : j ≡ k = omega arith in
-        let has : Has row s = subst (λ (r : List ℕ). Has r s) (sym is) ((are.exact k above s).1 (subst (λ (n : ℕ). IsOrderedBy h e n s) same x)) in
-        false≢true (sym lacks ∙ has))
-  ]
+      go : (j < k) ⊎ (k ≤ j) → ⊥
+      go (inl under) = none j under x
+      go (inr over) =
+          let same : j ≡ k = omega arith in
+          let o : IsOrderedBy h e k s = subst (λ (n : ℕ). IsOrderedBy h e n s) same x in
+          let met : o.a ≡ a = same_event h f.known o.a a o.of_hart candidate.1.of_hart (o.at ∙ sym candidate.1.at) in
+          fails (subst (ConditionOf h e k) met o.rule.condition)
 
   pub some-rule : (k : ℕ) → 14 ≤ k → ((j : ℕ) → j < k → IsOrderedBy h e j s → ⊥) → ⊥
   some-rule k high none =

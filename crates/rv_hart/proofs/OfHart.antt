@@ -1,29 +1,26 @@
 -- What the rules say of two events of one hart, they say over the hart's events alone.
-use Rattle.std.proofs.Common.{ltb, leb, ◌≡◌, ◌≢◌, ℕ, Bool, true, false, not, ◌&&◌, ◌||◌, ◌==◌, cond, List, [], ◌∷◌, ◌++◌, length, filter, find, reverse, map, Contains, All, Any, Option, Some, None, ◌⊎◌, inl, inr, refl, sym, ap, ◌∙◌, arith, subst, eqb-true, eq-eqb, IsFalse, IsTrue, option_map, unwrap_or}
+use Rattle.std.proofs.Common.{◌≡◌, ◌≢◌, ℕ, Bool, true, false, ◌==◌, cond, List, [], ◌∷◌, ◌++◌, filter, find, Contains, All, Any, Some, None, refl, sym, ap, ◌∙◌, subst, eqb-true, eq-eqb, IsFalse, IsTrue, option_map}
 use Rattle.std.specs.List.{list_any}
-use Rattle.std.proofs.lemmas.Bool.{and_parts, false≢true}
 use Rattle.std.proofs.lemmas.Option.{none-some}
 use Rattle.std.proofs.lemmas.List.Elements.{All-contains, All-filter, filter_passes, filter-append}
 use Rattle.rv_event.proofs.Names.{named-is, find-found}
-use Rattle.rv_event.proofs.Indexed.{Indexed, Sound, NoneOf, lowest-none, none-lowest, not_taken}
+use Rattle.rv_event.proofs.Indexed.{Indexed, NoneOf, lowest-none, none-lowest, not_taken}
 use Rattle.rv_event.proofs.Growing.{Any-contains, Any-from_contains, All-from_contains, named-of_hart}
 use Rattle.rv_event.specs.Operations.{IsStore, is_store, is_exclusive}
-use Rattle.rv_event.specs.Log.{same_id, named, of_hart, writer, did_write, Earlier, Between}
+use Rattle.rv_event.specs.Log.{same_id, named, of_hart, writer, did_write, Between}
 use Rattle.rv_event.specs.Relations.{Paired, DependsOn, fence_orders}
 use Rattle.rv_event.specs.Preserved.{Condition, overlapping_store, different_reads, reads_atomic_write, fenced, after_acquire, before_release, both_rcsc, paired, address, data_of, control, reads_dependent_write, after_dependent_address, IsDependentWrite, Rule, IsPreserved}
 use Rattle.rv_event.specs.Edges.{IsLowest, IsStale}
-use Rattle.rv_event.specs.Faults.{fault_if, lowest, expected, first_faults, deps_fault, event_fault, is_bad_dependency, names_no_value, can_be_named, admits, taken_fault, last_exclusive, is_reserved, dependency_fault, sequence_fault, reservation_fault, full_fault}
+use Rattle.rv_event.specs.Faults.{first_faults, deps_fault, event_fault, is_bad_dependency, taken_fault, is_reserved, dependency_fault, sequence_fault, reservation_fault, full_fault}
 use Rattle.rv_event.specs.declared.event.Id.{Id}
 use Rattle.rv_event.specs.declared.event.Dep.{Dep}
 use Rattle.rv_event.specs.declared.event.DepKind.TheVariants.{Addr, Ctrl}
 use Rattle.rv_event.specs.declared.event.Event.{Event}
 use Rattle.rv_event.specs.declared.event.Op.TheVariants.{Branch}
-use Rattle.rv_event.specs.declared.fault.Fault.{Fault}
-use Rattle.rv_event.specs.declared.fault.Fault.TheVariants.{Dependency, VersionTaken}
+use Rattle.rv_event.specs.declared.fault.Fault.TheVariants.{VersionTaken}
 use Rattle.rv_event.specs.declared.memory_model.MemoryModel.{MemoryModel}
 use Rattle.rv_event.specs.declared.reason.Reason.TheVariants.{Preserved}
 use Rattle.rv_cover.specs.Paths.{AnyRule, Reaches}
-use Rattle.rv_cover.specs.Carries.{IsSplit}
 use Rattle.rv_cover.proofs.Covering.{path-map}
 
 -- what a hart's events are

@@ -1,10 +1,10 @@
 -- Whether the hart's last LR, SC or failed SC is an LR, and which event a number names.
-use Rattle.std.proofs.Common.{◌≡◌, ◌≢◌, ℕ, zero, suc, ◌<◌, ◌≤◌, ◌==◌, ◌&&◌, Bool, true, false, cond, List, [], ◌∷◌, ◌++◌, length, Contains, Option, Some, None, is_some, ◌⊎◌, inl, inr, refl, sym, ap, ◌∙◌, subst, arith, length-append, eq-eqb, slice_get, get_or}
+use Rattle.std.proofs.Common.{◌≡◌, ℕ, zero, suc, ◌<◌, ◌≤◌, ◌==◌, ◌&&◌, Bool, true, false, cond, List, [], ◌∷◌, ◌++◌, length, Contains, Option, Some, None, is_some, ◌⊎◌, inl, inr, refl, sym, ap, ◌∙◌, subst, arith, length-append, eq-eqb, slice_get, get_or}
 use Rattle.std.proofs.lemmas.Bool.{false≢true}
 use Rattle.std.proofs.lemmas.Option.{none-some, slice_get_within, get_or_from_slice_get}
 use Rattle.std.proofs.lemmas.List.{get_or_default}
 use Rattle.rv_event.specs.Operations.{is_exclusive}
-use Rattle.rv_event.specs.Log.{named, of_hart}
+use Rattle.rv_event.specs.Log.{named}
 use Rattle.rv_event.specs.Faults.{is_lr, is_reserved}
 use Rattle.rv_event.proofs.Counting.{is_reserved-push}
 use Rattle.rv_event.proofs.Names.{named-is}
@@ -14,7 +14,7 @@ use Rattle.rv_event.specs.declared.event.Op.{Op}
 use Rattle.rv_event.specs.declared.event.Op.TheVariants.{Load, Store, Lr, Sc, ScFailed, Amo, Fence, FenceTso, Branch}
 use Rattle.rv_hart.specs.Harts.{Hart, Follows, IsHart, followed}
 use Rattle.rv_hart.specs.Sets.{IsReservation}
-use Rattle.rv_hart.proofs.Knowing.{Known, Fits, known_of, fits_of, hart-front, hart-last, event_at}
+use Rattle.rv_hart.proofs.Knowing.{Known, Fits, known_of, fits_of, hart-front, hart-last}
 use Rattle.rv_hart.proofs.Absorbing.{reservation-kept, reservation-new, reservation-ended}
 
 -- a number that tells whether there is one

@@ -1,16 +1,17 @@
 -- What the conditions of the rules say of a new event, by what is kept of the old ones.
-use Rattle.std.proofs.Common.{◌≡◌, ℕ, Bool, true, false, ◌||◌, ◌&&◌, ◌==◌, ◌↔◌, List, Contains, IsTrue, IsFalse, ◌⊎◌, inl, inr, sym, refl, ap, ◌∙◌, subst, eqb-true, eq-eqb}
+use Rattle.std.proofs.Common.{◌≡◌, ℕ, Bool, true, false, ◌||◌, ◌&&◌, ◌==◌, ◌<◌, ◌↔◌, List, Contains, IsTrue, IsFalse, ◌⊎◌, inl, inr, sym, refl, ap, ◌∙◌, subst, eqb-true, eq-eqb}
 use Rattle.std.proofs.lemmas.Bool.{or_cases, or_left, or_right, and_parts, and_from, false≢true, cases_order}
 use Rattle.std.proofs.lemmas.Option.{same_Some}
 use Rattle.std.proofs.lemmas.List.Elements.{Contains-push, All-contains}
 use Rattle.rv_event.proofs.Growing.{Any-contains, Any-from_contains, All-from_contains}
-use Rattle.rv_hart.proofs.Conditions.{reads_atomic_write_out, fenced_out, after_acquire_out, before_release_out, both_rcsc_out, paired_out, address_out, data_of_out, control_out, reads_dependent_write_out, after_dependent_address_out}
+use Rattle.rv_hart.proofs.Conditions.{different_reads_out, reads_atomic_write_out, fenced_out, after_acquire_out, before_release_out, both_rcsc_out, paired_out, address_out, data_of_out, control_out, reads_dependent_write_out, after_dependent_address_out}
 use Rattle.rv_event.specs.Operations.{is_amo, is_load, is_store, is_memory, is_exclusive, IsLoad, IsStore, IsMemory, Returns}
 use Rattle.rv_event.specs.Annotations.{is_annotated, IsAcquire, IsRelease, IsRcsc}
 use Rattle.rv_event.specs.Log.{Earlier, Between, writer}
 use Rattle.rv_event.specs.Relations.{Paired, in_set, fence_orders, Fenced, DependsOn}
-use Rattle.rv_event.specs.Preserved.{Condition, reads_atomic_write, fenced, after_acquire, before_release, both_rcsc, paired, address, data_of, control, reads_dependent_write, after_dependent_address, IsDependentWrite}
+use Rattle.rv_event.specs.Preserved.{Condition, DifferentReads, different_reads, reads_atomic_write, fenced, after_acquire, before_release, both_rcsc, paired, address, data_of, control, reads_dependent_write, after_dependent_address, IsDependentWrite}
 use Rattle.rv_event.specs.declared.event.Event.{Event}
+use Rattle.rv_event.specs.declared.event.DepKind.{DepKind}
 use Rattle.rv_event.specs.declared.event.DepKind.TheVariants.{Addr, DataOf, Ctrl}
 use Rattle.rv_event.specs.declared.event.Op.{Op}
 use Rattle.rv_event.specs.declared.event.Op.TheVariants.{Load, Store, Lr, Sc, ScFailed, Amo, Fence, FenceTso, Branch}
@@ -21,62 +22,102 @@ use Rattle.rv_event.specs.declared.memory_model.MemoryModel.TheVariants.{Rvwmo, 
 use Rattle.rv_rows.specs.Bits.{Has, has_bit}
 use Rattle.rv_hart.specs.Harts.{Hart, followed, IsOwnStore}
 use Rattle.rv_hart.specs.Rows.{IsOrderedBy}
-use Rattle.rv_hart.specs.RuleRows.{RuleRowIs}
+use Rattle.rv_hart.specs.RuleRows.{RuleRowIs, Adds, IsOperationOf, ConditionOf}
 use Rattle.rv_hart.specs.Sets.{HasEvent, RowIs, IsFencedFor, IsControlling, IsAddressing, IsReserving}
-use Rattle.rv_hart.proofs.Knowing.{Fits, same_event, follows_all, earlier_old, old_new}
-use Rattle.rv_hart.proofs.Absorbing.{has-map, orders_by_kind}
+use Rattle.rv_hart.proofs.Knowing.{Known, Fits, same_event, follows_all, earlier_old, old_new}
+use Rattle.rv_hart.proofs.Absorbing.{has-map, orders_by_kind, depended}
+use Rattle.rv_hart.proofs.Depending.{AddsNamed}
 
--- ---- rows put together
-pub row-none : (events : List Event) (row : List ℕ) → ((s : ℕ) → has_bit row s ≡ false) → RowIs row (λ _. ⊥) events
-row-none events row none s = (λ x. absurd (false≢true (sym (none s) ∙ x)), λ x. absurd x.holds)
+-- ---- rows with more
+-- the row has what it had and the events of which this is true
+abbrev pub HasMore : (Event → Type 0) → List Event → List ℕ → List ℕ → Type 0
+HasMore P events old new = (s : ℕ) → Has new s ↔ (Has old s ⊎ HasEvent P events s)
+
+pub more-none : (events : List Event) (row : List ℕ) → HasMore (λ _. ⊥) events row row
+more-none events row s = (λ x. inl x, λ x. elim x [ inl y ↦ y | inr n ↦ absurd n.holds ])
 
 -- all of another row, where a test passes
-pub row-when : (P Q : Event → Type 0) (T : Type 0) (events : List Event) (test : Bool) (row other row' : List ℕ) → RowIs row P events → IsTrue test ↔ T → RowIs other Q events →
-    ((s : ℕ) → has_bit row' s ≡ (has_bit row s || (test && has_bit other s))) → RowIs row' (λ a. P a ⊎ (T × Q a)) events
-row-when P Q T events test row other row' is decides others more s = (to, from)
+pub more-when : (P : Event → Type 0) (T : Type 0) (events : List Event) (test : Bool) (row other row' : List ℕ) →
+    IsTrue test ↔ T → RowIs other P events →
+    ((s : ℕ) → has_bit row' s ≡ (has_bit row s || (test && has_bit other s))) → HasMore (λ a. T × P a) events row row'
+more-when P T events test row other row' decides others more s = (to, from)
   where
-    to : Has row' s → HasEvent (λ a. P a ⊎ (T × Q a)) events s
+    to : Has row' s → Has row s ⊎ HasEvent (λ a. T × P a) events s
     to x = elim (or_cases (has_bit row s) (test && has_bit other s) (sym (more s) ∙ x)) [
-      | inl y ↦ has-map P (λ a. P a ⊎ (T × Q a)) events events s (λ a c p. (c, inl p)) ((is s).0 y)
-      | inr y ↦ (let p = and_parts test (has_bit other s) y in has-map Q (λ a. P a ⊎ (T × Q a)) events events s (λ a c q. (c, inr (decides.0 p.0, q))) ((others s).0 p.1))
+      | inl y ↦ inl y
+      | inr y ↦ (let p = and_parts test (has_bit other s) y in inr
+          (has-map P (λ a. T × P a) events events s (λ a c q. (c, (decides.0 p.0, q))) ((others s).0 p.1)))
     ]
 
-    from : HasEvent (λ a. P a ⊎ (T × Q a)) events s → Has row' s
-    from x = elim x.holds [
-      | inl p ↦ (more s ∙ or_left (has_bit row s) (test && has_bit other s) ((is s).1 (record { a = x.a; of_list = x.of_list; at = x.at; holds = p })))
-      | inr q ↦ (more s ∙ or_right (has_bit row s) (test && has_bit other s) (and_from test (has_bit other s) (decides.1 q.0) ((others s).1 (record { a = x.a; of_list = x.of_list; at = x.at; holds = q.1 }))))
-    ]
+    from : Has row s ⊎ HasEvent (λ a. T × P a) events s → Has row' s
+    from (inl y) = more s ∙ or_left (has_bit row s) (test && has_bit other s) y
+    from (inr x) = more s ∙ or_right (has_bit row s) (test && has_bit other s)
+        (and_from test (has_bit other s) (decides.1 x.holds.0)
+        ((others s).1 (record { a = x.a; of_list = x.of_list; at = x.at; holds = x.holds.1 })))
 
 -- all of another row
-pub row-both : (P Q : Event → Type 0) (events : List Event) (row other row' : List ℕ) → RowIs row P events → RowIs other Q events →
-    ((s : ℕ) → has_bit row' s ≡ (has_bit row s || has_bit other s)) → RowIs row' (λ a. P a ⊎ Q a) events
-row-both P Q events row other row' is others more s = (to, from)
-  where
-    to : Has row' s → HasEvent (λ a. P a ⊎ Q a) events s
-    to x = elim (or_cases (has_bit row s) (has_bit other s) (sym (more s) ∙ x)) [
-      | inl y ↦ has-map P (λ a. P a ⊎ Q a) events events s (λ a c p. (c, inl p)) ((is s).0 y)
-      | inr y ↦ has-map Q (λ a. P a ⊎ Q a) events events s (λ a c q. (c, inr q)) ((others s).0 y)
-    ]
-
-    from : HasEvent (λ a. P a ⊎ Q a) events s → Has row' s
-    from x = elim x.holds [
-      | inl p ↦ (more s ∙ or_left (has_bit row s) (has_bit other s) ((is s).1 (record { a = x.a; of_list = x.of_list; at = x.at; holds = p })))
-      | inr q ↦ (more s ∙ or_right (has_bit row s) (has_bit other s) ((others s).1 (record { a = x.a; of_list = x.of_list; at = x.at; holds = q })))
-    ]
+pub more-all : (P : Event → Type 0) (events : List Event) (row other row' : List ℕ) → RowIs other P events →
+    ((s : ℕ) → has_bit row' s ≡ (has_bit row s || has_bit other s)) → HasMore P events row row'
+more-all P events row other row' others more s = (
+  λ x. elim (or_cases (has_bit row s) (has_bit other s) (sym (more s) ∙ x))
+      [ inl y ↦ inl y | inr y ↦ inr ((others s).0 y) ],
+  λ x. elim x [
+    | inl y ↦ (more s ∙ or_left (has_bit row s) (has_bit other s) y)
+    | inr y ↦ (more s ∙ or_right (has_bit row s) (has_bit other s) ((others s).1 y))
+  ],
+)
 
 -- one number, where a test passes
-pub row-one : (T : Type 0) (w : Event) (events : List Event) (test : Bool) (row row' : List ℕ) → ((a : Event) → Contains events a → a.id.seq ≡ w.id.seq → w ≡ a) → Contains events w → ((s : ℕ) → has_bit row s ≡ false) → IsTrue test ↔ T →
-    ((s : ℕ) → has_bit row' s ≡ (has_bit row s || (test && (w.id.seq == s)))) → RowIs row' (λ a. T × (w ≡ a)) events
-row-one T w events test row row' one cw none decides more s = (to, from)
+pub more-one : (T : Type 0) (w : Event) (events : List Event) (test : Bool) (row row' : List ℕ) →
+    Contains events w → IsTrue test ↔ T →
+    ((s : ℕ) → has_bit row' s ≡ (has_bit row s || (test && (w.id.seq == s)))) →
+    HasMore (λ a. T × (w ≡ a)) events row row'
+more-one T w events test row row' cw decides more s = (to, from)
   where
-    to : Has row' s → HasEvent (λ a. T × (w ≡ a)) events s
+    to : Has row' s → Has row s ⊎ HasEvent (λ a. T × (w ≡ a)) events s
     to x = elim (or_cases (has_bit row s) (test && (w.id.seq == s)) (sym (more s) ∙ x)) [
-      | inl y ↦ absurd (false≢true (sym (none s) ∙ y))
-      | inr y ↦ (let p = and_parts test (w.id.seq == s) y in record { a = w; of_list = cw; at = eqb-true w.id.seq s p.1; holds = (decides.0 p.0, refl) })
+      | inl y ↦ inl y
+      | inr y ↦ (let p = and_parts test (w.id.seq == s) y in inr
+          (record { a = w; of_list = cw; at = eqb-true w.id.seq s p.1; holds = (decides.0 p.0, refl) }))
     ]
 
-    from : HasEvent (λ a. T × (w ≡ a)) events s → Has row' s
-    from x = more s ∙ or_right (has_bit row s) (test && (w.id.seq == s)) (and_from test (w.id.seq == s) (decides.1 x.holds.0) (eq-eqb w.id.seq s (ap (λ (y : Event). y.id.seq) x.holds.1 ∙ x.at)))
+    from : Has row s ⊎ HasEvent (λ a. T × (w ≡ a)) events s → Has row' s
+    from (inl y) = more s ∙ or_left (has_bit row s) (test && (w.id.seq == s)) y
+    from (inr x) = more s ∙ or_right (has_bit row s) (test && (w.id.seq == s))
+        (and_from test (w.id.seq == s) (decides.1 x.holds.0)
+        (eq-eqb w.id.seq s (ap (λ (y : Event). y.id.seq) x.holds.1 ∙ x.at)))
+
+-- one after the other
+pub more-both : (P Q : Event → Type 0) (events : List Event) (row row' row'' : List ℕ) →
+    HasMore P events row row' → HasMore Q events row' row'' → HasMore (λ a. P a ⊎ Q a) events row row''
+more-both P Q events row row' row'' first second s = (to, from)
+  where
+    to : Has row'' s → Has row s ⊎ HasEvent (λ a. P a ⊎ Q a) events s
+    to x = elim ((second s).0 x) [
+      | inl y ↦ elim ((first s).0 y) [
+        | inl z ↦ inl z
+        | inr z ↦ inr (has-map P (λ a. P a ⊎ Q a) events events s (λ a c p. (c, inl p)) z)
+      ]
+      | inr y ↦ inr (has-map Q (λ a. P a ⊎ Q a) events events s (λ a c q. (c, inr q)) y)
+    ]
+
+    from : Has row s ⊎ HasEvent (λ a. P a ⊎ Q a) events s → Has row'' s
+    from (inl y) = (second s).1 (inl ((first s).1 (inl y)))
+    from (inr x) = elim x.holds [
+      | inl p ↦ (second s).1 (inl ((first s).1 (inr (record { a = x.a; of_list = x.of_list; at = x.at; holds = p }))))
+      | inr q ↦ (second s).1 (inr (record { a = x.a; of_list = x.of_list; at = x.at; holds = q }))
+    ]
+
+-- what dependencies name
+pub more-named : (h : Hart) → Known h → (x : Event) → x.id.hart ≡ h.number →
+    ((d : _) → Contains x.deps d → d.seq < x.id.seq) → (kind : DepKind) (loads stores row row' : List ℕ) →
+    RowIs loads IsLoad h.events → RowIs stores IsStore h.events →
+    AddsNamed kind loads stores x.deps row row' → HasMore (λ a. IsMemory a × DependsOn kind x a) h.events row row'
+more-named h known x hart below kind loads stores row row' loads_are stores_are more s =
+    let named = depended h known x hart below kind loads stores loads_are stores_are s in (
+      λ y. elim ((more s).0 y) [ inl old ↦ inl old | inr new ↦ inr (named.0 new) ],
+      λ y. elim y [ inl old ↦ (more s).1 (inl old) | inr new ↦ (more s).1 (inr (named.1 new)) ],
+    )
 
 -- ---- annotations are of memory operations
 load-memory : (a : Event) → IsLoad a → IsMemory a
@@ -185,14 +226,60 @@ module _ (h : Hart) (e : Event) (f : Fits h e) (memory : IsMemory e) where
   pub ordered : (k : ℕ) (a : Event) → Contains h.events a → IsUnder k a → IsOrderedBy h e k a.id.seq
   ordered k a ca c = record { a = a; of_hart = ca; at = refl; rule = record { from = old_new h e a ca; to = Contains-push h.events e; from_memory = c.0; to_memory = memory; earlier = follows_all h e f a ca; condition = c.1 } }
 
-  pub rule_row : (k : ℕ) (P : Event → Type 0) (row : List ℕ) → RowIs row P h.events → ((a : Event) → Contains h.events a → P a ↔ IsUnder k a) → RuleRowIs h e k row
-  rule_row k P row is says s = (to, from)
+  pub adds : (k : ℕ) (P : Event → Type 0) (row row' : List ℕ) → HasMore P h.events row row' →
+      ((a : Event) → Contains h.events a → P a ↔ IsUnder k a) → Adds h e k row row'
+  adds k P row row' more says s = (to, from)
     where
-      to : Has row s → IsOrderedBy h e k s
-      to x = let y = (is s).0 x in let o = ordered k y.a y.of_list ((says y.a y.of_list).0 y.holds) in record { a = o.a; of_hart = o.of_hart; at = o.at ∙ y.at; rule = o.rule }
+      to : Has row' s → Has row s ⊎ IsOrderedBy h e k s
+      to x = elim ((more s).0 x) [
+        | inl y ↦ inl y
+        | inr y ↦ (let o = ordered k y.a y.of_list ((says y.a y.of_list).0 y.holds) in inr
+            (record { a = o.a; of_hart = o.of_hart; at = o.at ∙ y.at; rule = o.rule }))
+      ]
 
-      from : IsOrderedBy h e k s → Has row s
-      from o = (is s).1 (record { a = o.a; of_list = o.of_hart; at = o.at; holds = (says o.a o.of_hart).1 (o.rule.from_memory, o.rule.condition) })
+      from : Has row s ⊎ IsOrderedBy h e k s → Has row' s
+      from (inl y) = (more s).1 (inl y)
+      from (inr o) = (more s).1 (inr (record {
+        a = o.a;
+        of_list = o.of_hart;
+        at = o.at;
+        holds =
+            (says o.a o.of_hart).1 (o.rule.from_memory, o.rule.condition);
+      }))
+
+  -- a test of what a rule says of an operation tests the rule's condition
+  pub condition-at : (k : ℕ) (P : Event → Type 0) (test : Bool) (a : Event) → IsOperationOf h a →
+      IsTrue test ↔ P a → ((a : Event) → Contains h.events a → P a ↔ IsUnder k a) → IsTrue test ↔ ConditionOf h e k a
+  condition-at k P test a op decides says = (
+    λ t. ((says a op.of_hart).0 (decides.0 t)).1,
+    λ c. decides.1 ((says a op.of_hart).1 (op.memory, c)),
+  )
+
+  -- an event's number in a row, where a test passes
+  pub has-at : (P : Event → Type 0) (T : Type 0) (test result : Bool) (row : List ℕ) (a : Event) →
+      Contains h.events a → IsTrue test ↔ T → RowIs row P h.events → result ≡ (test && has_bit row a.id.seq) →
+      IsTrue result ↔ (T × P a)
+  has-at P T test result row a ca decides row_is is = (to, from)
+    where
+      to : IsTrue result → T × P a
+      to x =
+          let p = and_parts test (has_bit row a.id.seq) (sym is ∙ x) in
+          let y = (row_is a.id.seq).0 p.1 in
+          (decides.0 p.0, subst P (same_event h f.known y.a a y.of_list ca y.at) y.holds)
+
+      from : T × P a → IsTrue result
+      from x = is ∙ and_from test (has_bit row a.id.seq) (decides.1 x.0)
+          ((row_is a.id.seq).1 (record { a = a; of_list = ca; at = refl; holds = x.1 }))
+
+  -- ---- rule 2
+  pub reads-at : (reads : List ℕ) (result : Bool) (a : Event) → IsOperationOf h a → RuleRowIs h e 2 reads →
+      result ≡ has_bit reads a.id.seq → IsTrue result ↔ DifferentReads new a e
+  reads-at reads result a op are is = (
+    λ t. (let o = (are a.id.seq).0 (sym is ∙ t) in subst (λ (x : Event). DifferentReads new x e)
+        (same_event h f.known o.a a o.of_hart op.of_hart o.at)
+        (different_reads_out h.model new o.a e o.rule.condition)),
+    λ d. is ∙ (are a.id.seq).1 (ordered 2 a op.of_hart (op.memory, different_reads d)),
+  )
 
   -- an event that stands before the new one is an old one
   old : (m : Event) → Contains new m → Earlier m e → Contains h.events m
@@ -202,7 +289,8 @@ module _ (h : Hart) (e : Event) (f : Fits h e) (memory : IsMemory e) where
   between a m c earlier = record { after = earlier; before = follows_all h e f m c }
 
   -- ---- rule 4
-  pub fenced-is : (a : Event) → Contains h.events a → ((⊥ ⊎ (IsLoad e × IsFencedFor Load h.events a)) ⊎ (IsStore e × IsFencedFor Store h.events a)) ↔ IsUnder 4 a
+  pub fenced-is : (a : Event) → Contains h.events a →
+      ((IsLoad e × IsFencedFor Load h.events a) ⊎ (IsStore e × IsFencedFor Store h.events a)) ↔ IsUnder 4 a
   fenced-is a ca = (to, from)
     where
       found : (op : Op) → ((g : Op) → IsTrue (fence_orders g a.op op) → IsTrue (fence_orders g a.op e.op)) → IsFencedFor op h.events a → IsUnder 4 a
@@ -210,46 +298,50 @@ module _ (h : Hart) (e : Event) (f : Fits h e) (memory : IsMemory e) where
           let y = Any-contains (λ g. Earlier a g × IsTrue (fence_orders g.op a.op op)) h.events x in
           (fence-memory y.0.op a.op op y.2.1, fenced (Any-from_contains (λ g. Between a g e × IsTrue (fence_orders g.op a.op e.op)) new y.0 (old_new h e y.0 y.1) (between a y.0 y.1 y.2.0, turn y.0.op y.2.1)))
 
-      to : (⊥ ⊎ (IsLoad e × IsFencedFor Load h.events a)) ⊎ (IsStore e × IsFencedFor Store h.events a) → IsUnder 4 a
-      to (inl (inl x)) = absurd x
-      to (inl (inr x)) = found Load (λ g t. orders_load g a.op e.op x.0 t) x.1
+      to : (IsLoad e × IsFencedFor Load h.events a) ⊎ (IsStore e × IsFencedFor Store h.events a) → IsUnder 4 a
+      to (inl x) = found Load (λ g t. orders_load g a.op e.op x.0 t) x.1
       to (inr x) = found Store (λ g t. orders_store g a.op e.op x.0 t) x.1
 
-      from_fence : Fenced new a e → (⊥ ⊎ (IsLoad e × IsFencedFor Load h.events a)) ⊎ (IsStore e × IsFencedFor Store h.events a)
+      from_fence : Fenced new a e → (IsLoad e × IsFencedFor Load h.events a) ⊎
+          (IsStore e × IsFencedFor Store h.events a)
       from_fence x =
           let y = Any-contains (λ g. Between a g e × IsTrue (fence_orders g.op a.op e.op)) new x in
           let c = old y.0 y.1 y.2.0.before in
           elim (orders_cases y.0.op a.op e.op y.2.1) [
-            | inl l ↦ inl (inr (l.0, Any-from_contains (λ g. Earlier a g × IsTrue (fence_orders g.op a.op Load)) h.events y.0 c (y.2.0.after, l.1)))
+            | inl l ↦ inl (
+              l.0,
+              Any-from_contains (λ g. Earlier a g × IsTrue (fence_orders g.op a.op Load))
+                  h.events y.0 c (y.2.0.after, l.1),
+            )
             | inr w ↦ inr (w.0, Any-from_contains (λ g. Earlier a g × IsTrue (fence_orders g.op a.op Store)) h.events y.0 c (y.2.0.after, w.1))
           ]
 
-      from : IsUnder 4 a → (⊥ ⊎ (IsLoad e × IsFencedFor Load h.events a)) ⊎ (IsStore e × IsFencedFor Store h.events a)
+      from : IsUnder 4 a → (IsLoad e × IsFencedFor Load h.events a) ⊎ (IsStore e × IsFencedFor Store h.events a)
       from x = from_fence (fenced_out h.model new a e x.1)
 
   -- ---- rule 5
-  pub acquire-is : (a : Event) → Contains h.events a → (⊥ ⊎ IsAcquire h.model a) ↔ IsUnder 5 a
-  acquire-is a ca = (λ x. elim x [ inl n ↦ absurd n | inr t ↦ (acquire-memory h.model a t, after_acquire t) ], λ x. inr (after_acquire_out h.model new a e x.1))
+  pub acquire-is : (a : Event) → Contains h.events a → IsAcquire h.model a ↔ IsUnder 5 a
+  acquire-is a ca = (λ t. (acquire-memory h.model a t, after_acquire t), λ x. after_acquire_out h.model new a e x.1)
 
   -- ---- rule 6
-  pub release-is : (a : Event) → Contains h.events a → ((⊥ ⊎ (IsRelease h.model e × IsLoad a)) ⊎ (IsRelease h.model e × IsStore a)) ↔ IsUnder 6 a
+  pub release-is : (a : Event) → Contains h.events a →
+      ((IsRelease h.model e × IsLoad a) ⊎ (IsRelease h.model e × IsStore a)) ↔ IsUnder 6 a
   release-is a ca = (to, from)
     where
-      to : (⊥ ⊎ (IsRelease h.model e × IsLoad a)) ⊎ (IsRelease h.model e × IsStore a) → IsUnder 6 a
-      to (inl (inl x)) = absurd x
-      to (inl (inr x)) = (load-memory a x.1, before_release x.0)
+      to : (IsRelease h.model e × IsLoad a) ⊎ (IsRelease h.model e × IsStore a) → IsUnder 6 a
+      to (inl x) = (load-memory a x.1, before_release x.0)
       to (inr x) = (store-memory a x.1, before_release x.0)
 
-      from : IsUnder 6 a → (⊥ ⊎ (IsRelease h.model e × IsLoad a)) ⊎ (IsRelease h.model e × IsStore a)
+      from : IsUnder 6 a → (IsRelease h.model e × IsLoad a) ⊎ (IsRelease h.model e × IsStore a)
       from x =
           let r = before_release_out h.model new a e x.1 in
-          elim (or_cases (is_load a.op) (is_store a.op) x.0) [ inl l ↦ inl (inr (r, l)) | inr w ↦ inr (r, w) ]
+          elim (or_cases (is_load a.op) (is_store a.op) x.0) [ inl l ↦ inl (r, l) | inr w ↦ inr (r, w) ]
 
   -- ---- rule 7
-  pub rcsc-is : (a : Event) → Contains h.events a → (⊥ ⊎ (IsRcsc h.model e × IsRcsc h.model a)) ↔ IsUnder 7 a
+  pub rcsc-is : (a : Event) → Contains h.events a → (IsRcsc h.model e × IsRcsc h.model a) ↔ IsUnder 7 a
   rcsc-is a ca = (
-    λ x. elim x [ inl n ↦ absurd n | inr t ↦ (rcsc-memory h.model a t.1, both_rcsc t.1 t.0) ],
-    λ x. (let r = both_rcsc_out h.model new a e x.1 in inr (r.1, r.0)),
+    λ t. (rcsc-memory h.model a t.1, both_rcsc t.1 t.0),
+    λ x. (let r = both_rcsc_out h.model new a e x.1 in (r.1, r.0)),
   )
 
   -- ---- rules 9 and 10
@@ -260,36 +352,40 @@ module _ (h : Hart) (e : Event) (f : Fits h e) (memory : IsMemory e) where
   data-is a ca = (λ x. (x.0, data_of x.1), λ x. (x.0, data_of_out h.model new a e x.1))
 
   -- ---- rule 11
-  pub control-is : (a : Event) → Contains h.events a → (⊥ ⊎ (IsStore e × IsControlling h.events a)) ↔ IsUnder 11 a
+  pub control-is : (a : Event) → Contains h.events a → (IsStore e × IsControlling h.events a) ↔ IsUnder 11 a
   control-is a ca = (to, from)
     where
-      to : ⊥ ⊎ (IsStore e × IsControlling h.events a) → IsUnder 11 a
-      to (inl n) = absurd n
-      to (inr x) =
+      to : IsStore e × IsControlling h.events a → IsUnder 11 a
+      to x =
           let y = Any-contains (λ m. (m.op ≡ Branch) × DependsOn Ctrl m a) h.events x.1.1 in
           (x.1.0, control x.0 (Any-from_contains (λ m. Between a m e × (m.op ≡ Branch) × DependsOn Ctrl m a) new y.0 (old_new h e y.0 y.1) (between a y.0 y.1 y.2.1.0, y.2.0, y.2.1)))
 
-      from : IsUnder 11 a → ⊥ ⊎ (IsStore e × IsControlling h.events a)
+      from : IsUnder 11 a → IsStore e × IsControlling h.events a
       from x =
           let r = control_out h.model new a e x.1 in
-          let y = Any-contains (λ m. Between a m e × (m.op ≡ Branch) × DependsOn Ctrl m a) new r.1 in
-          inr (r.0, (x.0, Any-from_contains (λ m. (m.op ≡ Branch) × DependsOn Ctrl m a) h.events y.0 (old y.0 y.1 y.2.0.before) (y.2.1, y.2.2)))
+          let y = Any-contains (λ m. Between a m e × (m.op ≡ Branch) × DependsOn Ctrl m a) new r.1 in (
+            r.0,
+            (
+              x.0,
+              Any-from_contains (λ m. (m.op ≡ Branch) × DependsOn Ctrl m a) h.events y.0
+                  (old y.0 y.1 y.2.0.before) (y.2.1, y.2.2),
+            ),
+          )
 
   -- ---- rule 13
-  pub dependent_address-is : (a : Event) → Contains h.events a → (⊥ ⊎ (IsStore e × IsAddressing h.events a)) ↔ IsUnder 13 a
+  pub dependent_address-is : (a : Event) → Contains h.events a → (IsStore e × IsAddressing h.events a) ↔ IsUnder 13 a
   dependent_address-is a ca = (to, from)
     where
-      to : ⊥ ⊎ (IsStore e × IsAddressing h.events a) → IsUnder 13 a
-      to (inl n) = absurd n
-      to (inr x) =
+      to : IsStore e × IsAddressing h.events a → IsUnder 13 a
+      to x =
           let y = Any-contains (λ m. DependsOn Addr m a) h.events x.1.1 in
           (x.1.0, after_dependent_address (record { store = x.0; through = Any-from_contains (λ m. Between a m e × DependsOn Addr m a) new y.0 (old_new h e y.0 y.1) (between a y.0 y.1 y.2.0, y.2) }))
 
-      from : IsUnder 13 a → ⊥ ⊎ (IsStore e × IsAddressing h.events a)
+      from : IsUnder 13 a → IsStore e × IsAddressing h.events a
       from x =
           let r = after_dependent_address_out h.model new a e x.1 in
           let y = Any-contains (λ m. Between a m e × DependsOn Addr m a) new r.through in
-          inr (r.store, (x.0, Any-from_contains (λ m. DependsOn Addr m a) h.events y.0 (old y.0 y.1 y.2.0.before) y.2.1))
+          (r.store, (x.0, Any-from_contains (λ m. DependsOn Addr m a) h.events y.0 (old y.0 y.1 y.2.0.before) y.2.1))
 
   -- ---- rules 3 and 12
   -- a version has one store
@@ -323,23 +419,23 @@ module _ (h : Hart) (e : Event) (f : Fits h e) (memory : IsMemory e) where
         none a (record { of_hart = ca; store = atomic-store a r.atomic; load = r.load; returns = r.returns })),
   )
 
-  pub dependent-is : (w : Event) → IsOwnStore h e w → (a : Event) → Contains h.events a → ((⊥ ⊎ (IsMemory a × DependsOn Addr w a)) ⊎ (IsMemory a × DependsOn DataOf w a)) ↔ IsUnder 12 a
+  pub dependent-is : (w : Event) → IsOwnStore h e w → (a : Event) → Contains h.events a →
+      ((IsMemory a × DependsOn Addr w a) ⊎ (IsMemory a × DependsOn DataOf w a)) ↔ IsUnder 12 a
   dependent-is w own a ca = (to, from)
     where
       found : IsMemory a → DependsOn Addr w a ⊎ DependsOn DataOf w a → Earlier a w → IsUnder 12 a
       found m d earlier = (m, reads_dependent_write (record { load = own.load; through = Any-from_contains (IsDependentWrite a e) new w (old_new h e w own.of_hart) (record { between = between a w own.of_hart earlier; store = own.store; returns = own.returns; depends = d }) }))
 
-      to : (⊥ ⊎ (IsMemory a × DependsOn Addr w a)) ⊎ (IsMemory a × DependsOn DataOf w a) → IsUnder 12 a
-      to (inl (inl n)) = absurd n
-      to (inl (inr x)) = found x.0 (inl x.1) x.1.0
+      to : (IsMemory a × DependsOn Addr w a) ⊎ (IsMemory a × DependsOn DataOf w a) → IsUnder 12 a
+      to (inl x) = found x.0 (inl x.1) x.1.0
       to (inr x) = found x.0 (inr x.1) x.1.0
 
-      from : IsUnder 12 a → (⊥ ⊎ (IsMemory a × DependsOn Addr w a)) ⊎ (IsMemory a × DependsOn DataOf w a)
+      from : IsUnder 12 a → (IsMemory a × DependsOn Addr w a) ⊎ (IsMemory a × DependsOn DataOf w a)
       from x =
           let y = Any-contains (IsDependentWrite a e) new (reads_dependent_write_out h.model new a e x.1).through in
           let same : y.0 ≡ w = one_store y.0 w (old y.0 y.1 y.2.between.before) own.of_hart y.2.store own.store y.2.returns own.returns in
           elim y.2.depends [
-            | inl d ↦ inl (inr (x.0, subst (λ (z : Event). DependsOn Addr z a) same d))
+            | inl d ↦ inl (x.0, subst (λ (z : Event). DependsOn Addr z a) same d)
             | inr d ↦ inr (x.0, subst (λ (z : Event). DependsOn DataOf z a) same d)
           ]
 

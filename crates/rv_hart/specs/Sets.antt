@@ -1,14 +1,16 @@
 -- What a hart keeps of its events in rows that grow with them.
-use Rattle.std.specs.Prelude.{ℕ, ◌≡◌, ◌↔◌, List, Contains, All, Any, IsTrue, IsFalse, Option, Some, None}
+use Rattle.std.specs.Prelude.{ℕ, ◌≡◌, ◌↔◌, ◌||◌, List, Contains, All, Any, IsTrue, IsFalse, Option, Some, None}
 use Rattle.rv_event.specs.Operations.{is_exclusive, IsLoad, IsStore, IsMemory}
 use Rattle.rv_event.specs.Annotations.{IsAcquire, IsRcsc}
 use Rattle.rv_event.specs.Log.{Earlier}
 use Rattle.rv_event.specs.Relations.{fence_orders, DependsOn}
+use Rattle.rv_event.specs.declared.event.Dep.{Dep}
+use Rattle.rv_event.specs.declared.event.DepKind.{DepKind}
 use Rattle.rv_event.specs.declared.event.DepKind.TheVariants.{Addr, Ctrl}
 use Rattle.rv_event.specs.declared.event.Event.{Event}
 use Rattle.rv_event.specs.declared.event.Op.{Op}
 use Rattle.rv_event.specs.declared.event.Op.TheVariants.{Load, Store, Lr, Branch}
-use Rattle.rv_rows.specs.Bits.{Has}
+use Rattle.rv_rows.specs.Bits.{Has, has_bit}
 use Rattle.rv_hart.specs.Harts.{Hart}
 use Rattle.rv_hart.specs.declared.sets.Sets.{Sets}
 
@@ -22,6 +24,11 @@ pub record HasEvent (P : Event → Type 0) (events : List Event) (s : ℕ) : Typ
 -- the row has the numbers of the events of which this is true, and no others
 abbrev pub RowIs : List ℕ → (Event → Type 0) → List Event → Type 0
 RowIs row P events = (s : ℕ) → Has row s ↔ HasEvent P events s
+
+-- a dependency of this kind names a memory operation by this number, where these are the loads and the stores
+abbrev pub NamesMemory : DepKind → List Dep → List ℕ → List ℕ → ℕ → Type 0
+NamesMemory kind deps loads stores s =
+    Contains deps (record { kind = kind; seq = s }) × IsTrue (has_bit loads s || has_bit stores s)
 
 -- a fence after the event orders it before a later operation of this kind
 abbrev pub IsFencedFor : Op → List Event → Event → Type 0

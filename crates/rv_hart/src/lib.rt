@@ -9,8 +9,9 @@
 //! - [`hart`]: the type. Inside it [`kept`]: events, rows, sets and words together.
 //! - [`sets`]: rows of the events by what a rule asks of them (loads, acquires, what a fence orders); they grow
 //!   with the events. [`words`]: each word's operations, linked from the last one back.
-//! - [`rules`], [`walks`]: for each rule the row of the events that it orders before the next one. [`links`]: these
-//!   rows joined and thinned, and the lowest rule of each event that is left. [`rows`]: small steps on rows.
+//! - [`rules`], [`walks`]: one row of candidates, to which each rule adds the events that it orders before the next
+//!   one. [`links`]: the candidates thinned, and the next event's links and row. [`lowest`]: the lowest rule of each
+//!   event that is left, by a test for each rule. [`rows`]: small steps on rows.
 //! - `specs/`: a hart and what may follow (`Harts`), its links (`RuleLinks`), what rows mean (`Rows`, `RuleRows`),
 //!   what the sets and the words mean (`Sets`, `Words`), and what is kept (`Kept`).
 //! - `proofs/OfHart`, `proofs/Reserving`: rules, pairs, stale pairs, faults and reservations are the same among a
@@ -24,6 +25,7 @@
 mod hart;
 mod kept;
 mod links;
+mod lowest;
 mod rows;
 mod rules;
 mod sets;

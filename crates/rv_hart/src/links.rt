@@ -1,13 +1,11 @@
-//! The links of a hart's next event: candidates, the sweep, and the lowest rule of each.
-ghost use Rattle.std.specs.Prelude.{ℕ, ◌≡◌, ◌<◌, ◌↔◌, IfOk, IsTrue, length};
-ghost use Rattle.rv_event.specs.Preserved.{OverlappingStore};
+//! The links of a hart's next event, each with its lowest rule, and the event's row: candidates and the sweep.
+ghost use Rattle.std.specs.Prelude.{ℕ, ◌↔◌, IfOk};
 ghost use Rattle.rv_rows.specs.Bits.{Has};
-ghost use Rattle.rv_rows.specs.Closure.{RowHas};
 ghost use Rattle.rv_hart.specs.Harts.{Follows, IsReturned, hart_with};
 ghost use Rattle.rv_hart.specs.Kept.{hart_of, IsKept, IsAsked};
-ghost use Rattle.rv_hart.specs.Rows.{IsBefore, IsCandidate};
+ghost use Rattle.rv_hart.specs.Rows.{IsBefore};
 ghost use Rattle.rv_hart.specs.RuleLinks.{AreRuleLinks};
-ghost use Rattle.rv_hart.specs.RuleRows.{AreRuleRows, IsLowestRule, IsSwept};
+ghost use Rattle.rv_hart.specs.RuleRows.{RuleRowIs, IsSwept};
 
 use crate::kept::Kept;
 use rv_event::{Event, Id, Link, NoMemory, Reason};
@@ -28,10 +26,10 @@ impl Kept {
         if !event.is_memory() {
             return Ok(links);
         }
-        let rows = self.rule_rows(event, returned);
-        let swept = self.sweep(event, &rows)?;
+        let reads = self.different_reads(event);
+        let swept = self.sweep(event, returned, &reads)?;
         for number in &swept.listed {
-            let rule = self.lowest_rule(event, &rows, *number);
+            let rule = self.lowest_rule(event, returned, &reads, *number);
             links.push(Link {
                 id: Id {
                     hart: self.number,
@@ -57,56 +55,21 @@ impl Kept {
         if !event.is_memory() {
             return Ok(Row::new());
         }
-        let rows = self.rule_rows(event, returned);
-        let swept = self.sweep(event, &rows)?;
+        let reads = self.different_reads(event);
+        let swept = self.sweep(event, returned, &reads)?;
         let mut row = swept.reach;
         row.insert(event.id.seq as usize);
         Ok(row)
     }
 
-    /// The candidates of all rules, thinned.
-    fn sweep(&self, event: &Event, rule_rows: &[Row]) -> Result<Thinned, NoMemory>
+    /// The candidates of all rules, thinned. `reads` is the row of rule 2.
+    fn sweep(&self, event: &Event, returned: Option<u32>, reads: &Row) -> Result<Thinned, NoMemory>
         requires asked { IsAsked self.now event.now }
-        requires rule_rows { AreRuleRows (hart_of self.now) event.now rule_rows.now }
+        requires returned { IsReturned (hart_of self.now) event.now returned }
+        requires reads { RuleRowIs (hart_of self.now) event.now 2 reads.now }
         ensures { IfOk result (λ t. IsSwept (hart_of self.now) event.now self.now.rows.items t.listed.items t.reach) }
     {
-        let candidates = joined(rule_rows);
+        let candidates = self.candidates(event, returned, reads);
         Ok(thin(self.alloc, candidates, self.rows.as_slice())?)
     }
-
-    /// The lowest rule that orders the candidate before the event.
-    fn lowest_rule(&self, event: &Event, rule_rows: &[Row], number: usize) -> u8
-        requires asked { IsAsked self.now event.now }
-        requires rule_rows { AreRuleRows (hart_of self.now) event.now rule_rows.now }
-        requires candidate { IsCandidate (hart_of self.now) event.now number }
-        ensures { IsLowestRule (hart_of self.now) event.now number result }
-    {
-        if does_overlap(&self.events[number], event) {
-            return 1;
-        }
-        for rule in 2..14u8 {
-            if rule_rows[rule as usize - 1].has(number) {
-                return rule;
-            }
-        }
-        unreachable!()
-    }
-}
-
-/// All that some row has.
-fn joined(rows: &[Row]) -> Row
-    ensures { (s : ℕ) → Has result s ↔ ((k : ℕ) × (k < length rows.now) × RowHas rows.now k s) }
-{
-    let mut all = Row::new();
-    for row in rows {
-        all.join(row);
-    }
-    all
-}
-
-/// Whether the event is a store of the word of the one that was met.
-fn does_overlap(met: &Event, event: &Event) -> bool
-    ensures { IsTrue result ↔ OverlappingStore met.now event.now }
-{
-    event.is_store() && met.word == event.word
 }

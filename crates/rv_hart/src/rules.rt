@@ -1,149 +1,144 @@
-//! For each rule of preserved program order the events that it orders before a hart's next memory operation (manual,
-//! section 14.1, "Preserved Program Order").
+//! What each rule of preserved program order orders before a hart's next memory operation (manual, section 14.1,
+//! "Preserved Program Order"): all of it goes into one row of candidates.
 ghost use Rattle.std.specs.Prelude.{◌≡◌, ◌↔◌, ◌⊎◌, IsTrue};
 ghost use Rattle.rv_event.specs.declared.event.Op.TheVariants.{Amo, Sc};
 ghost use Rattle.rv_hart.specs.Harts.{IsReturned};
 ghost use Rattle.rv_hart.specs.Kept.{hart_of, IsAsked};
-ghost use Rattle.rv_hart.specs.RuleRows.{RuleRowIs, AreRuleRows, IsOverlapRow};
+ghost use Rattle.rv_hart.specs.Rows.{IsEnough};
+ghost use Rattle.rv_hart.specs.RuleRows.{RuleRowIs, Adds};
 
 use crate::kept::Kept;
 use crate::rows::{insert_if, join_if};
+use crate::sets::add_dependencies;
 use rv_event::{DepKind, Event, Op, is_rcsc, is_release};
 use rv_rows::Row;
 
 impl Kept {
-    /// A row for each rule, rule 1 at place 0.
-    pub fn rule_rows(&self, event: &Event, returned: Option<u32>) -> [Row; 13]
+    /// The candidates: what some rule orders before the event, of rule 1 only what the rest leads to. `reads` is the
+    /// row of rule 2.
+    pub fn candidates(&self, event: &Event, returned: Option<u32>, reads: &Row) -> Row
         requires asked { IsAsked self.now event.now }
         requires returned { IsReturned (hart_of self.now) event.now returned }
-        ensures { AreRuleRows (hart_of self.now) event.now result }
+        requires reads { RuleRowIs (hart_of self.now) event.now 2 reads.now }
+        ensures { IsEnough (hart_of self.now) event.now result }
     {
-        [
-            self.overlapping(event),
-            self.different_reads(event),
-            self.atomic_write(event, returned),
-            self.fenced(event),
-            self.after_acquire(event),
-            self.before_release(event),
-            self.both_rcsc(event),
-            self.paired(event),
-            self.sets.dependencies(event, DepKind::Addr),
-            self.sets.dependencies(event, DepKind::DataOf),
-            self.control(event),
-            self.dependent_write(event, returned),
-            self.dependent_address(event),
-        ]
+        let loads = &self.sets.loads;
+        let stores = &self.sets.stores;
+        let mut row = self.overlapping(event);
+        self.add_different_reads(event, reads, &mut row);
+        self.add_atomic_write(event, returned, &mut row);
+        self.add_fenced(event, &mut row);
+        self.add_acquires(event, &mut row);
+        self.add_before_release(event, &mut row);
+        self.add_rcsc(event, &mut row);
+        self.add_paired(event, &mut row);
+        add_dependencies(&mut row, event, DepKind::Addr, loads, stores);
+        add_dependencies(&mut row, event, DepKind::DataOf, loads, stores);
+        self.add_controlling(event, &mut row);
+        self.add_sources_of_write(event, returned, &mut row);
+        self.add_addressing(event, &mut row);
+        row
     }
 
-    /// Rule 3: the own store that the event returns, where it is an AMO or an SC.
-    fn atomic_write(&self, event: &Event, returned: Option<u32>) -> Row
+    /// Rule 2: its row, where the event is a load.
+    fn add_different_reads(&self, event: &Event, reads: &Row, row: &mut Row)
+        requires { RuleRowIs (hart_of self.now) event.now 2 reads.now }
+        ensures { Adds (hart_of self.now) event.now 2 row.old row.new }
+    {
+        join_if(row, event.is_load(), reads);
+    }
+
+    /// Rule 3: the own store that the event returns, where that is an AMO or an SC.
+    fn add_atomic_write(&self, event: &Event, returned: Option<u32>, row: &mut Row)
         requires asked { IsAsked self.now event.now }
         requires returned { IsReturned (hart_of self.now) event.now returned }
-        ensures { RuleRowIs (hart_of self.now) event.now 3 result }
+        ensures { Adds (hart_of self.now) event.now 3 row.old row.new }
     {
-        let mut row = Row::new();
         if let Some(store) = returned {
             let number = store as usize;
-            insert_if(&mut row, is_atomic(self.events[number].op), number);
+            insert_if(row, is_atomic(self.events[number].op), number);
         }
-        row
     }
 
-    /// Rule 4: what a fence orders before a load, where the event is one, or before a store.
-    fn fenced(&self, event: &Event) -> Row
+    /// Rule 4: what a fence orders before a load, where the event is one, and before a store, where it is one.
+    fn add_fenced(&self, event: &Event, row: &mut Row)
         requires { IsAsked self.now event.now }
-        ensures { RuleRowIs (hart_of self.now) event.now 4 result }
+        ensures { Adds (hart_of self.now) event.now 4 row.old row.new }
     {
-        let mut row = Row::new();
-        join_if(&mut row, event.is_load(), &self.sets.fenced_for_load);
-        join_if(&mut row, event.is_store(), &self.sets.fenced_for_store);
-        row
+        join_if(row, event.is_load(), &self.sets.fenced_for_load);
+        join_if(row, event.is_store(), &self.sets.fenced_for_store);
     }
 
     /// Rule 5: what has an acquire annotation.
-    fn after_acquire(&self, event: &Event) -> Row
+    fn add_acquires(&self, event: &Event, row: &mut Row)
         requires { IsAsked self.now event.now }
-        ensures { RuleRowIs (hart_of self.now) event.now 5 result }
+        ensures { Adds (hart_of self.now) event.now 5 row.old row.new }
     {
-        let mut row = Row::new();
         row.join(&self.sets.acquires);
-        row
     }
 
     /// Rule 6: every memory operation, where the event has a release annotation.
-    fn before_release(&self, event: &Event) -> Row
+    fn add_before_release(&self, event: &Event, row: &mut Row)
         requires { IsAsked self.now event.now }
-        ensures { RuleRowIs (hart_of self.now) event.now 6 result }
+        ensures { Adds (hart_of self.now) event.now 6 row.old row.new }
     {
-        let mut row = Row::new();
         let release = is_release(self.model, event);
-        join_if(&mut row, release, &self.sets.loads);
-        join_if(&mut row, release, &self.sets.stores);
-        row
+        join_if(row, release, &self.sets.loads);
+        join_if(row, release, &self.sets.stores);
     }
 
     /// Rule 7: what has an RCsc annotation, where the event has one.
-    fn both_rcsc(&self, event: &Event) -> Row
+    fn add_rcsc(&self, event: &Event, row: &mut Row)
         requires { IsAsked self.now event.now }
-        ensures { RuleRowIs (hart_of self.now) event.now 7 result }
+        ensures { Adds (hart_of self.now) event.now 7 row.old row.new }
     {
-        let mut row = Row::new();
-        join_if(&mut row, is_rcsc(self.model, event), &self.sets.rcsc);
-        row
+        join_if(row, is_rcsc(self.model, event), &self.sets.rcsc);
     }
 
     /// Rule 8: the LR with which the event, an SC, is paired.
-    fn paired(&self, event: &Event) -> Row
+    fn add_paired(&self, event: &Event, row: &mut Row)
         requires { IsAsked self.now event.now }
-        ensures { RuleRowIs (hart_of self.now) event.now 8 result }
+        ensures { Adds (hart_of self.now) event.now 8 row.old row.new }
     {
-        let mut row = Row::new();
         if let Some(lr) = self.sets.reserved {
-            insert_if(&mut row, event.op == Op::Sc, lr as usize);
+            insert_if(row, event.op == Op::Sc, lr as usize);
         }
-        row
     }
 
     /// Rule 11: what a branch depends on, where the event is a store.
-    fn control(&self, event: &Event) -> Row
+    fn add_controlling(&self, event: &Event, row: &mut Row)
         requires { IsAsked self.now event.now }
-        ensures { RuleRowIs (hart_of self.now) event.now 11 result }
+        ensures { Adds (hart_of self.now) event.now 11 row.old row.new }
     {
-        let mut row = Row::new();
-        join_if(&mut row, event.is_store(), &self.sets.controlled);
-        row
+        join_if(row, event.is_store(), &self.sets.controlled);
     }
 
     /// Rule 12: what the own store that the event returns depends on.
-    fn dependent_write(&self, event: &Event, returned: Option<u32>) -> Row
+    fn add_sources_of_write(&self, event: &Event, returned: Option<u32>, row: &mut Row)
         requires asked { IsAsked self.now event.now }
         requires returned { IsReturned (hart_of self.now) event.now returned }
-        ensures { RuleRowIs (hart_of self.now) event.now 12 result }
+        ensures { Adds (hart_of self.now) event.now 12 row.old row.new }
     {
-        let mut row = Row::new();
         if let Some(store) = returned {
             let store = &self.events[store as usize];
-            let based = self.sets.dependencies(store, DepKind::Addr);
-            row.join(&based);
-            let made = self.sets.dependencies(store, DepKind::DataOf);
-            row.join(&made);
+            let loads = &self.sets.loads;
+            let stores = &self.sets.stores;
+            add_dependencies(row, store, DepKind::Addr, loads, stores);
+            add_dependencies(row, store, DepKind::DataOf, loads, stores);
         }
-        row
     }
 
     /// Rule 13: what an address depends on, where the event is a store.
-    fn dependent_address(&self, event: &Event) -> Row
+    fn add_addressing(&self, event: &Event, row: &mut Row)
         requires { IsAsked self.now event.now }
-        ensures { RuleRowIs (hart_of self.now) event.now 13 result }
+        ensures { Adds (hart_of self.now) event.now 13 row.old row.new }
     {
-        let mut row = Row::new();
-        join_if(&mut row, event.is_store(), &self.sets.addressed);
-        row
+        join_if(row, event.is_store(), &self.sets.addressed);
     }
 }
 
 /// Whether it is an AMO or an SC.
-fn is_atomic(op: Op) -> bool
+pub fn is_atomic(op: Op) -> bool
     ensures { IsTrue result ↔ ((op ≡ Amo) ⊎ (op ≡ Sc)) }
 {
     matches!(op, Op::Amo | Op::Sc)

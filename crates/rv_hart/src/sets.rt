@@ -1,8 +1,10 @@
 //! Sets of a hart's events that grow with them.
-ghost use Rattle.std.specs.Prelude.{ℕ, ◌≡◌, ◌<◌, ◌↔◌, ◌||◌, ◌++◌, ◌∷◌, [], All, Contains, IsTrue, List};
+ghost use Rattle.std.specs.Prelude.{ℕ, ◌≡◌, ◌<◌, ◌↔◌, ◌⊎◌, ◌||◌, ◌++◌, ◌∷◌, [], All, List};
 ghost use Rattle.rv_rows.specs.Bits.{Has, has_bit};
+ghost use Rattle.rv_event.specs.declared.event.DepKind.TheVariants.{Ctrl};
+ghost use Rattle.rv_event.specs.declared.event.Op.TheVariants.{Branch};
 ghost use Rattle.rv_hart.specs.Harts.{Hart, IsHart, Follows, followed, hart_with};
-ghost use Rattle.rv_hart.specs.Sets.{AreSets, IsReservation};
+ghost use Rattle.rv_hart.specs.Sets.{AreSets, IsReservation, NamesMemory};
 
 use crate::rows::{insert_if, join_if};
 use rv_event::{DepKind, Event, MemoryModel, Op, does_order, is_acquire, is_rcsc};
@@ -49,30 +51,6 @@ impl Sets {
         }
     }
 
-    /// Whether the number is that of a memory operation.
-    pub fn is_memory(&self, number: usize) -> bool
-        requires { number < 4096 }
-        ensures { result ≡ (has_bit self.now.loads number || has_bit self.now.stores number) }
-    {
-        self.loads.has(number) || self.stores.has(number)
-    }
-
-    /// The memory operations on which the event lists a dependency of this kind.
-    pub fn dependencies(&self, event: &Event, kind: DepKind) -> Row
-        requires { All (λ d. d.seq < 4096) event.now.deps }
-        ensures { (s : ℕ) → Has result s
-            ↔ (Contains event.now.deps (record { kind = kind; seq = s }) × IsTrue (has_bit self.now.loads s || has_bit self.now.stores s)) }
-    {
-        let mut row = Row::new();
-        for dep in event.deps.as_slice() {
-            let number = dep.seq as usize;
-            if dep.kind == kind && self.is_memory(number) {
-                row.insert(number);
-            }
-        }
-        row
-    }
-
     /// Takes the hart's next event in.
     pub fn absorb(&mut self, model: MemoryModel, event: &Event)
         requires number { event.now.id.seq < 4096 }
@@ -101,16 +79,53 @@ impl Sets {
             does_order(op, Op::Store, Op::Store),
             &self.stores,
         );
-        let tested = self.dependencies(event, DepKind::Ctrl);
-        join_if(&mut self.controlled, op == Op::Branch, &tested);
-        let based = self.dependencies(event, DepKind::Addr);
-        self.addressed.join(&based);
+        add_tested(&mut self.controlled, event, &self.loads, &self.stores);
+        add_dependencies(
+            &mut self.addressed,
+            event,
+            DepKind::Addr,
+            &self.loads,
+            &self.stores,
+        );
         insert_if(&mut self.loads, event.is_load(), number);
         insert_if(&mut self.stores, event.is_store(), number);
         insert_if(&mut self.acquires, is_acquire(model, event), number);
         insert_if(&mut self.rcsc, is_rcsc(model, event), number);
         self.reserved = reserved_after(self.reserved, event);
     }
+}
+
+/// Puts in the memory operations, by the loads and the stores, on which the event lists a dependency of this kind.
+pub fn add_dependencies(row: &mut Row, event: &Event, kind: DepKind, loads: &Row, stores: &Row)
+    requires { All (λ d. d.seq < 4096) event.now.deps }
+    ensures { (s : ℕ) → Has row.new s ↔ (Has row.old s ⊎ NamesMemory kind event.now.deps loads.now stores.now s) }
+{
+    for dep in event.deps.as_slice() {
+        let number = dep.seq as usize;
+        if dep.kind == kind && has_either(loads, stores, number) {
+            row.insert(number);
+        }
+    }
+}
+
+/// Puts in the memory operations on which the event depends, where it is a branch.
+fn add_tested(row: &mut Row, event: &Event, loads: &Row, stores: &Row)
+    requires { All (λ d. d.seq < 4096) event.now.deps }
+    ensures { (s : ℕ) → Has row.new s
+        ↔ (Has row.old s ⊎ ((event.now.op ≡ Branch) × NamesMemory Ctrl event.now.deps loads.now stores.now s)) }
+{
+    if event.op != Op::Branch {
+        return;
+    }
+    add_dependencies(row, event, DepKind::Ctrl, loads, stores);
+}
+
+/// Whether one of the sets has the number.
+fn has_either(one: &Row, other: &Row, number: usize) -> bool
+    requires { number < 4096 }
+    ensures { result ≡ (has_bit one.now number || has_bit other.now number) }
+{
+    one.has(number) || other.has(number)
 }
 
 /// The last LR, SC or failed SC after the event, where it is an LR.

@@ -4,10 +4,9 @@ use Rattle.rv_rows.specs.Bits.{Has}
 use Rattle.rv_rows.specs.Closure.{RowHas, IsClosed, IsThinned}
 use Rattle.rv_hart.specs.Harts.{Hart}
 use Rattle.rv_hart.specs.Kept.{hart_of}
-use Rattle.rv_hart.specs.Rows.{IsEnough}
 use Rattle.rv_hart.proofs.Knowing.{Fits, fits_of}
 use Rattle.rv_hart.proofs.Tying.{rows_closed}
-use Rattle.rv_hart.proofs.Joining.{enough-joined, candidates-own}
+use Rattle.rv_hart.proofs.Joining.{candidates-own}
 use Rattle.rv_hart.proofs.kept.Kept.sweep.Goals as goal
 
 pub thin-requires-clause-few : goal.thin-requires-clause-few
@@ -31,18 +30,20 @@ thin-requires-clause-own c =
     let h : Hart = hart_of c.args.self.now in
     let e : Event = c.args.event.now in
     let f : Fits h e = fits_of h e c.requires.asked.kept.hart c.requires.asked.follows in
-    let enough : IsEnough h e c.joined-candidates.result = enough-joined h e f c.args.rule_rows.now c.requires.rule_rows c.joined-candidates.result c.joined-candidates.ensures in
-    subst (λ (rs : List (List ℕ)). (b : ℕ) → Has c.joined-candidates.result b → (b < length rs) × RowHas rs b b) (sym c.as_slice.ensures.value)
-    (candidates-own h e f c.args.self.now.rows.items c.joined-candidates.result c.requires.asked.kept.rows c.requires.asked.kept.count enough)
+    subst (λ (rs : List (List ℕ)). (b : ℕ) → Has c.candidates-candidates.result b →
+    (b < length rs) × RowHas rs b b) (sym c.as_slice.ensures.value)
+    (candidates-own h e f c.args.self.now.rows.items c.candidates-candidates.result c.requires.asked.kept.rows
+    c.requires.asked.kept.count c.candidates-candidates.ensures)
 
 pub returns : goal.returns
 returns c =
     let h : Hart = hart_of c.args.self.now in
     let e : Event = c.args.event.now in
     let f : Fits h e = fits_of h e c.requires.asked.kept.hart c.requires.asked.follows in
-    let enough : IsEnough h e c.joined-candidates.result = enough-joined h e f c.args.rule_rows.now c.requires.rule_rows c.joined-candidates.result c.joined-candidates.ensures in
     record {
-      candidates = c.joined-candidates.result;
-      enough = enough;
-      thinned = subst (λ (rs : List (List ℕ)). IsThinned rs c.joined-candidates.result c.in_ok-thin.field-0.listed.items c.in_ok-thin.field-0.reach) c.as_slice.ensures.value c.in_ok-thin.ensures;
+      candidates = c.candidates-candidates.result;
+      enough = c.candidates-candidates.ensures;
+      thinned = subst (λ (rs : List (List ℕ)). IsThinned rs c.candidates-candidates.result
+          c.in_ok-thin.field-0.listed.items c.in_ok-thin.field-0.reach) c.as_slice.ensures.value
+          c.in_ok-thin.ensures;
     }
