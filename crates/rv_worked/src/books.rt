@@ -1,10 +1,11 @@
 //! The book over the worked executions: what it accepts, what it refuses, and with which certificate.
 use crate::allowed::ALLOWED;
 use crate::circles::{CIRCLES, TOTAL_STORE_CIRCLES, WorkedCircle};
-use crate::rows::{Bits, Row, X, event_of, id, load, row, store};
+use crate::refused::{STALE, TAKEN};
+use crate::rows::{Row, event_of, id};
 use rv_book::{Book, Offer};
 use rv_cert::{Certificate, Verdict, check};
-use rv_event::{Entry, Fault, Id, MemoryModel, Op};
+use rv_event::{Entry, Fault, Id, MemoryModel};
 use std::alloc::Global;
 use std::process::Abort;
 
@@ -131,8 +132,8 @@ fn forbidden_executions_are_refused_with_their_circle(rt: HostRuntime) {
 
 #[test]
 fn a_stale_load_is_refused_with_its_store(rt: HostRuntime) {
-    let mut book = book_of(&rt, rt.alloc(), MemoryModel::Rvwmo, &[store!(0: 0, X = 1)]);
-    let entry = entry_of(&rt, rt.alloc(), &load!(0: 1, X = 0));
+    let mut book = book_of(&rt, rt.alloc(), MemoryModel::Rvwmo, &STALE[..1]);
+    let entry = entry_of(&rt, rt.alloc(), &STALE[1]);
     let Offer::Forbidden(Verdict::Forbidden(forbidden)) = book.offer(&entry) else {
         assert!(rt; false, "not forbidden");
         return;
@@ -147,8 +148,8 @@ fn a_stale_load_is_refused_with_its_store(rt: HostRuntime) {
 
 #[test]
 fn a_malformed_entry_is_refused_with_its_fault(rt: HostRuntime) {
-    let mut book = book_of(&rt, rt.alloc(), MemoryModel::Rvwmo, &[store!(0: 0, X = 3)]);
-    let entry = entry_of(&rt, rt.alloc(), &store!(1: 0, X = 3));
+    let mut book = book_of(&rt, rt.alloc(), MemoryModel::Rvwmo, &TAKEN[..1]);
+    let entry = entry_of(&rt, rt.alloc(), &TAKEN[1]);
     let Offer::Malformed(Verdict::Malformed(malformed)) = book.offer(&entry) else {
         assert!(rt; false, "not malformed");
         return;

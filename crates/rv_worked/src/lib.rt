@@ -1,29 +1,29 @@
 //! The worked executions: small traces whose answer is known from outside the code, and what each part of the monitor
 //! says of them.
 //!
-//! It has tests alone. Its tables ([`allowed`], [`circles`], [`histories`], [`malformed`], made of [`rows`]) stand in one
-//! place, so that the plain program, the checker and all that is built above them are held to the same executions. It
-//! stands on each crate that it tests.
+//! Its tables ([`allowed`], [`circles`], [`refused`], `histories`, `malformed`, made of [`rows`]) stand in one place,
+//! so that the plain program, the checker and all that is built above them are held to the same executions; the first
+//! three are there for other crates' tests too. All else are tests. It stands on each crate that it tests.
 #![tactic(auto)]
 
-#[cfg(test)]
-mod allowed;
+pub mod allowed;
 #[cfg(test)]
 mod books;
 #[cfg(test)]
 mod certificates;
 #[cfg(test)]
 mod chunks;
-#[cfg(test)]
-mod circles;
+pub mod circles;
 #[cfg(test)]
 mod edges;
 #[cfg(test)]
 mod histories;
 #[cfg(test)]
 mod malformed;
+pub mod refused;
+pub mod rows;
 #[cfg(test)]
-mod rows;
+mod steps;
 #[cfg(test)]
 mod thinned;
 #[cfg(test)]

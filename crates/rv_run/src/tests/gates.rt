@@ -145,9 +145,11 @@ fn hold<RT: Threads + Wait + Sync + Abort, C: Carrier + Sync + Drop>(
 fn held_gate(rt: HostRuntime) {
     let (slots, seats) = LockedSlots::new(rt.alloc(), 2).expect(&rt, "slots");
     hold(&rt, rt.alloc(), slots, seats);
-    let (slots, seats) = Slots::new(rt.alloc(), 2).expect(&rt, "slots");
-    assert!(rt; seats.len() >= 4);
-    hold(&rt, rt.alloc(), TableCarrier::new(slots), seats);
+    for _round in 0..100u32 {
+        let (slots, seats) = Slots::new(rt.alloc(), 2).expect(&rt, "slots");
+        assert!(rt; seats.len() >= 4);
+        hold(&rt, rt.alloc(), TableCarrier::new(slots), seats);
+    }
 }
 
 /// The first chunk of a source's rows.

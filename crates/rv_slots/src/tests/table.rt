@@ -194,7 +194,12 @@ fn a_stray_pin_holds_back_a_free(rt: HostRuntime) {
     };
     let (eye, word) = look(&slots, eye, 0);
     assert_eq!(rt; word, 0x8);
-    let _zero = fill_slot(&rt, &slots, zero, 0, &chunk);
+    let Claim::Filling(filling) = slots.claim(zero, 0) else {
+        panic!(&rt; "the slot is claimed")
+    };
+    let (eye, word) = look(&slots, eye, 0);
+    assert_eq!(rt; word, 0x1_0000_0008);
+    let _zero = slots.fill(filling, chunk.words());
     let (eye, word) = look(&slots, eye, 0);
     assert_eq!(rt; word, 0x3_0000_0008);
     let mut one = pin_slot(&rt, &slots, one, 0);

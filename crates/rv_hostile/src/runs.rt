@@ -1,0 +1,93 @@
+//! Want of memory in whole passes and runs: it is answered as such, or the outcome is that of the execution.
+use crate::traces::{Class, Worked, class_of, entries_of, texts_of, worked_traces};
+use rv_event::NoMemory;
+use rv_run::{RunFault, Settings, replay, run};
+use rv_trace::FaultKind;
+use std::alloc::Global;
+use std::process::Abort;
+use std::sync::Wait;
+use std::thread::Threads;
+
+#[test]
+fn a_pass_without_memory_says_so(rt: HostRuntime) {
+    for one in &worked_traces(&rt, rt.alloc()) {
+        let entries = entries_of(&rt, rt.alloc(), one.rows);
+        let answer = match replay(rt.alloc(), one.model, entries.as_slice()) {
+            Ok(outcome) => Ok(outcome),
+            Err(NoMemory) => replay(rt.alloc(), one.model, entries.as_slice()),
+        };
+        assert!(rt;
+            answer.is_ok_and(|x| class_of(&x) == one.class),
+            "{}",
+            one.name
+        );
+    }
+}
+
+/// Readers of the texts.
+fn list_readers<'a>(alloc: Global, texts: &[&'a [u8]]) -> Result<Vec<&'a [u8]>, NoMemory> {
+    Ok(Vec::from_slice(alloc, texts)?)
+}
+
+/// Readers of the texts, also where one allocation is refused.
+fn readers_of<'a>(rt: &impl Abort, alloc: Global, texts: &[&'a [u8]]) -> Vec<&'a [u8]> {
+    match list_readers(alloc, texts) {
+        Ok(readers) => readers,
+        Err(NoMemory) => list_readers(alloc, texts).expect(rt, "memory"),
+    }
+}
+
+/// The class of what the sources come to, if memory is not refused.
+fn class_of_run<RT: Threads + Wait + Sync + Abort>(
+    rt: &RT,
+    alloc: Global,
+    texts: &[&[u8]],
+    settings: Settings,
+) -> Option<Class> {
+    let readers = readers_of(rt, alloc, texts);
+    match run(rt, alloc, readers, settings) {
+        Ok(outcome) => Some(class_of(&outcome)),
+        Err(RunFault::NoMemory) => None,
+        Err(RunFault::Trace { fault, .. }) => {
+            assert_eq!(rt; fault.kind, FaultKind::NoMemory);
+            None
+        }
+        Err(fault) => panic!(rt; "{fault}"),
+    }
+}
+
+/// Runs the execution as a source for each hart, and runs it again where memory is refused.
+fn assert_run<RT: Threads + Wait + Sync + Abort>(
+    rt: &RT,
+    alloc: Global,
+    one: &Worked,
+    workers: u8,
+    slots: u8,
+) {
+    let settings = Settings {
+        workers,
+        slots,
+        model: one.model,
+    };
+    let [first, second] = texts_of(rt, alloc, one.rows);
+    let texts = [first.as_str().as_bytes(), second.as_str().as_bytes()];
+    let class = match class_of_run(rt, alloc, &texts, settings) {
+        Some(class) => Some(class),
+        None => class_of_run(rt, alloc, &texts, settings),
+    };
+    assert_eq!(rt; class, Some(one.class), "{}", one.name);
+}
+
+#[test]
+fn a_run_by_one_worker_without_memory_says_so(rt: HostRuntime) {
+    for one in &worked_traces(&rt, rt.alloc()) {
+        assert_run(&rt, rt.alloc(), one, 1, 2);
+    }
+}
+
+#[test]
+fn a_run_by_eight_workers_without_memory_says_so(rt: HostRuntime) {
+    for one in &worked_traces(&rt, rt.alloc()) {
+        assert_run(&rt, rt.alloc(), one, 8, 16);
+    }
+}

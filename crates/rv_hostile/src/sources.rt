@@ -1,0 +1,85 @@
+//! Want of memory while a source is read: the events before it are given, then the fault with the row that was being
+//! read, for ever.
+use crate::traces::{entries_of, text_of, worked_traces};
+use rv_event::{Chunk, Entry, unpack};
+use rv_trace::{Chunks, FaultKind, Trace};
+use std::alloc::Global;
+use std::process::Abort;
+
+/// Reads the text event by event, to its end or until memory is refused. Whether it was read to its end.
+fn read_events(rt: &impl Abort, alloc: Global, text: &str, entries: &[Entry]) -> bool {
+    let mut trace = Trace::new(alloc, text.as_bytes(), 0);
+    let mut given = entries.iter();
+    for row in 1..1000u32 {
+        match trace.next_event() {
+            Ok(Some(event)) => assert!(rt; given.next().is_some_and(|x| x.event == event)),
+            Ok(None) => {
+                assert!(rt; given.next().is_none());
+                return true;
+            }
+            Err(fault) => {
+                assert_eq!(rt; fault.kind, FaultKind::NoMemory);
+                assert!(rt; fault.row == row || (fault.row, row) == (0, 1), "row {row}");
+                assert_eq!(rt; trace.next_event().err(), Some(fault));
+                assert_eq!(rt; trace.next_event().err(), Some(fault));
+                return false;
+            }
+        }
+    }
+    panic!(rt; "no end")
+}
+
+/// Whether the chunk is the first of a source and has just these events.
+fn holds(rt: &impl Abort, alloc: Global, chunk: &Chunk, entries: &[Entry]) -> bool {
+    let events = match unpack(alloc, chunk) {
+        Ok(events) => events,
+        Err(_) => unpack(alloc, chunk).expect(rt, "memory"),
+    };
+    chunk.number() == 0
+        && events.len() == entries.len()
+        && events
+            .iter()
+            .zip(entries.iter())
+            .all(|(event, entry)| *event == entry.event)
+}
+
+/// Reads the text as chunks, to its end or until memory is refused. Whether it was read to its end.
+fn read_chunks(rt: &impl Abort, alloc: Global, text: &str, entries: &[Entry]) -> bool {
+    let mut chunks = Chunks::new(alloc, text.as_bytes(), 0);
+    let mut given = 0;
+    for _ in 0..1000u32 {
+        match chunks.next_chunk() {
+            Ok(Some(chunk)) => {
+                assert!(rt; given == 0 && holds(rt, alloc, &chunk, entries));
+                given = entries.len();
+            }
+            Ok(None) => {
+                assert_eq!(rt; given, entries.len());
+                return true;
+            }
+            Err(fault) => {
+                assert_eq!(rt; fault.kind, FaultKind::NoMemory);
+                assert!(rt; given == 0 && fault.row as usize <= entries.len() + 1);
+                assert_eq!(rt; chunks.next_chunk().err(), Some(fault));
+                assert_eq!(rt; chunks.next_chunk().err(), Some(fault));
+                return false;
+            }
+        }
+    }
+    panic!(rt; "no end")
+}
+
+#[test]
+fn a_source_without_memory_has_its_fault_for_ever(rt: HostRuntime) {
+    for one in &worked_traces(&rt, rt.alloc()) {
+        let text = text_of(&rt, rt.alloc(), one.rows);
+        let list = entries_of(&rt, rt.alloc(), one.rows);
+        let (text, entries) = (text.as_str(), list.as_slice());
+        let whole = read_events(&rt, rt.alloc(), text, entries)
+            || read_events(&rt, rt.alloc(), text, entries);
+        assert!(rt; whole, "{}", one.name);
+        let whole = read_chunks(&rt, rt.alloc(), text, entries)
+            || read_chunks(&rt, rt.alloc(), text, entries);
+        assert!(rt; whole, "{}", one.name);
+    }
+}
