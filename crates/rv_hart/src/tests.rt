@@ -5,7 +5,8 @@ ghost use Rattle.rv_hart.specs.Harts.{Hart, IsHart, IsReturned};
 
 use super::*;
 use rv_event::{
-    Deps, Entry, Event, Id, Link, MemoryModel, Op, Reason, Set, find_event_fault, find_writer,
+    Dep, DepKind, Deps, Entry, Event, Id, Link, MemoryModel, Op, Reason, Set, find_event_fault,
+    find_writer,
 };
 use std::alloc::Global;
 use std::process::Abort;
@@ -24,6 +25,13 @@ fn event(alloc: Global, seq: u32, op: Op) -> Event
         release: false,
         deps: Deps::from_vec(Vec::new(alloc)),
     }
+}
+
+/// One dependency of this kind.
+fn depends(rt: &impl Abort, alloc: Global, kind: DepKind, seq: u32) -> Deps {
+    let mut items = Vec::new(alloc);
+    items.push(Dep { kind, seq }).expect(rt, "memory");
+    Deps::from_vec(items)
 }
 
 /// The events as entries of one source.
@@ -150,6 +158,125 @@ fn annotations_order(rt: HostRuntime) {
     assert_eq!(rt; links.as_slice(), [link(0, 5)].as_slice());
     let links = follow(&rt, alloc, &mut hart, &release);
     assert_eq!(rt; links.as_slice(), [link(1, 6)].as_slice());
+}
+
+#[test]
+fn annotations_of_both_order(rt: HostRuntime) {
+    let alloc = rt.alloc();
+    let mut hart = HartOrder::new(alloc, MemoryModel::Rvwmo, 0);
+    let release = Event {
+        read: 0,
+        release: true,
+        ..event(alloc, 0, Op::Amo)
+    };
+    let acquire = Event {
+        word: 1,
+        read: 0,
+        acquire: true,
+        ..event(alloc, 1, Op::Amo)
+    };
+    let _ = follow(&rt, alloc, &mut hart, &release);
+    let links = follow(&rt, alloc, &mut hart, &acquire);
+    assert_eq!(rt; links.as_slice(), [link(0, 7)].as_slice());
+}
+
+#[test]
+fn an_address_orders_a_load_and_later_stores(rt: HostRuntime) {
+    let alloc = rt.alloc();
+    let mut hart = HartOrder::new(alloc, MemoryModel::Rvwmo, 0);
+    let first = Event {
+        read: 0,
+        ..event(alloc, 0, Op::Load)
+    };
+    let second = Event {
+        word: 1,
+        read: 0,
+        deps: depends(&rt, alloc, DepKind::Addr, 0),
+        ..event(alloc, 1, Op::Load)
+    };
+    let store = Event {
+        word: 2,
+        ..event(alloc, 2, Op::Store)
+    };
+    let _ = follow(&rt, alloc, &mut hart, &first);
+    let links = follow(&rt, alloc, &mut hart, &second);
+    assert_eq!(rt; links.as_slice(), [link(0, 9)].as_slice());
+    let links = follow(&rt, alloc, &mut hart, &store);
+    assert_eq!(rt; links.as_slice(), [link(0, 13)].as_slice());
+}
+
+#[test]
+fn data_and_branches_order_stores(rt: HostRuntime) {
+    let alloc = rt.alloc();
+    let mut hart = HartOrder::new(alloc, MemoryModel::Rvwmo, 0);
+    let first = Event {
+        read: 0,
+        ..event(alloc, 0, Op::Load)
+    };
+    let computed = Event {
+        word: 1,
+        deps: depends(&rt, alloc, DepKind::DataOf, 0),
+        ..event(alloc, 1, Op::Store)
+    };
+    let second = Event {
+        word: 2,
+        read: 0,
+        ..event(alloc, 2, Op::Load)
+    };
+    let branch = Event {
+        deps: depends(&rt, alloc, DepKind::Ctrl, 2),
+        ..event(alloc, 3, Op::Branch)
+    };
+    let guarded = Event {
+        word: 3,
+        ..event(alloc, 4, Op::Store)
+    };
+    let _ = follow(&rt, alloc, &mut hart, &first);
+    let links = follow(&rt, alloc, &mut hart, &computed);
+    assert_eq!(rt; links.as_slice(), [link(0, 10)].as_slice());
+    assert!(rt; follow(&rt, alloc, &mut hart, &second).is_empty());
+    assert!(rt; follow(&rt, alloc, &mut hart, &branch).is_empty());
+    let links = follow(&rt, alloc, &mut hart, &guarded);
+    assert_eq!(rt; links.as_slice(), [link(2, 11)].as_slice());
+}
+
+#[test]
+fn a_load_of_an_own_store_is_linked_from_what_it_stands_on(rt: HostRuntime) {
+    let alloc = rt.alloc();
+    let mut hart = HartOrder::new(alloc, MemoryModel::Rvwmo, 0);
+    let first = Event {
+        read: 0,
+        ..event(alloc, 0, Op::Load)
+    };
+    let computed = Event {
+        word: 1,
+        deps: depends(&rt, alloc, DepKind::DataOf, 0),
+        ..event(alloc, 1, Op::Store)
+    };
+    let load = Event {
+        word: 1,
+        ..event(alloc, 2, Op::Load)
+    };
+    let _ = follow(&rt, alloc, &mut hart, &first);
+    let _ = follow(&rt, alloc, &mut hart, &computed);
+    let links = follow(&rt, alloc, &mut hart, &load);
+    assert_eq!(rt; links.as_slice(), [link(0, 12)].as_slice());
+}
+
+#[test]
+fn a_load_of_an_own_sc_is_linked_from_it(rt: HostRuntime) {
+    let alloc = rt.alloc();
+    let mut hart = HartOrder::new(alloc, MemoryModel::Rvwmo, 0);
+    let lr = Event {
+        read: 0,
+        ..event(alloc, 0, Op::Lr)
+    };
+    let sc = event(alloc, 1, Op::Sc);
+    let load = event(alloc, 2, Op::Load);
+    let _ = follow(&rt, alloc, &mut hart, &lr);
+    let _ = follow(&rt, alloc, &mut hart, &sc);
+    let links = follow(&rt, alloc, &mut hart, &load);
+    assert_eq!(rt; links.as_slice(), [link(1, 3)].as_slice());
 }
 
 #[test]
