@@ -1,4 +1,5 @@
-//! What judging costs beside reading: traces from memory, read alone, and read and offered to a book.
+//! What judging costs beside reading: a trace from memory, read alone, and read and offered to a book. It is done once, as
+//! a program that goes on has memory at hand that a program which begins does not.
 use rv_book::{Book, Offer};
 use rv_event::{Entry, MemoryModel};
 use rv_trace::Trace;
@@ -6,14 +7,11 @@ use std::alloc::{AllocError, Global};
 use std::io;
 use std::time::Instant;
 
-/// How long the traces are.
-const COUNTS: [u32; 3] = [4_096, 16_384, 65_536];
+/// How long a trace may be.
+const LONGEST: u32 = 65_536;
 
 /// How many harts a trace has, whose events come in turn.
 const HARTS: u32 = 16;
-
-/// How often each trace is read.
-const RUNS: u32 = 5;
 
 /// What the harts do.
 #[derive(Clone, Copy, PartialEq, Eq, Debug)]
@@ -31,14 +29,15 @@ enum Shape {
 }
 
 impl Shape {
-    /// What it is called.
-    fn name(self) -> &'static str {
-        match self {
-            Shape::EightWords => "8 words",
-            Shape::ManyWords => "4,096 words",
-            Shape::Spinning => "each hart spins on a word",
-            Shape::Roaming => "each hart loads words in turn",
-            Shape::Fenced => "8 words, 1 % fences",
+    /// The shape of this name.
+    fn named(name: &str) -> Option<Shape> {
+        match name {
+            "8-words" => Some(Shape::EightWords),
+            "4096-words" => Some(Shape::ManyWords),
+            "spinning" => Some(Shape::Spinning),
+            "roaming" => Some(Shape::Roaming),
+            "fenced" => Some(Shape::Fenced),
+            _ => None,
         }
     }
 
@@ -132,43 +131,26 @@ fn share(nanoseconds: u128, count: u32) -> u128 {
 }
 
 /// Prints what a trace costs, read alone and judged.
-fn measure(rt: &HostRuntime, shape: Shape, count: u32) -> io::Result<()> {
+fn measure(rt: &HostRuntime, name: &str, shape: Shape, count: u32) -> io::Result<()> {
     let alloc = rt.alloc();
     let text = text_of(alloc, shape, count)?;
-    let mut least = [u128::MAX; 2];
-    let mut counts = [0; 2];
-    for _ in 0..RUNS {
-        let start = Instant::now(rt)?;
-        counts[0] = read(alloc, text.as_bytes(), count);
-        least[0] = least[0].min(start.elapsed(rt)?.as_nanos());
-        let start = Instant::now(rt)?;
-        counts[1] = judge(alloc, text.as_bytes(), count);
-        least[1] = least[1].min(start.elapsed(rt)?.as_nanos());
-    }
+    let start = Instant::now(rt)?;
+    let count_read = read(alloc, text.as_bytes(), count);
+    let reading = start.elapsed(rt)?.as_nanos();
+    let start = Instant::now(rt)?;
+    let count_judged = judge(alloc, text.as_bytes(), count);
+    let judging = start.elapsed(rt)?.as_nanos();
     println!(rt;
-        "{}: {} of {} events read, {} judged: {} ns and {} ns each",
-        shape.name(),
-        counts[0],
-        count,
-        counts[1],
-        share(least[0], count),
-        share(least[1], count)
+        "{name}: {count_read} of {count} events read, {count_judged} judged: {} ns and {} ns each",
+        share(reading, count),
+        share(judging, count)
     )
 }
 
-/// Prints what judging costs beside reading.
-pub fn report(rt: &HostRuntime) -> io::Result<()> {
-    let shapes = [
-        Shape::EightWords,
-        Shape::ManyWords,
-        Shape::Spinning,
-        Shape::Roaming,
-        Shape::Fenced,
-    ];
-    for shape in shapes {
-        for count in COUNTS {
-            measure(rt, shape, count)?;
-        }
+/// Prints what judging a trace of this shape and length costs beside reading it.
+pub fn report(rt: &HostRuntime, name: &str, count: &str) -> io::Result<()> {
+    match (Shape::named(name), count.parse::<u32>()) {
+        (Some(shape), Ok(count)) if count <= LONGEST => measure(rt, name, shape, count),
+        _ => println!(rt; "rv_bench: no trace {name} of {count} events"),
     }
-    Ok(())
 }

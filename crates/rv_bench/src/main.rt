@@ -1,13 +1,14 @@
 //! Benchmarks: what judging, the trace reader and the order keeper cost, and how far sources get ahead of one another. No promise
 //! stands on them, and no test is timed.
 //!
-//! - `judging`: traces of 4,096 to 65,536 events, read alone, and read and offered to a book.
+//! - `judging`: a trace of up to 65,536 events, read alone, and read and offered to a book.
 //! - `reading`: the trace reader beside the CSV reader alone, over the same bytes in memory.
 //! - `placing`: the order keeper, over placements without and with successors.
 //! - `stepping`: sources in threads, in step and not.
 //!
-//! `rt run` in this folder builds it; `out/rv_bench judging reading placing stepping` then prints each cost as the least of many
-//! runs. `docs/BENCHMARKS.md` has what was seen.
+//! `rt run` in this folder builds it; `out/rv_bench reading placing stepping` then prints each cost as the least of many runs,
+//! and `out/rv_bench 8-words:65536` what judging such a trace once costs; `4096-words`, `spinning`, `roaming` and `fenced` are
+//! the other shapes. `docs/BENCHMARKS.md` and `docs/SPEED.md` have what was seen.
 #![tactic(auto)]
 
 mod judging;
@@ -25,9 +26,11 @@ fn measure<RT: Threads + Wait + Sync>(
     threads: &RT,
     word: &str,
 ) -> io::Result<()> {
+    if let Some((name, count)) = word.split_once(':') {
+        return judging::report(rt, name, count);
+    }
     match word {
         "reading" => reading::report(rt),
-        "judging" => judging::report(rt),
         "placing" => placing::report(rt),
         "stepping" => stepping::report(rt, threads),
         _ => println!(rt; "rv_bench: no benchmark {word}"),
@@ -38,7 +41,7 @@ fn measure<RT: Threads + Wait + Sync>(
 fn measure_all<RT: Threads + Wait + Sync>(rt: &HostRuntime, threads: &RT) -> io::Result<()> {
     let words = env::args(rt)?;
     if words.len() <= 1 {
-        return println!(rt; "usage: rv_bench [judging] [reading] [placing] [stepping]");
+        return println!(rt; "usage: rv_bench [SHAPE:COUNT] [reading] [placing] [stepping]");
     }
     for word in words.skip(1) {
         measure(rt, threads, word.as_str())?;
