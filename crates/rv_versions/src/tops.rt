@@ -1,9 +1,11 @@
 //! For each word an access of the highest version.
 ghost use Rattle.std.specs.Prelude.{ℕ, ◌≡◌, ◌≢◌, [], List, OnOk, Some, nat_eq};
 ghost use Rattle.std.specs.HashMap.{get};
+ghost use Rattle.std.specs.Option.{unwrap_or};
 ghost use Rattle.rv_versions.specs.Indexes.{IsInserted, IsRemoved};
 ghost use Rattle.rv_versions.specs.Tops.{IsTop, AreTops, IsNoted};
 ghost use Rattle.rv_versions.specs.declared.accesses.Access.{Access};
+ghost use Rattle.rv_versions.specs.declared.tops.Top.TheVariants.{Nothing, Unknown};
 
 use crate::accesses::Access;
 use rv_event::NoMemory;
@@ -24,7 +26,8 @@ pub enum Top {
 impl Top {
     /// What is known once the access was put in.
     fn raised(self, access: Access) -> Top
-        ensures { (old new : List Access) → IsTop old access.word self → IsInserted old (Some access) new → IsTop new access.word result }
+        ensures raised { (old new : List Access) → IsTop old access.word self → IsInserted old (Some access) new → IsTop new access.word result }
+        ensures known { self ≢ Unknown → result ≢ Unknown }
     {
         match self {
             Top::Nothing => Top::Known(access),
@@ -54,7 +57,8 @@ impl Tops {
 
     /// What is known of the word.
     pub fn get(&self, word: u64) -> Top
-        ensures { (accesses : List Access) → AreTops accesses self.now → IsTop accesses word result }
+        ensures value { result ≡ unwrap_or (get nat_eq self.now.words word) Nothing }
+        ensures told { (accesses : List Access) → AreTops accesses self.now → IsTop accesses word result }
     {
         match self.words.get(&word) {
             Some(top) => *top,
