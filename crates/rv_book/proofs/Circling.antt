@@ -103,3 +103,9 @@ module _ (v : Arranged) (ok : IsArranged v) (k : Kept) (joined : Joined v.model 
           let p : at v.ids (get_or path (a - 1) 0) ≡ at v.ids (get_or path (b - 1) 0) = sym (at-a ∙ node a n (omega (arith, l, m))) ∙ q ∙ at-b ∙ node b b-some m in
           let s = ok.once (get_or path (a - 1) 0) (get_or path (b - 1) 0) (low (a - 1) (omega (arith, m, long, l))) (low (b - 1) (omega (arith, m, long, l))) p in
           c.once (a - 1) (b - 1) (omega (arith, l, n)) (omega (arith, m, long, l)) s
+
+-- an event with an edge to itself leads to itself
+pub own_leads :
+    (model : MemoryModel) (log : List Event) (i : Id) → ((r : Reason) × IsEdge model log i r i) → EachLeads model log (i ∷ [])
+own_leads model log i own zero few = own
+own_leads model log i own (suc k) few = absurd (omega (arith, few))

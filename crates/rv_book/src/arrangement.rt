@@ -13,7 +13,7 @@ ghost use Rattle.rv_book.specs.Counts.{is_waiting};
 
 use crate::closing::close;
 use crate::hints::Hints;
-use crate::nodes::{ids_at, ids_of, nodes_of};
+use crate::nodes::{find_nodes, ids_at, ids_of};
 use rv_cert::{Certificate, Circle};
 use rv_edges::{Around, History};
 use rv_event::{Event, Fault, Id, MemoryModel, NoMemory};
@@ -38,6 +38,10 @@ pub struct Arrangement {
     ranks: Ranks,
     ids: Vec<Id>,
     hints: Hints,
+    /// The nodes before the event that is looked at; what stands here between two events says nothing.
+    preds: Vec<u32>,
+    /// Those after it, alike.
+    succs: Vec<u32>,
 }
 
 impl Model for Arrangement {
@@ -76,6 +80,8 @@ impl Arrangement {
             ranks: Ranks::new(alloc),
             ids: Vec::new(alloc),
             hints: Hints::new(alloc),
+            preds: Vec::new(alloc),
+            succs: Vec::new(alloc),
         }
     }
 
@@ -149,20 +155,23 @@ impl Arrangement {
     {
         self.ids.reserve(1)?;
         self.hints.note(event.id, self.ids.len() as u32)?;
-        let preds = nodes_of(
-            self.alloc,
+        find_nodes(
             self.ids.as_slice(),
             &self.hints,
             around.before.as_slice(),
+            &mut self.preds,
         )?;
-        let succs = nodes_of(
-            self.alloc,
+        find_nodes(
             self.ids.as_slice(),
             &self.hints,
             around.after.as_slice(),
+            &mut self.succs,
         )?;
         self.history.push(event, around)?;
-        match self.ranks.place(preds.as_slice(), succs.as_slice()) {
+        match self
+            .ranks
+            .place(self.preds.as_slice(), self.succs.as_slice())
+        {
             Ok(_) => {
                 self.ids.push(event.id).unwrap();
                 Ok(Added::Taken)

@@ -1,5 +1,5 @@
 //! Nodes and ids: node k is the memory operation that came k-th.
-ghost use Rattle.std.specs.Prelude.{◌≡◌, ◌<◌, ◌∷◌, ℕ, IfOk, IsTrue, length, map, All};
+ghost use Rattle.std.specs.Prelude.{◌≡◌, ◌<◌, ◌∷◌, ℕ, IfOk, OnOk, IsTrue, length, map, All};
 ghost use Rattle.std.specs.List.{Contains};
 ghost use Rattle.rv_event.specs.declared.reason.Link.{Link};
 ghost use Rattle.rv_book.specs.Arranged.{at};
@@ -49,22 +49,26 @@ fn find_node(ids: &[Id], id: Id) -> u32
     unreachable!()
 }
 
-/// The nodes of the links' ids. It costs one look for each link whose node was noted.
-pub fn nodes_of(
-    alloc: Global,
+/// Puts the nodes of the links' ids into the list, in place of what it had. It costs one look for each link whose node was
+/// noted, and takes memory only where the list has to grow.
+///
+/// # Errors
+/// `NoMemory` where it could not; the list has some of the nodes then.
+pub fn find_nodes(
     ids: &[Id],
     hints: &Hints,
     links: &[Link],
-) -> Result<Vec<u32>, NoMemory>
+    nodes: &mut Vec<u32>,
+) -> Result<(), NoMemory>
     requires has { (l : Link) → Contains links.now l → HasNode ids.now l.id }
     requires small { length ids.now < 65536 }
-    ensures { IfOk result (λ nodes. AreNodes ids.now links.now nodes.items) }
+    ensures { OnOk result (AreNodes ids.now links.now nodes.new.items) }
 {
-    let mut nodes = Vec::new(alloc);
+    nodes.clear();
     for link in links {
         nodes.push(node_of(ids, hints, link.id))?;
     }
-    Ok(nodes)
+    Ok(())
 }
 
 /// The first id, and those of the path's nodes.

@@ -13,7 +13,7 @@ use Rattle.rv_event.specs.declared.event.Event.{Event}
 use Rattle.rv_event.specs.declared.memory_model.MemoryModel.{MemoryModel}
 use Rattle.rv_event.specs.declared.reason.Reason.{Reason}
 use Rattle.rv_cover.specs.Paths.{Covers}
-use Rattle.rv_edges.specs.declared.history.OwnLinks.{OwnLinks}
+use Rattle.rv_edges.specs.OwnLinks.{OwnLinks}
 use Rattle.rv_edges.specs.Kept.{Kept, kept_from, happened, grown, Joins, IsKept, Ties, IsTied}
 use Rattle.rv_cover.specs.Laws.{Either}
 use Rattle.rv_edges.specs.Histories.{Joined, IsHistory, IsCarried}

@@ -1,11 +1,10 @@
 -- What a hart says of a new event, over the log.
-use Rattle.std.proofs.Common.{◌≡◌, ◌≢◌, ℕ, ◌<◌, List, [], ◌∷◌, ◌++◌, Contains, Option, None, Some, ◌⊎◌, inl, inr, sym, ap, ◌∙◌, subst, arith}
-use Rattle.std.proofs.lemmas.List.Elements.{Contains-push_cases, Contains-append_left}
+use Rattle.std.proofs.Common.{◌≡◌, ◌≢◌, ◌<◌, List, [], ◌∷◌, ◌++◌, Contains, None, Some, inl, inr, sym, ap, ◌∙◌, subst, arith}
+use Rattle.std.proofs.lemmas.List.Elements.{Contains-push_cases}
 use Rattle.std.proofs.lemmas.Option.{none-some}
-use Rattle.rv_event.specs.Operations.{IsLoad, IsStore}
-use Rattle.rv_event.specs.Log.{of_hart, named, writer}
+use Rattle.rv_event.specs.Operations.{IsLoad}
+use Rattle.rv_event.specs.Log.{of_hart, writer}
 use Rattle.rv_event.specs.Relations.{Paired}
-use Rattle.rv_event.specs.Preserved.{Rule}
 use Rattle.rv_event.specs.Edges.{IsStale}
 use Rattle.rv_event.specs.Faults.{event_fault}
 use Rattle.rv_event.proofs.Indexed.{Indexed, indexed-push, sound_of}
@@ -15,12 +14,10 @@ use Rattle.rv_event.specs.declared.event.Event.{Event}
 use Rattle.rv_event.specs.declared.memory_model.MemoryModel.{MemoryModel}
 use Rattle.rv_event.specs.declared.reason.Link.{Link}
 use Rattle.rv_event.specs.declared.reason.Reason.TheVariants.{Preserved}
-use Rattle.rv_cover.specs.Carries.{IsSplit}
-use Rattle.rv_cover.specs.Thinned.{Names, Lists, IsUnsplit}
-use Rattle.rv_hart.specs.Harts.{Hart, followed, IsOwnStore, IsReturned}
-use Rattle.rv_hart.specs.RuleLinks.{IsRuleLink, AreRuleLinks}
+use Rattle.rv_hart.specs.Harts.{Hart, followed, IsReturned}
+use Rattle.rv_hart.specs.RuleLinks.{AreRuleLinks}
 use Rattle.rv_hart.proofs.OfHart.{own_contains, contains_own, own-push, paired_to, paired_from, stale_to, stale_from}
-use Rattle.rv_versions.specs.Reserved.{IsPartner, IsReserved}
+use Rattle.rv_versions.specs.Reserved.{IsPartner}
 use Rattle.rv_edges.specs.Indexes.{hart_from}
 use Rattle.rv_edges.proofs.Listed.{Contains-none}
 

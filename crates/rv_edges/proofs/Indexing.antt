@@ -1,5 +1,5 @@
 -- What the indexes of a history say of its events.
-use Rattle.std.proofs.Common.{◌≡◌, ℕ, ◌≤◌, ◌<◌, List, [], ◌∷◌, ◌++◌, length, Contains, None, Option, Some, option_map, subst, sym, ap, ◌∙◌, slice_index_or, arith}
+use Rattle.std.proofs.Common.{◌≡◌, ℕ, ◌≤◌, List, length, None, subst, sym, ap, ◌∙◌, arith}
 use Rattle.std.proofs.lemmas.List.{length-map}
 use Rattle.rv_event.specs.Log.{events, of_hart}
 use Rattle.rv_event.specs.Faults.{event_fault}
@@ -10,7 +10,7 @@ use Rattle.rv_event.specs.declared.event.Entry.{Entry}
 use Rattle.rv_event.specs.declared.memory_model.MemoryModel.{MemoryModel}
 use Rattle.rv_hart.specs.Harts.{Hart, Follows}
 use Rattle.rv_hart.proofs.OfHart.{fault_own}
-use Rattle.rv_edges.specs.declared.history.OwnLinks.{OwnLinks}
+use Rattle.rv_edges.specs.OwnLinks.{OwnLinks}
 use Rattle.rv_edges.specs.Kept.{Past, kept_from, happened}
 use Rattle.rv_edges.specs.Indexes.{AreIndexes, hart_of, hart_from, hart_in}
 use Rattle.rv_edges.proofs.Carrying.{indexed_from_IsHistory}

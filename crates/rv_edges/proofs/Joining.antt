@@ -7,7 +7,7 @@ use Rattle.rv_event.specs.Log.{of_hart}
 use Rattle.rv_event.specs.Preserved.{Rule, IsPreserved}
 use Rattle.rv_event.specs.Edges.{IsEdge, IsLowest, HasReason}
 use Rattle.rv_event.specs.Faults.{event_fault}
-use Rattle.rv_event.proofs.Indexed.{Indexed, Sound, sound_of}
+use Rattle.rv_event.proofs.Indexed.{Indexed, sound_of}
 use Rattle.rv_event.proofs.Names.{named-is}
 use Rattle.rv_event.proofs.Settled.{edge-push}
 use Rattle.rv_event.specs.declared.event.Id.{Id}
@@ -17,13 +17,13 @@ use Rattle.rv_event.specs.declared.reason.Link.{Link}
 use Rattle.rv_event.specs.declared.reason.Reason.{Reason}
 use Rattle.rv_event.specs.declared.reason.Reason.TheVariants.{Preserved, Coherence, ReadsFrom, FromRead, AtomicIn, AtomicOut}
 use Rattle.rv_cover.specs.Paths.{AnyRule}
-use Rattle.rv_cover.specs.Carries.{IsSplit, Carries}
-use Rattle.rv_cover.specs.Thinned.{Names, Lists, IsUnsplit, IsNearest, IsNextLower, IsNextHigher}
+use Rattle.rv_cover.specs.Carries.{IsSplit}
+use Rattle.rv_cover.specs.Thinned.{Names, Lists, IsUnsplit, IsNearest}
 use Rattle.rv_hart.specs.Harts.{Hart, followed}
-use Rattle.rv_hart.specs.RuleLinks.{IsRuleLink, AreRuleLinks}
+use Rattle.rv_hart.specs.RuleLinks.{AreRuleLinks}
 use Rattle.rv_hart.proofs.OfHart.{own_contains, contains_own, rule_to, any_rule_to, any_rule_from, reaches_from, preserved_from, lowest_from}
 use Rattle.rv_versions.specs.VersionLinks.{IsOfVersions, AreVersionLinks}
-use Rattle.rv_edges.specs.Kept.{Kept, happened, grown, Joins, Ties}
+use Rattle.rv_edges.specs.Kept.{Kept, happened, grown}
 use Rattle.rv_edges.specs.Histories.{IsLinked}
 use Rattle.rv_edges.specs.Indexes.{hart_from}
 use Rattle.rv_edges.proofs.Harting.{known', own-new}

@@ -1,7 +1,9 @@
 pub mod Carrying
+pub mod Enough
 pub mod Harting
 pub mod Indexing
 pub mod Joining
 pub mod Listed
 pub mod Moving
+pub mod Owning
 pub mod Sides

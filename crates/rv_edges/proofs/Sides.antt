@@ -4,7 +4,7 @@ use Rattle.std.proofs.lemmas.Bool.{false≢true}
 use Rattle.std.specs.Option.{option_to_list}
 use Rattle.rv_event.proofs.Pushed.{split_push}
 use Rattle.rv_event.specs.declared.event.Event.{Event}
-use Rattle.rv_edges.specs.declared.history.OwnLinks.{OwnLinks}
+use Rattle.rv_edges.specs.OwnLinks.{OwnLinks}
 use Rattle.rv_edges.specs.Kept.{Kept, kept_from, happened}
 
 -- an entry with its links

@@ -4,7 +4,7 @@ use Rattle.rv_event.specs.Log.{of_hart}
 use Rattle.rv_event.specs.declared.event.Event.{Event}
 use Rattle.rv_event.specs.declared.memory_model.MemoryModel.{MemoryModel}
 use Rattle.rv_hart.specs.Harts.{Hart}
-use Rattle.rv_edges.specs.declared.history.OwnLinks.{OwnLinks}
+use Rattle.rv_edges.specs.OwnLinks.{OwnLinks}
 use Rattle.rv_edges.specs.Kept.{Past, kept_from, happened}
 use Rattle.rv_edges.specs.Histories.{IsHistory}
 

@@ -5,7 +5,7 @@ use Rattle.rv_event.specs.declared.event.Event.{Event}
 use Rattle.rv_event.specs.declared.memory_model.MemoryModel.{MemoryModel}
 use Rattle.rv_event.specs.declared.reason.Link.{Link}
 use Rattle.rv_event.specs.declared.reason.Reason.{Reason}
-use Rattle.rv_edges.specs.declared.history.OwnLinks.{OwnLinks}
+use Rattle.rv_edges.specs.OwnLinks.{OwnLinks}
 
 -- an event with links from events before it, and to events before it
 pub record Kept : Type 0 where

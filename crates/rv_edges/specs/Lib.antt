@@ -1,3 +1,4 @@
 pub mod Histories
 pub mod Indexes
 pub mod Kept
+pub mod OwnLinks

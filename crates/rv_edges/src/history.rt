@@ -16,7 +16,7 @@ ghost use Rattle.rv_edges.specs.Histories.{IsLinked, IsCarried, kept_of, HasOwnE
 ghost use Rattle.rv_edges.specs.Indexes.{hart_of, hart_in, IsHartIn};
 ghost use Rattle.std.specs.Option.{option_copied, option_map};
 
-use crate::links::Links;
+use crate::links::{KeptLinks, Links};
 use rv_event::{
     Context, Dep, Entry, Event, Fault, Id, Link, MemoryModel, NoMemory, find_deps_fault,
     first_fault, is_bad_dependency, lowest_rule,
@@ -40,13 +40,6 @@ pub struct Around {
     pub stale: Option<Id>,
 }
 
-/// The links of one event of a history.
-#[derive(Drop, Debug)]
-struct OwnLinks {
-    before: Links,
-    after: Links,
-}
-
 /// Events, each kept with links to the events before it.
 ///
 /// Contracts see it as its model and a list of events with their links. Its type keeps that each event has no fault over
@@ -57,7 +50,7 @@ pub struct History {
     model: MemoryModel,
     versions: Versions,
     harts: Vec<HartOrder>,
-    links: Vec<OwnLinks>,
+    links: KeptLinks,
 }
 
 impl Model for History {
@@ -66,9 +59,9 @@ impl Model for History {
 
     ghost Value = { Past };
 
-    ghost view = { λ h. record { model = h.model; kept = kept_from h.versions h.links.items } };
+    ghost view = { λ h. record { model = h.model; kept = kept_from h.versions h.links } };
 
-    ghost invariant = { λ h. AreIndexes h.model h.versions h.harts.items h.links.items };
+    ghost invariant = { λ h. AreIndexes h.model h.versions h.harts.items h.links };
 }
 
 impl History {
@@ -81,7 +74,7 @@ impl History {
             model,
             versions: Versions::new(alloc),
             harts: Vec::new(alloc),
-            links: Vec::new(alloc),
+            links: KeptLinks::new(alloc),
         }
     }
 
@@ -150,12 +143,8 @@ impl History {
         ensures nearest { IfOk result (λ a. IsNearest (happened self.now.kept) event.now a.before a.after) }
     {
         let reserved = self.reserved(event);
-        let mut before = self.rule_links(event)?;
-        let VersionLinks {
-            before: others,
-            after,
-        } = self.versions.around(event, reserved)?;
-        before.extend_from_slice(others.as_slice())?;
+        let rules = self.rule_links(event)?;
+        let VersionLinks { before, after } = self.versions.around(event, reserved, rules)?;
         Ok(Around {
             before: Links::from_vec(before),
             after: Links::from_vec(after),
@@ -184,21 +173,23 @@ impl History {
         ensures pushed { OnOk result (self.new ≡ record self.old { kept = self.old.kept ++ kept_of event.now around.now ∷ [] }) }
         ensures unchanged { OnErr result (self.new ≡ self.old) }
     {
-        let before = around.before.copy(self.alloc)?;
-        let after = around.after.copy(self.alloc)?;
         let returned = self.returned(event);
         let reserved = self.reserved(event);
         open_harts(self.alloc, self.model, &mut self.harts, event.id.hart)?;
-        self.links.reserve(1)?;
-        self.versions.push(event, reserved)?;
+        self.links
+            .push(around.before.as_slice(), around.after.as_slice())?;
+        if let Err(NoMemory) = self.versions.push(event, reserved) {
+            self.links.pop();
+            return Err(NoMemory);
+        }
         let Some(hart) = self.harts.get_mut(event.id.hart as usize) else {
             unreachable!()
         };
-        if let Err(NoMemory) = hart.push(event, returned) {
+        if let Err(NoMemory) = hart.push(event, returned, around.before.as_slice()) {
             self.versions.pop();
+            self.links.pop();
             return Err(NoMemory);
         }
-        self.links.push_reserved(OwnLinks { before, after });
         Ok(())
     }
 

@@ -1,8 +1,9 @@
 //! Lists of links.
-ghost use Rattle.std.specs.Prelude.{◌≡◌, IfOk};
+ghost use Rattle.std.specs.Prelude.{◌≡◌, ◌≢◌, ◌++◌, ◌∷◌, [], IfOk, OnOk, OnErr};
+ghost use Rattle.rv_edges.specs.OwnLinks.{OwnLinks};
 
 use rv_event::{Link, NoMemory};
-use std::alloc::Global;
+use std::alloc::{AllocError, Global};
 use std::marker::Model;
 
 /// Links, seen by contracts as their list.
@@ -34,16 +35,75 @@ impl Links {
     {
         self.items.as_slice()
     }
+}
 
-    /// Equal links.
+/// How many links an event has on each side.
+#[derive(Clone, Copy, Debug)]
+pub struct Sides {
+    /// From events before it.
+    pub before: usize,
+    /// To events before it.
+    pub after: usize,
+}
+
+/// The links of each event of a history: all in one list, and for each event how many there are of it.
+#[derive(Drop)]
+pub struct KeptLinks {
+    links: Vec<Link>,
+    sides: Vec<Sides>,
+}
+
+impl Model for KeptLinks {
+    ghost use Rattle.std.specs.Prelude.{◌≡◌, List, length};
+    ghost use Rattle.rv_edges.specs.OwnLinks.{OwnLinks, own_from, total};
+
+    ghost Value = { List OwnLinks };
+
+    ghost view = { λ k. own_from k.links.items k.sides.items };
+
+    ghost invariant = { λ k. total k.sides.items ≡ length k.links.items };
+}
+
+impl KeptLinks {
+    /// Those of no events. It takes no memory.
+    pub fn new(alloc: Global) -> KeptLinks
+        ensures { result ≡ [] }
+    {
+        KeptLinks {
+            links: Vec::new(alloc),
+            sides: Vec::new(alloc),
+        }
+    }
+
+    /// Adds those of one event more.
     ///
     /// # Errors
-    /// `NoMemory` where the list could not be had; the links stay as they are.
-    pub fn copy(&self, alloc: Global) -> Result<Links, NoMemory>
-        ensures { IfOk result (λ l. l ≡ self.now) }
+    /// `NoMemory` where a list could not grow; nothing changes.
+    pub fn push(&mut self, before: &[Link], after: &[Link]) -> Result<(), NoMemory>
+        ensures pushed { OnOk result (self.new ≡ self.old ++ record { before = before.now; after = after.now } ∷ []) }
+        ensures unchanged { OnErr result (self.new ≡ self.old) }
     {
-        Ok(Links {
-            items: Vec::from_slice(alloc, self.items.as_slice())?,
-        })
+        self.sides.reserve(1)?;
+        self.links.extend_from_slice(before)?;
+        if let Err(AllocError) = self.links.extend_from_slice(after) {
+            self.links.truncate(self.links.len() - before.len());
+            return Err(NoMemory);
+        }
+        self.sides.push_reserved(Sides {
+            before: before.len(),
+            after: after.len(),
+        });
+        Ok(())
+    }
+
+    /// Takes those of the last event off. It takes no memory.
+    pub fn pop(&mut self)
+        requires { self.old ≢ [] }
+        ensures { (own : OwnLinks) × (self.old ≡ self.new ++ own ∷ []) }
+    {
+        if let Some(last) = self.sides.pop() {
+            let left = self.links.len() - last.before - last.after;
+            self.links.truncate(left);
+        }
     }
 }

@@ -1,47 +1,61 @@
 -- What is kept, with one more event and with one less.
-use Rattle.std.proofs.Common.{◌≡◌, ◌≢◌, ℕ, suc, ◌+◌, ◌-◌, ◌<◌, ◌↔◌, List, [], ◌∷◌, ◌++◌, length, get_or, take, Contains, All, sym, refl, ap, ◌∙◌, arith, subst, drop, take-append-drop, drop-cons, append_assoc, length-append}
+use Rattle.std.proofs.Common.{◌≡◌, ◌≢◌, ℕ, suc, ◌+◌, ◌-◌, ◌<◌, ◌≤◌, ◌↔◌, List, [], ◌∷◌, ◌++◌, length, get_or, take, Contains, All, sym, refl, ap, ◌∙◌, arith, subst, drop, take-append-drop, drop-cons, append_assoc, length-append}
 use Rattle.std.proofs.lemmas.List.{length_push, take_at}
 use Rattle.std.proofs.lemmas.List.Elements.{Contains-get_or, Contains-append_left}
 use Rattle.rv_event.specs.declared.event.Event.{Event}
 use Rattle.rv_event.specs.declared.memory_model.MemoryModel.{MemoryModel}
-use Rattle.rv_rows.specs.Bits.{Has}
+use Rattle.rv_rows.specs.Bits.{Has, has_bit}
 use Rattle.rv_hart.specs.Harts.{Hart, IsHart, Follows, hart_with}
 use Rattle.rv_hart.specs.Kept.{hart_of, IsKept}
 use Rattle.rv_hart.specs.Rows.{IsBefore, RowsMean}
 use Rattle.rv_hart.specs.Sets.{AreSets}
 use Rattle.rv_hart.specs.Words.{AreWords}
 use Rattle.rv_hart.specs.declared.kept.Kept.{Kept}
-use Rattle.rv_hart.proofs.Knowing.{Known, fits_of, Fits, hart-push, hart-front, hart-last, deps-few}
+use Rattle.rv_hart.proofs.Knowing.{Known, known_with, fits_of, Fits, hart-push, hart-front, hart-last, deps-few}
 use Rattle.rv_rows.specs.Closure.{RowHas}
 use Rattle.rv_hart.proofs.Tying.{rows-push, rows-front, none_has}
 
 -- what is kept of a hart, put together
-pub kept_from : (k : Kept) (h : Hart) → hart_of k ≡ h → IsHart h → RowsMean h k.rows.items → length k.rows.items ≡ length h.events → AreSets h k.sets → AreWords h.events k.words → IsKept k
+pub kept_from : (k : Kept) (h : Hart) → hart_of k ≡ h → IsHart h → RowsMean h k.rows → length k.rows ≡ length h.events → AreSets h k.sets → AreWords h.events k.words → IsKept k
 kept_from k h is hart rows count sets words = record {
   hart = subst IsHart (sym is) hart;
-  rows = subst (λ (x : Hart). RowsMean x k.rows.items) (sym is) rows;
-  count = subst (λ (x : Hart). length k.rows.items ≡ length x.events) (sym is) count;
+  rows = subst (λ (x : Hart). RowsMean x k.rows) (sym is) rows;
+  count = subst (λ (x : Hart). length k.rows ≡ length x.events) (sym is) count;
   sets = subst (λ (x : Hart). AreSets x k.sets) (sym is) sets;
   words = subst (λ (x : Hart). AreWords x.events k.words) (sym is) words;
 }
 
 -- the same events and rows
-pub kept-same : (k k' : Kept) → IsKept k → hart_of k' ≡ hart_of k → k'.rows.items ≡ k.rows.items → k'.sets ≡ k.sets → AreWords k.events.items k'.words → IsKept k'
+pub kept-same : (k k' : Kept) → IsKept k → hart_of k' ≡ hart_of k → k'.rows ≡ k.rows → k'.sets ≡ k.sets → AreWords k.events.items k'.words → IsKept k'
 kept-same k k' kept is rows sets words =
     kept_from k' (hart_of k) is kept.hart (subst (RowsMean (hart_of k)) (sym rows) kept.rows) (ap (λ (rs : List (List ℕ)). length rs) rows ∙ kept.count) (subst (AreSets (hart_of k)) (sym sets) kept.sets) words
 
 -- one event more
-pub kept-pushed : (k k' : Kept) (e : Event) (row : List ℕ) → IsKept k → Follows (hart_of k) e → hart_of k' ≡ hart_with (hart_of k) e → k'.rows.items ≡ k.rows.items ++ row ∷ [] →
+pub kept-pushed : (k k' : Kept) (e : Event) (row : List ℕ) → IsKept k → Follows (hart_of k) e → hart_of k' ≡ hart_with (hart_of k) e → k'.rows ≡ k.rows ++ row ∷ [] →
     ((s : ℕ) → Has row s ↔ IsBefore (hart_with (hart_of k) e) s e.id.seq) → AreSets (hart_with (hart_of k) e) k'.sets → AreWords (k.events.items ++ e ∷ []) k'.words → IsKept k'
 kept-pushed k k' e row kept follows is rows mean sets words =
     kept_from k' (hart_with (hart_of k) e) is (hart-push (hart_of k) e kept.hart follows)
-    (subst (RowsMean (hart_with (hart_of k) e)) (sym rows) (rows-push (hart_of k) e (fits_of (hart_of k) e kept.hart follows) k.rows.items row kept.count kept.rows mean))
-    (ap (λ (rs : List (List ℕ)). length rs) rows ∙ length_push k.rows.items row ∙ ap (λ (n : ℕ). n + 1) kept.count ∙ sym (length_push k.events.items e))
+    (subst (RowsMean (hart_with (hart_of k) e)) (sym rows) (rows-push (hart_of k) e (fits_of (hart_of k) e kept.hart follows) k.rows row kept.count kept.rows mean))
+    (ap (λ (rs : List (List ℕ)). length rs) rows ∙ length_push k.rows row ∙ ap (λ (n : ℕ). n + 1) kept.count ∙ sym (length_push k.events.items e))
     sets words
 
+-- the numbers of the new event's row are at most its own
+pub row-low : (h : Hart) (e : Event) (f : Fits h e) (rows : List (List ℕ)) (row : List ℕ) → length rows ≡ length h.events →
+    ((s : ℕ) → Has row s ↔ IsBefore (hart_with h e) s e.id.seq) → (j : ℕ) → Has row j → j ≤ length rows
+row-low h e f rows row count mean j x =
+    let b = (mean j).0 x in
+    let low = (known_with h e f).below b.a b.a_of_hart in
+    let at = b.a_at in
+    omega (arith, length_push h.events e)
+
+-- a row with the same numbers means the same
+pub means-same : (h : Hart) (j : ℕ) (row last : List ℕ) → ((s : ℕ) → has_bit last s ≡ has_bit row s) →
+    ((s : ℕ) → Has row s ↔ IsBefore h s j) → (s : ℕ) → Has last s ↔ IsBefore h s j
+means-same h j row last same mean s = (λ x. (mean s).0 (sym (same s) ∙ x), λ b. same s ∙ (mean s).1 b)
+
 -- one event less
-pub kept-popped : (k k' : Kept) (front : List Event) (e : Event) (before : List (List ℕ)) (row : List ℕ) → IsKept k → k.events.items ≡ front ++ e ∷ [] → k.rows.items ≡ before ++ row ∷ [] →
-    hart_of k' ≡ record { model = k.model; number = k.number; events = front } → k'.rows.items ≡ before → AreSets (record { model = k.model; number = k.number; events = front }) k'.sets → AreWords front k'.words → IsKept k'
+pub kept-popped : (k k' : Kept) (front : List Event) (e : Event) (before : List (List ℕ)) (row : List ℕ) → IsKept k → k.events.items ≡ front ++ e ∷ [] → k.rows ≡ before ++ row ∷ [] →
+    hart_of k' ≡ record { model = k.model; number = k.number; events = front } → k'.rows ≡ before → AreSets (record { model = k.model; number = k.number; events = front }) k'.sets → AreWords front k'.words → IsKept k'
 kept-popped k k' front e before row kept events rows is rows' sets words =
     kept_from k' h is (hart-front (hart_of k) front e kept.hart events)
     (subst (RowsMean h) (sym rows') (rows-front h e fits before row count mean))
@@ -57,7 +71,7 @@ kept-popped k k' front e before row kept events rows is rows' sets words =
     count = omega (arith, kept.count, ap (λ (rs : List (List ℕ)). length rs) rows, ap (λ (es : List Event). length es) events, length_push before row, length_push front e)
 
     mean : RowsMean (hart_with (record { model = k.model; number = k.number; events = front }) e) (before ++ row ∷ [])
-    mean = subst (RowsMean (hart_with (record { model = k.model; number = k.number; events = front }) e)) rows (subst (λ (es : List Event). RowsMean (record { model = k.model; number = k.number; events = es }) k.rows.items) events kept.rows)
+    mean = subst (RowsMean (hart_with (record { model = k.model; number = k.number; events = front }) e)) rows (subst (λ (es : List Event). RowsMean (record { model = k.model; number = k.number; events = es }) k.rows) events kept.rows)
 
 -- a list that is not empty has a last element
 pub split_last : {X : Type 0} (xs : List X) → 0 < length xs → (front : List X) × (x : X) × (xs ≡ front ++ x ∷ [])

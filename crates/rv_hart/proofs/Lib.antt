@@ -12,3 +12,4 @@ pub mod Walking
 pub mod Wording
 pub mod OfHart
 pub mod Reserving
+pub mod FromLinks

@@ -22,13 +22,13 @@ use Rattle.rv_hart.specs.Rows.{IsBefore, RowsMean, IsCandidate, IsEnough}
 use Rattle.rv_hart.proofs.Knowing.{Known, Fits, known_with, same_event, earlier_old, old_new}
 
 -- the last rule of a path
-record LastStep (model : MemoryModel) (log : List Event) (a b : Event) : Type 0 where
+pub record LastStep (model : MemoryModel) (log : List Event) (a b : Event) : Type 0 where
   pub c : Event
   pub leads : (a ≡ c) ⊎ Reaches model log a c
   pub last : AnyRule model log c b
 
 module _ (model : MemoryModel) (log : List Event) where
-  abbrev Leads : Event → Event → Type 0
+  abbrev pub Leads : Event → Event → Type 0
   Leads a b = (a ≡ b) ⊎ Reaches model log a b
 
   step_on : (a m b : Event) → AnyRule model log a m → LastStep model log m b → LastStep model log a b
@@ -38,7 +38,7 @@ module _ (model : MemoryModel) (log : List Event) where
       joined (inl is) = inr (subst (λ (x : Event). Reaches model log a x) is (one s))
       joined (inr q) = inr (more s q)
 
-  last_step : (a b : Event) → Reaches model log a b → LastStep model log a b
+  pub last_step : (a b : Event) → Reaches model log a b → LastStep model log a b
   last_step a b (one s) = record { c = a; leads = inl refl; last = s }
   last_step a b (more {j = m} s p) = step_on a m b s (last_step m b p)
 
@@ -46,7 +46,7 @@ module _ (model : MemoryModel) (log : List Event) where
   reaches-from a b (one s) = s.1.from
   reaches-from a b (more {j = m} s p) = s.1.from
 
-  leads-append : (a b c : Event) → Leads a b → Leads b c → Leads a c
+  pub leads-append : (a b c : Event) → Leads a b → Leads b c → Leads a c
   leads-append a b c (inl p) q = subst (λ (x : Event). Leads x c) (sym p) q
   leads-append a b c (inr p) (inl q) = inr (subst (λ (x : Event). Reaches model log a x) q p)
   leads-append a b c (inr p) (inr q) = inr (path-append Event (AnyRule model log) a b c p q)
@@ -60,7 +60,7 @@ module _ (model : MemoryModel) (log : List Event) where
   leads-hart a b (inr p) = sym (reaches-earlier model log a b p).hart
 
   -- what leads to an event and a rule from it lead on
-  leads-rule : (a b c : Event) → Leads a b → AnyRule model log b c → Reaches model log a c
+  pub leads-rule : (a b c : Event) → Leads a b → AnyRule model log b c → Reaches model log a c
   leads-rule a b c (inl p) q = subst (λ (x : Event). Reaches model log x c) (sym p) (one q)
   leads-rule a b c (inr p) q = path-append Event (AnyRule model log) a b c p (one q)
 
@@ -127,11 +127,11 @@ module _ (h : Hart) (e : Event) (f : Fits h e) where
   pub rule-old : (k : ℕ) (a : Event) → Rule h.model new k a e → Contains log a
   rule-old k a r = earlier_old h e f a r.from r.earlier
 
-  leads-grows : (a b : Event) → Leads h.model log a b → Leads h.model new a b
+  pub leads-grows : (a b : Event) → Leads h.model log a b → Leads h.model new a b
   leads-grows a b (inl p) = inl p
   leads-grows a b (inr p) = inr (reaches-grows a b p)
 
-  leads-settled : (a b : Event) → Contains log b → Leads h.model new a b → Leads h.model log a b × Contains log a
+  pub leads-settled : (a b : Event) → Contains log b → Leads h.model new a b → Leads h.model log a b × Contains log a
   leads-settled a b cb (inl p) = (inl p, subst (Contains log) (sym p) cb)
   leads-settled a b cb (inr p) = let q = reaches-settled a b cb p in (inr q, reaches-from h.model log a b q)
 
@@ -188,11 +188,11 @@ module _ (h : Hart) (e : Event) (f : Fits h e) where
           (λ x. absurd (none_has s x), λ x. (let low = f.known.below x.b x.b_of_hart in let b = x.b_at in absurd (omega arith)))
 
   -- the new event is the only one of its number
-  end_is : (b : Event) → Contains new b → b.id.seq ≡ e.id.seq → b ≡ e
+  pub end_is : (b : Event) → Contains new b → b.id.seq ≡ e.id.seq → b ≡ e
   end_is b cb at = same_event (hart_with h e) known' b e cb (Contains-push log e) at
 
-  module _ (rows : List (List ℕ)) (candidates listed reach : List ℕ) (memory : IsMemory e) (mean : RowsMean h rows)
-      (enough : IsEnough h e candidates) (thinned : IsThinned rows candidates listed reach) where
+  module _ (rows : List (List ℕ)) (candidates listed : List ℕ) (memory : IsMemory e) (mean : RowsMean h rows)
+      (enough : IsEnough h e candidates) (thinned : IsThinned rows candidates listed) where
     pub only : (s : ℕ) → Contains listed s → IsCandidate h e s
     only s l = enough.sound s (thinned.only s l)
 
@@ -203,7 +203,7 @@ module _ (h : Hart) (e : Event) (f : Fits h e) where
         let t = thinned.each g.c.id.seq g.has in
         let m = (mean t.b g.c.id.seq).0 t.has in
         let first : g.c ≡ m.a = same_event h f.known g.c m.a g.of_hart m.a_of_hart (sym m.a_at) in
-        (m.b, m.b_of_hart, leads-append h.model log a g.c m.b g.leads (subst (λ (x : Event). Leads h.model log x m.b) (sym first) m.leads), subst (Contains listed) (sym m.b_at) t.is_listed)
+        (m.b, m.b_of_hart, leads-append h.model log a g.c m.b g.leads (subst (λ (x : Event). Leads h.model log x m.b) (sym first) m.leads), subst (Contains listed) (sym m.b_at) t.is_taken)
 
     into : (b : Event) → Contains log b → Contains listed b.id.seq → AnyRule h.model new b e
     into b cb l =
@@ -234,34 +234,34 @@ module _ (h : Hart) (e : Event) (f : Fits h e) where
     row-leads : (s : ℕ) → IsReached rows listed s → IsBefore (hart_with h e) s e.id.seq
     row-leads s l =
         let m = (mean l.b s).0 l.has in
-        let cand = only l.b l.is_listed in
+        let cand = only l.b l.is_taken in
         let last : cand.1.a ≡ m.b = same_event h f.known cand.1.a m.b cand.1.of_hart m.b_of_hart (cand.1.at ∙ sym m.b_at) in
         let rule : Rule h.model new cand.0 m.b e = subst (λ (x : Event). Rule h.model new cand.0 x e) last cand.1.rule in
         record { a = m.a; b = e; a_of_hart = old_new h e m.a m.a_of_hart; b_of_hart = Contains-push log e; a_at = m.a_at; b_at = refl; memory = memory; leads = inr (leads-rule h.model new m.a m.b e (leads-grows m.a m.b m.leads) (cand.0, rule)) }
 
-    row-from : (s : ℕ) (a : Event) → a.id.seq ≡ s → LastStep h.model new a e → Has reach s
+    row-from : (s : ℕ) (a : Event) → a.id.seq ≡ s → LastStep h.model new a e → IsReached rows listed s
     row-from s a at l =
         let c : Event = l.c in
         let cc : Contains log c = rule-old l.last.0 c l.last.1 in
         let g = goes l.last.0 c l.last.1 in
         let old = leads-settled a c cc l.leads in
         let leads : Leads h.model log a g.0 = leads-append h.model log a c g.0 old.0 g.2 in
-        (thinned.reaches s).1 (record { b = g.0.id.seq; is_listed = g.3; has = (mean g.0.id.seq s).1 (record { a = a; b = g.0; a_of_hart = old.1; b_of_hart = g.1; a_at = at; b_at = refl; memory = (into g.0 g.1 g.3).1.from_memory; leads = leads }) })
+        record { b = g.0.id.seq; is_taken = g.3; has = (mean g.0.id.seq s).1 (record { a = a; b = g.0; a_of_hart = old.1; b_of_hart = g.1; a_at = at; b_at = refl; memory = (into g.0 g.1 g.3).1.from_memory; leads = leads }) }
 
     -- what the sweep reached, with the event itself, is the row of the new event
-    pub row_is : (s : ℕ) → (Has reach s ⊎ (s ≡ e.id.seq)) ↔ IsBefore (hart_with h e) s e.id.seq
+    pub row_is : (s : ℕ) → (IsReached rows listed s ⊎ (s ≡ e.id.seq)) ↔ IsBefore (hart_with h e) s e.id.seq
     row_is s = (to, from)
       where
-        to : Has reach s ⊎ (s ≡ e.id.seq) → IsBefore (hart_with h e) s e.id.seq
-        to (inl r) = row-leads s ((thinned.reaches s).0 r)
+        to : IsReached rows listed s ⊎ (s ≡ e.id.seq) → IsBefore (hart_with h e) s e.id.seq
+        to (inl r) = row-leads s r
         to (inr is) = record { a = e; b = e; a_of_hart = Contains-push log e; b_of_hart = Contains-push log e; a_at = sym is; b_at = refl; memory = memory; leads = inl refl }
 
-        from : IsBefore (hart_with h e) s e.id.seq → Has reach s ⊎ (s ≡ e.id.seq)
+        from : IsBefore (hart_with h e) s e.id.seq → IsReached rows listed s ⊎ (s ≡ e.id.seq)
         from x = go x.leads
           where
             end : x.b ≡ e
             end = end_is x.b x.b_of_hart x.b_at
 
-            go : Leads h.model new x.a x.b → Has reach s ⊎ (s ≡ e.id.seq)
+            go : Leads h.model new x.a x.b → IsReached rows listed s ⊎ (s ≡ e.id.seq)
             go (inl same) = inr (sym x.a_at ∙ ap (λ (y : Event). y.id.seq) (same ∙ end))
             go (inr p) = inl (row-from s x.a x.a_at (last_step h.model new x.a e (subst (λ (y : Event). Reaches h.model new x.a y) end p)))

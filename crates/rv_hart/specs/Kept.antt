@@ -18,8 +18,8 @@ hart_of k = record { model = k.model; number = k.number; events = k.events.items
 -- rows, sets and words are those of the hart's events
 pub record IsKept (k : Kept) : Type 0 where
   pub hart : IsHart (hart_of k)
-  pub rows : RowsMean (hart_of k) k.rows.items
-  pub count : length k.rows.items ≡ length k.events.items
+  pub rows : RowsMean (hart_of k) k.rows
+  pub count : length k.rows ≡ length k.events.items
   pub sets : AreSets (hart_of k) k.sets
   pub words : AreWords k.events.items k.words
 

@@ -5,3 +5,4 @@ pub mod Words
 pub mod Kept
 pub mod RuleRows
 pub mod RuleLinks
+pub mod Linked

@@ -24,3 +24,12 @@ pub record AreRuleLinks (h : Hart) (e : Event) (links : List Link) : Type 0 wher
       (k : ℕ) (a : Event) → Contains h.events a → Rule h.model (followed h e) k a e →
       Names links a.id ⊎ IsSplit h.model h.events (followed h e) (Preserved k) a e
   pub unsplit : IsUnsplit h.model h.events e links
+
+-- Each link that names a rule is such a rule. Each event that a rule orders before the new one is linked, for whatever
+-- reason, or another splits the rule.
+pub record AreEnoughLinks (h : Hart) (e : Event) (links : List Link) : Type 0 where
+  pub rules :
+      (l : Link) (k : ℕ) → Contains links l → l.reason ≡ Preserved k → IsPreserved h.model (followed h e) k l.id e.id
+  pub carried :
+      (k : ℕ) (a : Event) → Contains h.events a → Rule h.model (followed h e) k a e →
+      Names links a.id ⊎ IsSplit h.model h.events (followed h e) (Preserved k) a e

@@ -4,9 +4,8 @@ use Rattle.rv_event.specs.Operations.{IsMemory}
 use Rattle.rv_event.specs.Preserved.{Condition, Rule}
 use Rattle.rv_event.specs.declared.event.Event.{Event}
 use Rattle.rv_rows.specs.Bits.{Has}
-use Rattle.rv_rows.specs.Closure.{IsThinned}
 use Rattle.rv_hart.specs.Harts.{Hart, followed}
-use Rattle.rv_hart.specs.Rows.{IsOrderedBy, IsGenerated, IsEnough}
+use Rattle.rv_hart.specs.Rows.{IsOrderedBy, IsGenerated}
 
 -- the row has the events that the rule orders before the new one, and no others
 abbrev pub RuleRowIs : Hart → Event → ℕ → List ℕ → Type 0
@@ -34,9 +33,3 @@ ConditionOf h e k a = Condition h.model (followed h e) a e k
 pub record IsLowestRule (h : Hart) (e : Event) (s k : ℕ) : Type 0 where
   pub ordered : IsOrderedBy h e k s
   pub lowest : (j : ℕ) → j < k → IsOrderedBy h e j s → ⊥
-
--- a sweep over enough candidates
-pub record IsSwept (h : Hart) (e : Event) (rows : List (List ℕ)) (listed reach : List ℕ) : Type 0 where
-  pub candidates : List ℕ
-  pub enough : IsEnough h e candidates
-  pub thinned : IsThinned rows candidates listed reach

@@ -5,7 +5,7 @@ ghost use Rattle.rv_event.specs.Faults.{is_reserved};
 ghost use Rattle.rv_event.specs.declared.event.Event.{Event};
 ghost use Rattle.rv_hart.specs.Harts.{Hart, Follows, IsHart, IsReturned, followed, hart_with};
 ghost use Rattle.rv_hart.specs.Kept.{IsPartner, IsStaleBy};
-ghost use Rattle.rv_hart.specs.RuleLinks.{AreRuleLinks};
+ghost use Rattle.rv_hart.specs.RuleLinks.{AreRuleLinks, AreEnoughLinks};
 
 use crate::kept::Kept;
 use rv_event::{Event, Id, Link, MemoryModel, NoMemory};
@@ -15,7 +15,8 @@ use std::marker::Model;
 /// The events of one hart, with what the rules of preserved program order ask of them at the next event (manual,
 /// section 14.1, "Preserved Program Order").
 ///
-/// Contracts see the memory model, the hart's number and its events. Each event takes some 550 bytes beside itself.
+/// Contracts see the memory model, the hart's number and its events. Event n takes n / 8 bytes and some 50 more beside
+/// itself.
 #[derive(Drop)]
 pub struct HartOrder {
     kept: Kept,
@@ -56,8 +57,9 @@ impl HartOrder {
     ///
     /// `returned` is the number of the hart's own store that the event, a load, returns, where there is one.
     ///
-    /// It costs some passes over 512 bytes for the event and for each link, and a step for each operation of its
-    /// word back to the hart's last store of it; loads of one version in a row cost one step together.
+    /// It costs some passes over 512 bytes for the event, one over n / 8 bytes for a link from event n, and a step for
+    /// each operation of its word back to the hart's last store of it; loads of one version in a row cost one step
+    /// together.
     ///
     /// # Errors
     /// `NoMemory` where the list could not be had.
@@ -69,17 +71,27 @@ impl HartOrder {
         self.kept.before(event, returned)
     }
 
-    /// Adds the event. It costs what `before` costs, without a link's lowest rule.
+    /// Adds the event. `links` are links into it, those of other harts and of other reasons among them; each earlier
+    /// event that a rule orders before it has one, or stands before another that has one.
+    ///
+    /// It costs some passes over 512 bytes for the event and one over n / 8 bytes for a link from event n that names a
+    /// rule, and what `before` costs more where a link of the hart names no rule, and no other link leads to its event.
     ///
     /// # Errors
     /// `NoMemory` where it could not be kept; the hart stays as it is.
-    pub fn push(&mut self, event: &Event, returned: Option<u32>) -> Result<(), NoMemory>
+    pub fn push(
+        &mut self,
+        event: &Event,
+        returned: Option<u32>,
+        links: &[Link],
+    ) -> Result<(), NoMemory>
         requires follows { Follows self.old event.now }
         requires returned { IsReturned self.old event.now returned }
+        requires linked { AreEnoughLinks self.old event.now links.now }
         ensures pushed { OnOk result (self.new ≡ hart_with self.old event.now) }
         ensures unchanged { OnErr result (self.new ≡ self.old) }
     {
-        self.kept.push(event, returned)
+        self.kept.push(event, returned, links)
     }
 
     /// Takes the last event off. It takes no memory, and costs a few steps for each event that is left.

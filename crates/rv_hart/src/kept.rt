@@ -5,11 +5,12 @@ ghost use Rattle.rv_event.specs.Faults.{is_reserved};
 ghost use Rattle.rv_event.specs.declared.event.Event.{Event};
 ghost use Rattle.rv_hart.specs.Harts.{Follows, IsReturned, hart_with};
 ghost use Rattle.rv_hart.specs.Kept.{hart_of, IsKept, IsPartner, IsStaleBy};
+ghost use Rattle.rv_hart.specs.RuleLinks.{AreEnoughLinks};
 
 use crate::sets::{Sets, sets_of};
 use crate::words::Words;
-use rv_event::{Event, Id, MemoryModel, NoMemory, Op};
-use rv_rows::Row;
+use rv_event::{Event, Id, Link, MemoryModel, NoMemory, Op};
+use rv_rows::{Row, Rows};
 use std::alloc::Global;
 
 /// The events of a hart, with the rows and the words of them. Contracts see the fields.
@@ -24,7 +25,7 @@ pub struct Kept {
     /// The events, in program order.
     pub events: Vec<Event>,
     /// For each event that is a memory operation itself and the events from which rules lead to it, else nothing.
-    pub rows: Vec<Row>,
+    pub rows: Rows,
     /// What a later event asks of the events so far.
     pub sets: Sets,
     /// The memory operations of each word.
@@ -42,32 +43,41 @@ impl Kept {
             model,
             number,
             events: Vec::new(alloc),
-            rows: Vec::new(alloc),
+            rows: Rows::new(alloc),
             sets: Sets::new(),
             words: Words::new(alloc),
         }
     }
 
-    /// Adds the event.
+    /// Adds the event, by the links into it.
     ///
     /// # Errors
     /// `NoMemory` where it could not be kept; the events stay as they are.
-    pub fn push(&mut self, event: &Event, returned: Option<u32>) -> Result<(), NoMemory>
+    pub fn push(
+        &mut self,
+        event: &Event,
+        returned: Option<u32>,
+        links: &[Link],
+    ) -> Result<(), NoMemory>
         requires kept { IsKept self.old }
         requires follows { Follows (hart_of self.old) event.now }
         requires returned { IsReturned (hart_of self.old) event.now returned }
+        requires linked { AreEnoughLinks (hart_of self.old) event.now links.now }
         ensures kept { IsKept self.new }
         ensures pushed { OnOk result (hart_of self.new ≡ hart_with (hart_of self.old) event.now) }
         ensures unchanged { OnErr result (hart_of self.new ≡ hart_of self.old) }
     {
-        let row = self.row_of(event, returned)?;
+        let mut row = Row::new();
+        self.fill_row(event, returned, links, &mut row);
         let copy = event.copy(self.alloc)?;
         self.events.reserve(1)?;
-        self.rows.reserve(1)?;
-        self.words.push(self.events.as_slice(), event)?;
+        self.rows.push(&row)?;
+        if let Err(error) = self.words.push(self.events.as_slice(), event) {
+            self.rows.pop();
+            return Err(error);
+        }
         self.sets.absorb(self.model, event);
         self.events.push_reserved(copy);
-        self.rows.push_reserved(row);
         Ok(())
     }
 

@@ -10,20 +10,23 @@
 //! - [`sets`]: rows of the events by what a rule asks of them (loads, acquires, what a fence orders); they grow
 //!   with the events. [`words`]: each word's operations, linked from the last one back.
 //! - [`rules`], [`walks`]: one row of candidates, to which each rule adds the events that it orders before the next
-//!   one. [`links`]: the candidates thinned, and the next event's links and row. [`lowest`]: the lowest rule of each
-//!   event that is left, by a test for each rule. [`rows`]: small steps on rows.
-//! - `specs/`: a hart and what may follow (`Harts`), its links (`RuleLinks`), what rows mean (`Rows`, `RuleRows`),
-//!   what the sets and the words mean (`Sets`, `Words`), and what is kept (`Kept`).
+//!   one. [`links`]: the candidates thinned, and the next event's links. [`lowest`]: the lowest rule of each event that
+//!   is left, by a test for each rule. [`linked`]: the next event's row, from the links into it. [`rows`]: small steps
+//!   on rows.
+//! - `specs/`: a hart and what may follow (`Harts`), its links (`RuleLinks`), what rows mean (`Rows`, `RuleRows`,
+//!   `Linked`), what the sets and the words mean (`Sets`, `Words`), and what is kept (`Kept`).
 //! - `proofs/OfHart`, `proofs/Reserving`: rules, pairs, stale pairs, faults and reservations are the same among a
 //!   hart's events as in the whole log.
 //!
 //! It stands on `rv_event`, on the rows of `rv_rows` and on the definitions of `rv_cover`. Its one contract to the
 //! others: each link is a rule under its lowest number, and each event that a rule orders before the new one is
-//! linked, or another event splits the rule.
+//! linked, or another event splits the rule. An event is then added by its links, to which those of other reasons and
+//! of other harts may have been put.
 #![tactic(auto)]
 
 mod hart;
 mod kept;
+mod linked;
 mod links;
 mod lowest;
 mod rows;

@@ -1,15 +1,15 @@
-//! The links of a hart's next event, each with its lowest rule, and the event's row: candidates and the sweep.
-ghost use Rattle.std.specs.Prelude.{ℕ, ◌↔◌, IfOk};
+//! The links of a hart's next event, each with its lowest rule, and its row where links do not say it: candidates and
+//! the sweep.
+ghost use Rattle.std.specs.Prelude.{ℕ, ◌↔◌, ◌⊎◌, IfOk};
 ghost use Rattle.rv_rows.specs.Bits.{Has};
 ghost use Rattle.rv_hart.specs.Harts.{Follows, IsReturned, hart_with};
 ghost use Rattle.rv_hart.specs.Kept.{hart_of, IsKept, IsAsked};
 ghost use Rattle.rv_hart.specs.Rows.{IsBefore};
 ghost use Rattle.rv_hart.specs.RuleLinks.{AreRuleLinks};
-ghost use Rattle.rv_hart.specs.RuleRows.{RuleRowIs, IsSwept};
 
 use crate::kept::Kept;
 use rv_event::{Event, Id, Link, NoMemory, Reason};
-use rv_rows::{Row, Thinned, thin};
+use rv_rows::{Row, take_highest};
 
 impl Kept {
     /// The links of the hart's next event. What is no memory operation has none.
@@ -26,14 +26,18 @@ impl Kept {
         if !event.is_memory() {
             return Ok(links);
         }
-        let reads = self.different_reads(event);
-        let swept = self.sweep(event, returned, &reads)?;
-        for number in &swept.listed {
-            let rule = self.lowest_rule(event, returned, &reads, *number);
+        let mut reads = Row::new();
+        self.fill_different_reads(event, &mut reads);
+        let mut left = Row::new();
+        self.fill_candidates(event, returned, &reads, &mut left);
+        let mut top = self.rows.len();
+        'taken: while let Some(number) = take_highest(&mut left, &self.rows, top) {
+            top = number;
+            let rule = self.lowest_rule(event, returned, &reads, number);
             links.push(Link {
                 id: Id {
                     hart: self.number,
-                    seq: *number as u32,
+                    seq: number as u32,
                 },
                 reason: Reason::Preserved(rule),
             })?;
@@ -41,35 +45,22 @@ impl Kept {
         Ok(links)
     }
 
-    /// The row of the hart's next event: it and the events from which rules lead to it, where it is a memory
-    /// operation.
-    ///
-    /// # Errors
-    /// `NoMemory` where the sweep had none.
-    pub fn row_of(&self, event: &Event, returned: Option<u32>) -> Result<Row, NoMemory>
-        requires kept { IsKept self.now }
-        requires follows { Follows (hart_of self.now) event.now }
-        requires returned { IsReturned (hart_of self.now) event.now returned }
-        ensures { IfOk result (λ row. (s : ℕ) → Has row s ↔ IsBefore (hart_with (hart_of self.now) event.now) s event.now.id.seq) }
-    {
-        if !event.is_memory() {
-            return Ok(Row::new());
-        }
-        let reads = self.different_reads(event);
-        let swept = self.sweep(event, returned, &reads)?;
-        let mut row = swept.reach;
-        row.insert(event.id.seq as usize);
-        Ok(row)
-    }
-
-    /// The candidates of all rules, thinned. `reads` is the row of rule 2.
-    fn sweep(&self, event: &Event, returned: Option<u32>, reads: &Row) -> Result<Thinned, NoMemory>
+    /// Puts in the row of the hart's next event, a memory operation: it and the events from which rules lead to it.
+    pub fn add_swept(&self, event: &Event, returned: Option<u32>, row: &mut Row)
         requires asked { IsAsked self.now event.now }
         requires returned { IsReturned (hart_of self.now) event.now returned }
-        requires reads { RuleRowIs (hart_of self.now) event.now 2 reads.now }
-        ensures { IfOk result (λ t. IsSwept (hart_of self.now) event.now self.now.rows.items t.listed.items t.reach) }
+        ensures { (s : ℕ) → Has row.new s
+            ↔ (Has row.old s ⊎ IsBefore (hart_with (hart_of self.now) event.now) s event.now.id.seq) }
     {
-        let candidates = self.candidates(event, returned, reads);
-        Ok(thin(self.alloc, candidates, self.rows.as_slice())?)
+        let mut reads = Row::new();
+        self.fill_different_reads(event, &mut reads);
+        let mut left = Row::new();
+        self.fill_candidates(event, returned, &reads, &mut left);
+        row.insert(event.id.seq as usize);
+        let mut top = self.rows.len();
+        'taken: while let Some(number) = take_highest(&mut left, &self.rows, top) {
+            top = number;
+            self.rows.join_into(number, row);
+        }
     }
 }

@@ -1,7 +1,8 @@
 //! What each rule of preserved program order orders before a hart's next memory operation (manual, section 14.1,
 //! "Preserved Program Order"): all of it goes into one row of candidates.
-ghost use Rattle.std.specs.Prelude.{◌≡◌, ◌↔◌, ◌⊎◌, IsTrue};
+ghost use Rattle.std.specs.Prelude.{ℕ, ◌≡◌, ◌↔◌, ◌⊎◌, IsTrue, false};
 ghost use Rattle.rv_event.specs.declared.event.Op.TheVariants.{Amo, Sc};
+ghost use Rattle.rv_rows.specs.Bits.{has_bit};
 ghost use Rattle.rv_hart.specs.Harts.{IsReturned};
 ghost use Rattle.rv_hart.specs.Kept.{hart_of, IsAsked};
 ghost use Rattle.rv_hart.specs.Rows.{IsEnough};
@@ -14,30 +15,30 @@ use rv_event::{DepKind, Event, Op, is_rcsc, is_release};
 use rv_rows::Row;
 
 impl Kept {
-    /// The candidates: what some rule orders before the event, of rule 1 only what the rest leads to. `reads` is the
-    /// row of rule 2.
-    pub fn candidates(&self, event: &Event, returned: Option<u32>, reads: &Row) -> Row
+    /// Puts the candidates into an empty row: what some rule orders before the event, of rule 1 only what the rest
+    /// leads to. `reads` is the row of rule 2.
+    pub fn fill_candidates(&self, event: &Event, returned: Option<u32>, reads: &Row, row: &mut Row)
         requires asked { IsAsked self.now event.now }
         requires returned { IsReturned (hart_of self.now) event.now returned }
         requires reads { RuleRowIs (hart_of self.now) event.now 2 reads.now }
-        ensures { IsEnough (hart_of self.now) event.now result }
+        requires empty { (s : ℕ) → has_bit row.old s ≡ false }
+        ensures { IsEnough (hart_of self.now) event.now row.new }
     {
         let loads = &self.sets.loads;
         let stores = &self.sets.stores;
-        let mut row = self.overlapping(event);
-        self.add_different_reads(event, reads, &mut row);
-        self.add_atomic_write(event, returned, &mut row);
-        self.add_fenced(event, &mut row);
-        self.add_acquires(event, &mut row);
-        self.add_before_release(event, &mut row);
-        self.add_rcsc(event, &mut row);
-        self.add_paired(event, &mut row);
-        add_dependencies(&mut row, event, DepKind::Addr, loads, stores);
-        add_dependencies(&mut row, event, DepKind::DataOf, loads, stores);
-        self.add_controlling(event, &mut row);
-        self.add_sources_of_write(event, returned, &mut row);
-        self.add_addressing(event, &mut row);
-        row
+        self.fill_overlapping(event, row);
+        self.add_different_reads(event, reads, row);
+        self.add_atomic_write(event, returned, row);
+        self.add_fenced(event, row);
+        self.add_acquires(event, row);
+        self.add_before_release(event, row);
+        self.add_rcsc(event, row);
+        self.add_paired(event, row);
+        add_dependencies(row, event, DepKind::Addr, loads, stores);
+        add_dependencies(row, event, DepKind::DataOf, loads, stores);
+        self.add_controlling(event, row);
+        self.add_sources_of_write(event, returned, row);
+        self.add_addressing(event, row);
     }
 
     /// Rule 2: its row, where the event is a load.

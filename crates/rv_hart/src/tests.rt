@@ -1,7 +1,9 @@
 //! Small histories with ample memory: which events are linked to the next one, and by which rule.
-ghost use Rattle.std.specs.Prelude.{◌≡◌};
+ghost use Rattle.std.specs.Prelude.{◌≡◌, map, IsTrue};
 ghost use Rattle.rv_event.specs.Log.{events};
-ghost use Rattle.rv_hart.specs.Harts.{Hart, IsHart, IsReturned};
+ghost use Rattle.rv_event.specs.declared.reason.Link.{Link};
+ghost use Rattle.rv_event.specs.declared.reason.Reason.TheVariants.{Coherence};
+ghost use Rattle.rv_hart.specs.Harts.{Hart, Follows, IsHart, IsReturned};
 
 use super::*;
 use rv_event::{
@@ -11,28 +13,74 @@ use rv_event::{
 use std::alloc::Global;
 use std::process::Abort;
 
-/// An event of hart 0 at this place, without annotations and dependencies: version 1 of word 0, read and written.
-fn event(alloc: Global, seq: u32, op: Op) -> Event
+/// An event of hart 0, and the links that it has: the events that they come from, by number, each with its rule.
+#[derive(Clone, Copy)]
+struct Step {
+    op: Op,
+    word: u32,
+    read: u32,
+    wrote: u32,
+    acquire: bool,
+    release: bool,
+    deps: &'static [Dep],
+    links: &'static [(u32, u8)],
+}
+
+/// A store of version 1 to word 0, without annotations, dependencies and links.
+const STORE: Step = Step {
+    op: Op::Store,
+    word: 0,
+    read: 0,
+    wrote: 1,
+    acquire: false,
+    release: false,
+    deps: &[],
+    links: &[],
+};
+
+/// A load of version 0 of word 0, alike.
+const LOAD: Step = Step {
+    op: Op::Load,
+    ..STORE
+};
+
+/// An AMO on word 0 that returns version 0 and writes version 1, alike.
+const AMO: Step = Step {
+    op: Op::Amo,
+    ..STORE
+};
+
+/// The event of a step at this place.
+fn event_of(rt: &impl Abort, alloc: Global, seq: u32, step: &Step) -> Event
     ensures { result.id.hart ≡ 0 }
 {
     Event {
         id: Id { hart: 0, seq },
-        op,
-        word: 0,
-        read: 1,
-        wrote: 1,
-        acquire: false,
-        release: false,
-        deps: Deps::from_vec(Vec::new(alloc)),
+        op: step.op,
+        word: step.word,
+        read: step.read,
+        wrote: step.wrote,
+        acquire: step.acquire,
+        release: step.release,
+        deps: Deps::from_vec(Vec::from_slice(alloc, step.deps).expect(rt, "memory")),
     }
 }
 
-/// One dependency of this kind.
-fn depends(rt: &impl Abort, alloc: Global, kind: DepKind, seq: u32) -> Deps {
-    let mut items = Vec::new(alloc);
-    items.push(Dep { kind, seq }).expect(rt, "memory");
-    Deps::from_vec(items)
-}
+/// Dependencies: of the address and of the data on event 0, and of a branch on event 2.
+const ADDRESS_0: Dep = Dep {
+    kind: DepKind::Addr,
+    seq: 0,
+};
+
+const DATA_0: Dep = Dep {
+    kind: DepKind::DataOf,
+    seq: 0,
+};
+
+const CONTROL_2: Dep = Dep {
+    kind: DepKind::Ctrl,
+    seq: 2,
+};
 
 /// The events as entries of one source.
 fn entries_of(rt: &impl Abort, alloc: Global, past: &[Event]) -> Vec<Entry>
@@ -71,288 +119,300 @@ fn follow(rt: &impl Abort, alloc: Global, hart: &mut HartOrder, event: &Event) -
     assert!(rt; find_event_fault(&entries, event).is_none());
     let returned = own_store(&entries, event);
     let links = hart.before(event, returned).expect(rt, "memory");
-    hart.push(event, returned).expect(rt, "memory");
+    hart.push(event, returned, links.as_slice())
+        .expect(rt, "memory");
     links
 }
 
-/// A link from this event of hart 0 by this rule.
-fn link(seq: u32, rule: u8) -> Link {
-    Link {
-        id: Id { hart: 0, seq },
-        reason: Reason::Preserved(rule),
+/// Links from the same events, for a reason that is no rule.
+fn without_rules(rt: &impl Abort, alloc: Global, links: &[Link]) -> Vec<Link>
+    ensures { result.items ≡ map (λ (l : Link). record l { reason = Coherence }) links.now }
+{
+    let mut others = Vec::new(alloc);
+    for link in links {
+        others
+            .push(Link {
+                reason: Reason::Coherence,
+                ..*link
+            })
+            .expect(rt, "memory");
     }
+    others
+}
+
+/// Adds an event that has no fault, by links of which none names a rule.
+fn follow_without_rules(rt: &impl Abort, alloc: Global, hart: &mut HartOrder, event: &Event)
+    requires { hart.old.number ≡ event.now.id.hart }
+    ensures { hart.new.number ≡ hart.old.number }
+{
+    let entries = entries_of(rt, alloc, hart.events());
+    assert!(rt; entries.len() < 4096);
+    assert!(rt; find_event_fault(&entries, event).is_none());
+    let returned = own_store(&entries, event);
+    let links = hart.before(event, returned).expect(rt, "memory");
+    let links = without_rules(rt, alloc, links.as_slice());
+    hart.push(event, returned, links.as_slice())
+        .expect(rt, "memory");
+}
+
+/// Whether these are links from the events with these numbers, by these rules.
+fn are_links(links: &[Link], expected: &[(u32, u8)]) -> bool {
+    links.len() == expected.len()
+        && links.iter().zip(expected).all(|(link, (seq, rule))| link.id.seq == *seq
+            && link.reason == Reason::Preserved(*rule))
+}
+
+/// The hart after the steps, each of which has the links that it names.
+fn hart_of(rt: &impl Abort, alloc: Global, model: MemoryModel, steps: &[Step]) -> HartOrder
+    ensures { result.number ≡ 0 }
+{
+    let mut hart = HartOrder::new(alloc, model, 0);
+    for step in steps {
+        let seq = hart.events().len();
+        assert!(rt; seq < 4096);
+        let event = event_of(rt, alloc, seq as u32, step);
+        let links = follow(rt, alloc, &mut hart, &event);
+        assert!(rt; are_links(links.as_slice(), step.links));
+    }
+    hart
+}
+
+/// Whether the event has no fault over the hart's events.
+fn may_follow(rt: &impl Abort, alloc: Global, hart: &HartOrder, event: &Event) -> bool
+    requires { hart.now.number ≡ event.now.id.hart }
+    ensures { IsTrue result → Follows hart.now event.now }
+{
+    let entries = entries_of(rt, alloc, hart.events());
+    entries.len() < 4096 && find_event_fault(&entries, event).is_none()
 }
 
 #[test]
 fn the_last_store_of_three_is_linked_from_the_second(rt: HostRuntime) {
-    let alloc = rt.alloc();
-    let mut hart = HartOrder::new(alloc, MemoryModel::Rvwmo, 0);
-    let first = event(alloc, 0, Op::Store);
-    let second = Event {
-        wrote: 2,
-        ..event(alloc, 1, Op::Store)
-    };
-    let third = Event {
-        wrote: 3,
-        ..event(alloc, 2, Op::Store)
-    };
-    assert!(rt; follow(&rt, alloc, &mut hart, &first).is_empty());
-    let links = follow(&rt, alloc, &mut hart, &second);
-    assert_eq!(rt; links.as_slice(), [link(0, 1)].as_slice());
-    let links = follow(&rt, alloc, &mut hart, &third);
-    assert_eq!(rt; links.as_slice(), [link(1, 1)].as_slice());
+    let steps = [
+        STORE,
+        Step {
+            wrote: 2,
+            links: &[(0, 1)],
+            ..STORE
+        },
+        Step {
+            wrote: 3,
+            links: &[(1, 1)],
+            ..STORE
+        },
+    ];
+    let hart = hart_of(&rt, rt.alloc(), MemoryModel::Rvwmo, &steps);
     assert_eq!(rt; hart.events().len(), 3);
+}
+
+/// The steps are linked as each of them says.
+fn assert_linked(rt: &impl Abort, alloc: Global, steps: &[Step]) {
+    let hart = hart_of(rt, alloc, MemoryModel::Rvwmo, steps);
+    assert!(rt; hart.events().len() == steps.len());
 }
 
 #[test]
 fn a_fence_orders_what_is_before_it(rt: HostRuntime) {
-    let alloc = rt.alloc();
-    let mut hart = HartOrder::new(alloc, MemoryModel::Rvwmo, 0);
-    let store = event(alloc, 0, Op::Store);
-    let other = Event {
-        word: 1,
-        ..event(alloc, 1, Op::Store)
+    let fence = Op::Fence {
+        pred: Set::W,
+        succ: Set::R,
     };
-    let fence = event(
-        alloc,
-        2,
-        Op::Fence {
-            pred: Set::W,
-            succ: Set::R,
+    let steps = [
+        STORE,
+        Step { word: 1, ..STORE },
+        Step { op: fence, ..STORE },
+        Step {
+            word: 2,
+            links: &[(1, 4), (0, 4)],
+            ..LOAD
         },
-    );
-    let load = Event {
-        word: 2,
-        read: 0,
-        ..event(alloc, 3, Op::Load)
-    };
-    let _ = follow(&rt, alloc, &mut hart, &store);
-    let _ = follow(&rt, alloc, &mut hart, &other);
-    assert!(rt; follow(&rt, alloc, &mut hart, &fence).is_empty());
-    let links = follow(&rt, alloc, &mut hart, &load);
-    assert_eq!(rt; links.as_slice(), [link(1, 4), link(0, 4)].as_slice());
+    ];
+    assert_linked(&rt, rt.alloc(), &steps);
 }
 
 #[test]
 fn annotations_order(rt: HostRuntime) {
-    let alloc = rt.alloc();
-    let mut hart = HartOrder::new(alloc, MemoryModel::Rvwmo, 0);
-    let acquire = Event {
-        read: 0,
-        acquire: true,
-        ..event(alloc, 0, Op::Amo)
-    };
-    let load = Event {
-        word: 1,
-        read: 0,
-        ..event(alloc, 1, Op::Load)
-    };
-    let release = Event {
-        word: 2,
-        read: 0,
-        release: true,
-        ..event(alloc, 2, Op::Amo)
-    };
-    let _ = follow(&rt, alloc, &mut hart, &acquire);
-    let links = follow(&rt, alloc, &mut hart, &load);
-    assert_eq!(rt; links.as_slice(), [link(0, 5)].as_slice());
-    let links = follow(&rt, alloc, &mut hart, &release);
-    assert_eq!(rt; links.as_slice(), [link(1, 6)].as_slice());
+    let steps = [
+        Step {
+            acquire: true,
+            ..AMO
+        },
+        Step {
+            word: 1,
+            links: &[(0, 5)],
+            ..LOAD
+        },
+        Step {
+            word: 2,
+            release: true,
+            links: &[(1, 6)],
+            ..AMO
+        },
+    ];
+    assert_linked(&rt, rt.alloc(), &steps);
 }
 
 #[test]
 fn annotations_of_both_order(rt: HostRuntime) {
-    let alloc = rt.alloc();
-    let mut hart = HartOrder::new(alloc, MemoryModel::Rvwmo, 0);
-    let release = Event {
-        read: 0,
-        release: true,
-        ..event(alloc, 0, Op::Amo)
-    };
-    let acquire = Event {
-        word: 1,
-        read: 0,
-        acquire: true,
-        ..event(alloc, 1, Op::Amo)
-    };
-    let _ = follow(&rt, alloc, &mut hart, &release);
-    let links = follow(&rt, alloc, &mut hart, &acquire);
-    assert_eq!(rt; links.as_slice(), [link(0, 7)].as_slice());
+    let steps = [
+        Step {
+            release: true,
+            ..AMO
+        },
+        Step {
+            word: 1,
+            acquire: true,
+            links: &[(0, 7)],
+            ..AMO
+        },
+    ];
+    assert_linked(&rt, rt.alloc(), &steps);
 }
 
 #[test]
 fn an_address_orders_a_load_and_later_stores(rt: HostRuntime) {
-    let alloc = rt.alloc();
-    let mut hart = HartOrder::new(alloc, MemoryModel::Rvwmo, 0);
-    let first = Event {
-        read: 0,
-        ..event(alloc, 0, Op::Load)
-    };
-    let second = Event {
-        word: 1,
-        read: 0,
-        deps: depends(&rt, alloc, DepKind::Addr, 0),
-        ..event(alloc, 1, Op::Load)
-    };
-    let store = Event {
-        word: 2,
-        ..event(alloc, 2, Op::Store)
-    };
-    let _ = follow(&rt, alloc, &mut hart, &first);
-    let links = follow(&rt, alloc, &mut hart, &second);
-    assert_eq!(rt; links.as_slice(), [link(0, 9)].as_slice());
-    let links = follow(&rt, alloc, &mut hart, &store);
-    assert_eq!(rt; links.as_slice(), [link(0, 13)].as_slice());
+    let steps = [
+        LOAD,
+        Step {
+            word: 1,
+            deps: &[ADDRESS_0],
+            links: &[(0, 9)],
+            ..LOAD
+        },
+        Step {
+            word: 2,
+            links: &[(0, 13)],
+            ..STORE
+        },
+    ];
+    assert_linked(&rt, rt.alloc(), &steps);
 }
 
 #[test]
 fn data_and_branches_order_stores(rt: HostRuntime) {
-    let alloc = rt.alloc();
-    let mut hart = HartOrder::new(alloc, MemoryModel::Rvwmo, 0);
-    let first = Event {
-        read: 0,
-        ..event(alloc, 0, Op::Load)
-    };
-    let computed = Event {
-        word: 1,
-        deps: depends(&rt, alloc, DepKind::DataOf, 0),
-        ..event(alloc, 1, Op::Store)
-    };
-    let second = Event {
-        word: 2,
-        read: 0,
-        ..event(alloc, 2, Op::Load)
-    };
-    let branch = Event {
-        deps: depends(&rt, alloc, DepKind::Ctrl, 2),
-        ..event(alloc, 3, Op::Branch)
-    };
-    let guarded = Event {
-        word: 3,
-        ..event(alloc, 4, Op::Store)
-    };
-    let _ = follow(&rt, alloc, &mut hart, &first);
-    let links = follow(&rt, alloc, &mut hart, &computed);
-    assert_eq!(rt; links.as_slice(), [link(0, 10)].as_slice());
-    assert!(rt; follow(&rt, alloc, &mut hart, &second).is_empty());
-    assert!(rt; follow(&rt, alloc, &mut hart, &branch).is_empty());
-    let links = follow(&rt, alloc, &mut hart, &guarded);
-    assert_eq!(rt; links.as_slice(), [link(2, 11)].as_slice());
+    let steps = [
+        LOAD,
+        Step {
+            word: 1,
+            deps: &[DATA_0],
+            links: &[(0, 10)],
+            ..STORE
+        },
+        Step { word: 2, ..LOAD },
+        Step {
+            op: Op::Branch,
+            deps: &[CONTROL_2],
+            ..STORE
+        },
+        Step {
+            word: 3,
+            links: &[(2, 11)],
+            ..STORE
+        },
+    ];
+    assert_linked(&rt, rt.alloc(), &steps);
 }
 
 #[test]
 fn a_load_of_an_own_store_is_linked_from_what_it_stands_on(rt: HostRuntime) {
-    let alloc = rt.alloc();
-    let mut hart = HartOrder::new(alloc, MemoryModel::Rvwmo, 0);
-    let first = Event {
-        read: 0,
-        ..event(alloc, 0, Op::Load)
-    };
-    let computed = Event {
-        word: 1,
-        deps: depends(&rt, alloc, DepKind::DataOf, 0),
-        ..event(alloc, 1, Op::Store)
-    };
-    let load = Event {
-        word: 1,
-        ..event(alloc, 2, Op::Load)
-    };
-    let _ = follow(&rt, alloc, &mut hart, &first);
-    let _ = follow(&rt, alloc, &mut hart, &computed);
-    let links = follow(&rt, alloc, &mut hart, &load);
-    assert_eq!(rt; links.as_slice(), [link(0, 12)].as_slice());
+    let steps = [
+        LOAD,
+        Step {
+            word: 1,
+            deps: &[DATA_0],
+            links: &[(0, 10)],
+            ..STORE
+        },
+        Step {
+            word: 1,
+            read: 1,
+            links: &[(0, 12)],
+            ..LOAD
+        },
+    ];
+    assert_linked(&rt, rt.alloc(), &steps);
 }
 
 #[test]
 fn a_load_of_an_own_sc_is_linked_from_it(rt: HostRuntime) {
-    let alloc = rt.alloc();
-    let mut hart = HartOrder::new(alloc, MemoryModel::Rvwmo, 0);
-    let lr = Event {
-        read: 0,
-        ..event(alloc, 0, Op::Lr)
+    let steps = [
+        Step { op: Op::Lr, ..LOAD },
+        Step {
+            op: Op::Sc,
+            links: &[(0, 1)],
+            ..STORE
+        },
+        Step {
+            read: 1,
+            links: &[(1, 3)],
+            ..LOAD
+        },
+    ];
+    assert_linked(&rt, rt.alloc(), &steps);
+}
+
+#[test]
+fn a_load_that_spins_is_linked_from_other_versions_alone(rt: HostRuntime) {
+    let again = Step {
+        read: 1,
+        links: &[(0, 2)],
+        ..LOAD
     };
-    let sc = event(alloc, 1, Op::Sc);
-    let load = event(alloc, 2, Op::Load);
-    let _ = follow(&rt, alloc, &mut hart, &lr);
-    let _ = follow(&rt, alloc, &mut hart, &sc);
-    let links = follow(&rt, alloc, &mut hart, &load);
-    assert_eq!(rt; links.as_slice(), [link(1, 3)].as_slice());
+    assert_linked(&rt, rt.alloc(), &[LOAD, again, again]);
 }
 
 #[test]
 fn an_sc_is_paired_with_the_lr_before_it(rt: HostRuntime) {
     let alloc = rt.alloc();
-    let mut hart = HartOrder::new(alloc, MemoryModel::Rvwmo, 0);
-    let lr = Event {
-        read: 0,
-        ..event(alloc, 0, Op::Lr)
-    };
-    let sc = Event {
+    let lr = Step { op: Op::Lr, ..LOAD };
+    let sc = Step {
+        op: Op::Sc,
         word: 1,
-        ..event(alloc, 1, Op::Sc)
+        links: &[(0, 8)],
+        ..STORE
     };
-    let _ = follow(&rt, alloc, &mut hart, &lr);
-    let entries = entries_of(&rt, alloc, hart.events());
-    assert!(rt; entries.len() < 4096);
-    assert!(rt; find_event_fault(&entries, &sc).is_none());
-    let partner = hart.partner(&sc).expect(&rt, "a partner");
-    assert_eq!(rt; partner.id, Id { hart: 0, seq: 0 });
-    let links = follow(&rt, alloc, &mut hart, &sc);
-    assert_eq!(rt; links.as_slice(), [link(0, 8)].as_slice());
+    let hart = hart_of(&rt, alloc, MemoryModel::Rvwmo, &[lr]);
+    let event = event_of(&rt, alloc, 1, &sc);
+    assert!(rt; may_follow(&rt, alloc, &hart, &event));
+    assert_eq!(rt; hart.partner(&event).map(|lr| lr.id.seq), Some(0));
+    assert_linked(&rt, alloc, &[lr, sc]);
 }
 
 #[test]
-fn a_load_that_spins_is_linked_from_other_versions_alone(rt: HostRuntime) {
+fn links_that_name_no_rule_lose_no_event(rt: HostRuntime) {
     let alloc = rt.alloc();
-    let mut hart = HartOrder::new(alloc, MemoryModel::Rvwmo, 0);
-    let first = Event {
-        read: 0,
-        ..event(alloc, 0, Op::Load)
+    let acquire = Step {
+        acquire: true,
+        ..AMO
     };
-    let second = event(alloc, 1, Op::Load);
-    let third = event(alloc, 2, Op::Load);
-    let _ = follow(&rt, alloc, &mut hart, &first);
-    let links = follow(&rt, alloc, &mut hart, &second);
-    assert_eq!(rt; links.as_slice(), [link(0, 2)].as_slice());
+    let mut hart = hart_of(&rt, alloc, MemoryModel::Rvwmo, &[acquire]);
+    let second = event_of(&rt, alloc, 1, &Step { word: 1, ..acquire });
+    follow_without_rules(&rt, alloc, &mut hart, &second);
+    let third = event_of(&rt, alloc, 2, &Step { word: 2, ..LOAD });
     let links = follow(&rt, alloc, &mut hart, &third);
-    assert_eq!(rt; links.as_slice(), [link(0, 2)].as_slice());
+    assert!(rt; are_links(links.as_slice(), &[(1, 5)]));
 }
 
 #[test]
 fn an_older_version_than_an_own_one_is_stale(rt: HostRuntime) {
     let alloc = rt.alloc();
-    let mut hart = HartOrder::new(alloc, MemoryModel::Rvwmo, 0);
-    let store = event(alloc, 0, Op::Store);
-    let load = Event {
-        read: 0,
-        ..event(alloc, 1, Op::Load)
-    };
-    let _ = follow(&rt, alloc, &mut hart, &store);
-    let entries = entries_of(&rt, alloc, hart.events());
-    assert!(rt; entries.len() < 4096);
-    assert!(rt; find_event_fault(&entries, &load).is_none());
+    let hart = hart_of(&rt, alloc, MemoryModel::Rvwmo, &[STORE]);
+    let load = event_of(&rt, alloc, 1, &LOAD);
+    assert!(rt; may_follow(&rt, alloc, &hart, &load));
     assert_eq!(rt; hart.stale(&load), Some(Id { hart: 0, seq: 0 }));
-    let entries = entries_of(&rt, alloc, hart.events());
-    let fresh = event(alloc, 1, Op::Load);
-    assert!(rt; find_event_fault(&entries, &fresh).is_none());
+    let fresh = event_of(&rt, alloc, 1, &Step { read: 1, ..LOAD });
+    assert!(rt; may_follow(&rt, alloc, &hart, &fresh));
     assert_eq!(rt; hart.stale(&fresh), None);
 }
 
 #[test]
 fn what_is_popped_is_forgotten(rt: HostRuntime) {
-    let alloc = rt.alloc();
-    let mut hart = HartOrder::new(alloc, MemoryModel::Ztso, 0);
-    let load = Event {
-        read: 0,
-        ..event(alloc, 0, Op::Load)
-    };
-    let store = Event {
+    let store = Step {
         word: 1,
-        ..event(alloc, 1, Op::Store)
+        links: &[(0, 5)],
+        ..STORE
     };
-    let _ = follow(&rt, alloc, &mut hart, &load);
-    let links = follow(&rt, alloc, &mut hart, &store);
-    assert_eq!(rt; links.as_slice(), [link(0, 5)].as_slice());
+    let mut hart = hart_of(&rt, rt.alloc(), MemoryModel::Ztso, &[LOAD, store]);
     assert!(rt; !hart.events().is_empty());
     hart.pop();
     assert!(rt; !hart.events().is_empty());

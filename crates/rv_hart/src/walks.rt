@@ -1,6 +1,7 @@
 //! Walks back over the memory operations of a word: rules 1 and 2 of preserved program order (manual, section 14.1).
-ghost use Rattle.std.specs.Prelude.{◌≢◌, ◌↔◌, IsTrue};
+ghost use Rattle.std.specs.Prelude.{ℕ, ◌≡◌, ◌≢◌, ◌↔◌, IsTrue, false};
 ghost use Rattle.rv_event.specs.Operations.{IsLoad};
+ghost use Rattle.rv_rows.specs.Bits.{has_bit};
 ghost use Rattle.rv_hart.specs.Kept.{hart_of, IsAsked};
 ghost use Rattle.rv_hart.specs.RuleRows.{RuleRowIs, IsOverlapRow};
 
@@ -10,15 +11,15 @@ use rv_event::Event;
 use rv_rows::Row;
 
 impl Kept {
-    /// Rule 1: where the event is a store, the operations of its word back to the last store, which all earlier
-    /// ones lead to.
-    pub fn overlapping(&self, event: &Event) -> Row
-        requires { IsAsked self.now event.now }
-        ensures { IsOverlapRow (hart_of self.now) event.now result }
+    /// Rule 1: puts into an empty row, where the event is a store, the operations of its word back to the last store,
+    /// which all earlier ones lead to.
+    pub fn fill_overlapping(&self, event: &Event, row: &mut Row)
+        requires asked { IsAsked self.now event.now }
+        requires empty { (s : ℕ) → has_bit row.old s ≡ false }
+        ensures { IsOverlapRow (hart_of self.now) event.now row.new }
     {
-        let mut row = Row::new();
         if !event.is_store() {
-            return row;
+            return;
         }
         let mut next = self.words.last(event.word);
         'met: while let Some(number) = next {
@@ -26,30 +27,30 @@ impl Kept {
             row.insert(number);
             let met = &self.events[number];
             if met.is_store() {
-                return row;
+                return;
             }
             let link = self.words.links[number];
             next = link.previous;
         }
-        row
     }
 
-    /// Rule 2: where the event is a load, the loads of its word back to the last store that returned another version.
-    pub fn different_reads(&self, event: &Event) -> Row
-        requires { IsAsked self.now event.now }
-        ensures { RuleRowIs (hart_of self.now) event.now 2 result }
+    /// Rule 2: puts into an empty row, where the event is a load, the loads of its word back to the last store that
+    /// returned another version.
+    pub fn fill_different_reads(&self, event: &Event, row: &mut Row)
+        requires asked { IsAsked self.now event.now }
+        requires empty { (s : ℕ) → has_bit row.old s ≡ false }
+        ensures { RuleRowIs (hart_of self.now) event.now 2 row.new }
     {
-        let mut row = Row::new();
         if !event.is_load() {
-            return row;
+            return;
         }
         let mut next = self.words.last(event.word);
         'met: while let Some(number) = next {
             let number = number as usize;
             let met = &self.events[number];
-            insert_if(&mut row, is_other_read(met, event), number);
+            insert_if(row, is_other_read(met, event), number);
             if met.is_store() {
-                return row;
+                return;
             }
             let link = self.words.links[number];
             next = if met.read == event.read {
@@ -58,7 +59,6 @@ impl Kept {
                 link.previous
             };
         }
-        row
     }
 }
 

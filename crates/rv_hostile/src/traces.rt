@@ -1,8 +1,8 @@
 //! The worked executions, as entries and as the text of sources.
 use rv_event::{DepKind, Entry, MemoryModel, NoMemory, Op, Set};
 use rv_report::Outcome;
-use rv_worked::allowed::ALLOWED;
-use rv_worked::circles::CIRCLES;
+use rv_worked::allowed::allowed;
+use rv_worked::circles::circles;
 use rv_worked::refused::{STALE, TAKEN, UNRESERVED};
 use rv_worked::rows::{Bits, Row, log_of};
 use std::alloc::Global;
@@ -63,7 +63,7 @@ const REFUSED: [Worked; 3] = [
 /// All of them.
 fn list_worked(alloc: Global) -> Result<Vec<Worked>, NoMemory> {
     let mut list = Vec::from_slice(alloc, &REFUSED)?;
-    for allowed in ALLOWED {
+    for allowed in allowed() {
         list.push(Worked {
             name: allowed.name,
             model: allowed.model,
@@ -71,7 +71,7 @@ fn list_worked(alloc: Global) -> Result<Vec<Worked>, NoMemory> {
             class: Class::Allowed,
         })?;
     }
-    'circles: for circle in CIRCLES {
+    'circles: for circle in circles() {
         list.push(Worked {
             name: circle.name,
             model: circle.model,

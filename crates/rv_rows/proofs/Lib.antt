@@ -1,3 +1,3 @@
 pub mod Words
 pub mod Sweep
-pub mod Alone
+pub mod Laying

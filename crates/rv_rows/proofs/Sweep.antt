@@ -1,47 +1,42 @@
 -- A sweep over the candidates from the highest on.
-use Rattle.std.proofs.Common.{◌≡◌, ◌≢◌, ℕ, ◌<◌, ◌≤◌, Bool, true, false, not, ◌&&◌, ◌||◌, List, [], ◌∷◌, ◌++◌, length, Contains, Some, None, ◌∙◌, ap, sym, refl, inl, inr, arith, ◌⊎◌, slice_index_or, subst}
+use Rattle.std.proofs.Common.{◌≡◌, ◌≢◌, ℕ, ◌<◌, ◌≤◌, Bool, true, false, not, ◌&&◌, ◌||◌, List, [], ◌∷◌, ◌++◌, Contains, Some, None, ◌∙◌, ap, sym, refl, inl, inr, arith, ◌⊎◌, ◌↔◌, slice_index_or, subst}
 use Rattle.std.proofs.lemmas.Bool.{cases_eq, cases_lt, false≢true}
 use Rattle.std.proofs.lemmas.List.Elements.{Contains-push, Contains-push_cases, Contains-append_left}
 use Rattle.rv_rows.specs.Bits.{has_bit, Has, IsHighest}
 use Rattle.rv_rows.specs.Closure.{RowHas, IsClosed, IsReached, IsThinned}
 
--- what holds between two listed candidates
-pub record Swept (rows : List (List ℕ)) (first left : List ℕ) (listed : List ℕ) (reach : List ℕ) (top : ℕ) : Type 0 where
+-- what holds between two candidates that are taken
+pub record Swept (rows : List (List ℕ)) (first left : List ℕ) (listed : List ℕ) (top : ℕ) : Type 0 where
   pub low : (j : ℕ) → Has left j → j < top
   pub sub : (j : ℕ) → Has left j → Has first j
   pub only : (b : ℕ) → Contains listed b → Has first b
   pub each : (a : ℕ) → Has first a → Has left a ⊎ IsReached rows listed a
   pub unsplit : (a c : ℕ) → Contains listed a → Has first c → c ≢ a → RowHas rows c a → ⊥
   pub apart : (b j : ℕ) → Contains listed b → RowHas rows b j → Has left j → ⊥
-  pub reached : (j : ℕ) → Has reach j → IsReached rows listed j
-  pub reaches : (j : ℕ) → IsReached rows listed j → Has reach j
 
-pub swept-done : (rows : List (List ℕ)) (first left listed reach : List ℕ) (top : ℕ) → Swept rows first left listed reach top → IsHighest left None → IsThinned rows first listed reach
-swept-done rows first left listed reach top s none = record {
+pub swept-done : (rows : List (List ℕ)) (first left listed : List ℕ) (top : ℕ) → Swept rows first left listed top → IsHighest left None → IsThinned rows first listed
+swept-done rows first left listed top s none = record {
   only = s.only;
   each = λ a h. go a (s.each a h);
   unsplit = s.unsplit;
-  reaches = λ j. (s.reached j, s.reaches j);
 }
   where
     go : (a : ℕ) → Has left a ⊎ IsReached rows listed a → IsReached rows listed a
     go a (inl h) = absurd (false≢true (sym (none a) ∙ h))
     go a (inr r) = r
 
-pub swept-init : (rows : List (List ℕ)) (first listed reach : List ℕ) → (top : ℕ) → ((b : ℕ) → Has first b → b < top) → listed ≡ [] → ((j : ℕ) → has_bit reach j ≡ false) → Swept rows first first listed reach top
-swept-init rows first listed reach top low nil none = record {
+pub swept-init : (rows : List (List ℕ)) (first : List ℕ) (top : ℕ) → ((b : ℕ) → Has first b → b < top) → Swept rows first first [] top
+swept-init rows first top low = record {
   low = low;
   sub = λ j h. h;
   only = λ b c. absurd (empty b c);
   each = λ a h. inl h;
   unsplit = λ a c l. absurd (empty a l);
   apart = λ b j l. absurd (empty b l);
-  reached = λ j h. absurd (false≢true (sym (none j) ∙ h));
-  reaches = λ j r. absurd (empty r.b r.is_listed);
 }
   where
-    empty : (b : ℕ) → Contains listed b → ⊥
-    empty b c = let l = c.1 in omega (arith, ap length nil)
+    empty : (b : ℕ) → Contains [] b → ⊥
+    empty b c = let l = c.1 in omega arith
 
 or_cases : (x y : Bool) → (x || y) ≡ true → (x ≡ true) ⊎ (y ≡ true)
 or_cases true y e = inl refl
@@ -62,10 +57,9 @@ less_parts false y e = absurd (false≢true e)
 less_is_true : (x y : Bool) → x ≡ true → y ≡ false → (x && not y) ≡ true
 less_is_true x y e f = rw (e, f)
 
-module _ (rows : List (List ℕ)) (first left left' listed reach reach' : List ℕ) (top b : ℕ)
+module _ (rows : List (List ℕ)) (first left left' listed : List ℕ) (top b : ℕ)
     (closed : IsClosed rows) (own : (j : ℕ) → Has first j → RowHas rows j j)
-    (s : Swept rows first left listed reach top) (highest : IsHighest left (Some b))
-    (reach_is : (j : ℕ) → has_bit reach' j ≡ (has_bit reach j || has_bit (slice_index_or rows b []) j))
+    (s : Swept rows first left listed top) (highest : IsHighest left (Some b))
     (left_is : (j : ℕ) → has_bit left' j ≡ (has_bit left j && not (has_bit (slice_index_or rows b []) j))) where
   abbrev more : List ℕ
   more = listed ++ b ∷ []
@@ -80,7 +74,7 @@ module _ (rows : List (List ℕ)) (first left left' listed reach reach' : List �
   still j h = less_parts _ _ (sym (left_is j) ∙ h)
 
   reached-more : (j : ℕ) → IsReached rows listed j → IsReached rows more j
-  reached-more j r = record { b = r.b; is_listed = there r.b r.is_listed; has = r.has }
+  reached-more j r = record { b = r.b; is_taken = there r.b r.is_taken; has = r.has }
 
   low' : (j : ℕ) → Has left' j → j < b
   low' j h = go (cases_lt j b)
@@ -97,7 +91,7 @@ module _ (rows : List (List ℕ)) (first left left' listed reach reach' : List �
   each' a h = go (s.each a h)
     where
       cut_or : Has left a → (x : Bool) → has_bit (slice_index_or rows b []) a ≡ x → Has left' a ⊎ IsReached rows more a
-      cut_or l true e = inr (record { b = b; is_listed = here; has = e })
+      cut_or l true e = inr (record { b = b; is_taken = here; has = e })
       cut_or l false e = inl (left_is a ∙ less_is_true _ _ l e)
 
       go : Has left a ⊎ IsReached rows listed a → Has left' a ⊎ IsReached rows more a
@@ -114,7 +108,7 @@ module _ (rows : List (List ℕ)) (first left left' listed reach reach' : List �
           let different : c ≢ b = λ e. other (e ∙ is) in
           false≢true (sym (highest.2 c (omega arith)) ∙ still_left)
       at_b (inr reached) is =
-          s.apart reached.b b reached.is_listed (closed.closed reached.b c b reached.has (subst (RowHas rows c) (sym is) r)) highest.1
+          s.apart reached.b b reached.is_taken (closed.closed reached.b c b reached.has (subst (RowHas rows c) (sym is) r)) highest.1
 
       go : Contains listed a ⊎ (b ≡ a) → ⊥
       go (inl old) = s.unsplit a c old h other r
@@ -134,21 +128,7 @@ module _ (rows : List (List ℕ)) (first left left' listed reach reach' : List �
       go (inl old) = s.only a old
       go (inr is) = subst (Has first) is (s.sub b highest.1)
 
-  reached' : (j : ℕ) → Has reach' j → IsReached rows more j
-  reached' j h = go (or_cases _ _ (sym (reach_is j) ∙ h))
-    where
-      go : Has reach j ⊎ RowHas rows b j → IsReached rows more j
-      go (inl old) = reached-more j (s.reached j old)
-      go (inr r) = record { b = b; is_listed = here; has = r }
-
-  reaches' : (j : ℕ) → IsReached rows more j → Has reach' j
-  reaches' j r = go (Contains-push_cases listed b r.b r.is_listed)
-    where
-      go : Contains listed r.b ⊎ (b ≡ r.b) → Has reach' j
-      go (inl old) = reach_is j ∙ or_left _ _ (s.reaches j (record { b = r.b; is_listed = old; has = r.has }))
-      go (inr is) = reach_is j ∙ or_right _ _ (subst (λ (x : ℕ). RowHas rows x j) (sym is) r.has)
-
-  pub swept-step : Swept rows first left' (listed ++ b ∷ []) reach' b
+  pub swept-step : Swept rows first left' (listed ++ b ∷ []) b
   swept-step = record {
     low = low';
     sub = λ j h. s.sub j (still j h).0;
@@ -156,6 +136,36 @@ module _ (rows : List (List ℕ)) (first left left' listed reach reach' : List �
     each = each';
     unsplit = unsplit';
     apart = apart';
-    reached = reached';
-    reaches = reaches';
   }
+
+-- ---- the rows of what was taken, joined
+-- the row has what the first one has, and what the rows of the numbers that were taken have
+abbrev pub Gathers : List (List ℕ) → List ℕ → List ℕ → List ℕ → Type 0
+Gathers rows base taken row = (j : ℕ) → Has row j ↔ (Has base j ⊎ IsReached rows taken j)
+
+pub gathers-none : (rows : List (List ℕ)) (row : List ℕ) → Gathers rows row [] row
+gathers-none rows row j = (λ h. inl h, λ x. elim x [ inl h ↦ h | inr r ↦ absurd (let c = r.is_taken in let low = c.1 in omega arith) ])
+
+pub gathers-step : (rows : List (List ℕ)) (base taken row row' : List ℕ) (b : ℕ) → Gathers rows base taken row →
+    ((j : ℕ) → has_bit row' j ≡ (has_bit row j || has_bit (slice_index_or rows b []) j)) → Gathers rows base (taken ++ b ∷ []) row'
+gathers-step rows base taken row row' b so more j = (to, from)
+  where
+    old : IsReached rows taken j → IsReached rows (taken ++ b ∷ []) j
+    old r = record { b = r.b; is_taken = Contains-append_left taken (b ∷ []) r.b r.is_taken; has = r.has }
+
+    to : Has row' j → Has base j ⊎ IsReached rows (taken ++ b ∷ []) j
+    to h = elim (or_cases (has_bit row j) (has_bit (slice_index_or rows b []) j) (sym (more j) ∙ h)) [
+      | inl x ↦ elim ((so j).0 x) [ inl y ↦ inl y | inr y ↦ inr (old y) ]
+      | inr x ↦ inr (record { b = b; is_taken = Contains-push taken b; has = x })
+    ]
+
+    kept : Has row j → Has row' j
+    kept h = more j ∙ or_left (has_bit row j) (has_bit (slice_index_or rows b []) j) h
+
+    reached : (r : IsReached rows (taken ++ b ∷ []) j) → Contains taken r.b ⊎ (b ≡ r.b) → Has row' j
+    reached r (inl c) = kept ((so j).1 (inr (record { b = r.b; is_taken = c; has = r.has })))
+    reached r (inr is) = more j ∙ or_right (has_bit row j) (has_bit (slice_index_or rows b []) j) (subst (λ (x : ℕ). RowHas rows x j) (sym is) r.has)
+
+    from : Has base j ⊎ IsReached rows (taken ++ b ∷ []) j → Has row' j
+    from (inl h) = kept ((so j).1 (inl h))
+    from (inr r) = reached r (Contains-push_cases taken b r.b r.is_taken)

@@ -116,6 +116,10 @@ zero_words k = go (cases_lt k 64)
     go (inl low) = get_or-replicate 64 k 0 0 low
     go (inr high) = get_or_past zeros k 0 (omega (arith, length-replicate {A = ℕ} 64 0))
 
+-- past the words no number is
+pub past_bit : (words : List ℕ) (i : ℕ) → length words ≤ i / 64 → has_bit words i ≡ false
+past_bit words i high = ap (λ x. bit_at x (i % 64) == 1) (get_or_past words (i / 64) 0 high) ∙ ap (λ x. x == 1) (bit_at-zero (i % 64))
+
 -- words that are joined one by one as far as they go
 pub joined : (n : ℕ) (new a b : List ℕ) → length new ≡ n → length a ≡ n → length b ≡ n → ((j : ℕ) → j < n → get_or new j 0 ≡ bit_or (get_or a j 0) (get_or b j 0)) → (i : ℕ) → has_bit new i ≡ (has_bit a i || has_bit b i)
 joined n new a b ln la lb each i = has-or new a b i (go (cases_lt (i / 64) n))
@@ -124,9 +128,22 @@ joined n new a b ln la lb each i = has-or new a b i (go (cases_lt (i / 64) n))
     go (inl low) = each (i / 64) low
     go (inr high) = rw (get_or_past new (i / 64) 0 (omega arith), get_or_past a (i / 64) 0 (omega arith), get_or_past b (i / 64) 0 (omega arith))
 
-pub cut : (n : ℕ) (new a b : List ℕ) → length new ≡ n → length a ≡ n → ((j : ℕ) → j < n → (get_or new j 0 ≡ bit_and (get_or a j 0) (bit_not w64 (get_or b j 0))) × (get_or b j 0 < 2 ^ 64)) → (i : ℕ) → has_bit new i ≡ (has_bit a i && not (has_bit b i))
-cut n new a b ln la each i = go (cases_lt (i / 64) n)
+-- words of which the first ones are joined with others
+pub joined_part : (new a part : List ℕ) → ((j : ℕ) → j < length part → get_or new j 0 ≡ bit_or (get_or a j 0) (get_or part j 0)) → ((j : ℕ) → length part ≤ j → get_or new j 0 ≡ get_or a j 0) → (i : ℕ) → has_bit new i ≡ (has_bit a i || has_bit part i)
+joined_part new a part each rest i = go (cases_lt (i / 64) (length part))
   where
-    go : (i / 64 < n) ⊎ (n ≤ i / 64) → has_bit new i ≡ (has_bit a i && not (has_bit b i))
-    go (inl low) = has-less new a b i (each (i / 64) low).1 (each (i / 64) low).0
-    go (inr high) = rw (get_or_past new (i / 64) 0 (omega arith), get_or_past a (i / 64) 0 (omega arith), bit_at-zero (i % 64))
+    go : (i / 64 < length part) ⊎ (length part ≤ i / 64) → has_bit new i ≡ (has_bit a i || has_bit part i)
+    go (inl low) = has-or new a part i (each (i / 64) low)
+    go (inr high) = ap (λ x. bit_at x (i % 64) == 1) (rest (i / 64) high) ∙ or_false (has_bit a i) ∙ ap (λ b. has_bit a i || b) (sym (past_bit part i high))
+
+and_true : (b : Bool) → b ≡ (b && not false)
+and_true true = refl
+and_true false = refl
+
+-- words from the first of which others are taken out
+pub cut_part : (new a part : List ℕ) → ((j : ℕ) → j < length part → (get_or new j 0 ≡ bit_and (get_or a j 0) (bit_not w64 (get_or part j 0))) × (get_or part j 0 < 2 ^ 64)) → ((j : ℕ) → length part ≤ j → get_or new j 0 ≡ get_or a j 0) → (i : ℕ) → has_bit new i ≡ (has_bit a i && not (has_bit part i))
+cut_part new a part each rest i = go (cases_lt (i / 64) (length part))
+  where
+    go : (i / 64 < length part) ⊎ (length part ≤ i / 64) → has_bit new i ≡ (has_bit a i && not (has_bit part i))
+    go (inl low) = has-less new a part i (each (i / 64) low).1 (each (i / 64) low).0
+    go (inr high) = ap (λ x. bit_at x (i % 64) == 1) (rest (i / 64) high) ∙ and_true (has_bit a i) ∙ ap (λ b. has_bit a i && not b) (sym (past_bit part i high))

@@ -1,6 +1,6 @@
 -- Rows that are closed: what a member of a row has, the row has.
-use Rattle.std.specs.Prelude.{ℕ, ◌≢◌, ◌≤◌, ◌↔◌, List, [], Contains, slice_index_or}
-use Rattle.rv_rows.specs.Bits.{Has}
+use Rattle.std.specs.Prelude.{ℕ, ◌≡◌, ◌≢◌, ◌≤◌, ◌&&◌, not, List, [], Option, Some, None, Contains, slice_index_or}
+use Rattle.rv_rows.specs.Bits.{Has, has_bit, IsHighest}
 
 -- row b of the rows has j
 abbrev pub RowHas : List (List ℕ) → ℕ → ℕ → Type 0
@@ -11,15 +11,20 @@ pub record IsClosed (rows : List (List ℕ)) : Type 0 where
   pub below : (b j : ℕ) → RowHas rows b j → j ≤ b
   pub closed : (b c j : ℕ) → RowHas rows b c → RowHas rows c j → RowHas rows b j
 
--- the row of a listed number has j
-pub record IsReached (rows : List (List ℕ)) (listed : List ℕ) (j : ℕ) : Type 0 where
+-- the highest number of the set was taken out of it, with all that its row has; none, where the set is empty
+abbrev pub IsTaken : List (List ℕ) → List ℕ → Option ℕ → List ℕ → Type 0
+IsTaken rows old (Some n) new =
+    IsHighest old (Some n) × ((j : ℕ) → has_bit new j ≡ (has_bit old j && not (has_bit (slice_index_or rows n []) j)))
+IsTaken rows old None new = IsHighest old None × (new ≡ old)
+
+-- the row of a number that was taken has j
+pub record IsReached (rows : List (List ℕ)) (taken : List ℕ) (j : ℕ) : Type 0 where
   pub b : ℕ
-  pub is_listed : Contains listed b
+  pub is_taken : Contains taken b
   pub has : RowHas rows b j
 
--- the candidates that stand in no other candidate's row are listed, and each candidate stands in the row of a listed one
-pub record IsThinned (rows : List (List ℕ)) (candidates : List ℕ) (listed : List ℕ) (reach : List ℕ) : Type 0 where
-  pub only : (b : ℕ) → Contains listed b → Has candidates b
-  pub each : (a : ℕ) → Has candidates a → IsReached rows listed a
-  pub unsplit : (a c : ℕ) → Contains listed a → Has candidates c → c ≢ a → RowHas rows c a → ⊥
-  pub reaches : (j : ℕ) → Has reach j ↔ IsReached rows listed j
+-- the candidates that stand in no other candidate's row were taken, and each candidate stands in the row of one of these
+pub record IsThinned (rows : List (List ℕ)) (candidates taken : List ℕ) : Type 0 where
+  pub only : (b : ℕ) → Contains taken b → Has candidates b
+  pub each : (a : ℕ) → Has candidates a → IsReached rows taken a
+  pub unsplit : (a c : ℕ) → Contains taken a → Has candidates c → c ≢ a → RowHas rows c a → ⊥

@@ -1,21 +1,24 @@
 //! Sets of the numbers below 4,096 as rows of bits, and the sweep that thins candidates by such rows.
 //!
 //! The events of a hart have the numbers below 4,096. So one [`Row`] holds all events of a hart that lead to an event,
-//! and sets are joined and subtracted 64 numbers at a time. [`thin`] lists those of a set of candidates from which no
-//! other candidate leads on: the links that remain where all others follow.
+//! and sets are joined and subtracted 64 numbers at a time. A sweep of [`take_highest`] takes those of a set of
+//! candidates from which no other candidate leads on: the links that remain where all others follow.
 //!
-//! - `row`: a set of numbers.
-//! - `thinning`: the sweep.
-//! - `specs/`: what a row has (`Bits`), and what a sweep leaves (`Closure`).
+//! - `row`: a set of numbers. `rows`: many, kept one after the other in one list of words.
+//! - `thinning`: a step of the sweep.
+//! - `specs/`: what a row has (`Bits`), how rows lie one after the other (`Flat`), what a step of a sweep takes, and what
+//!   a sweep leaves (`Closure`).
+//! - `proofs/Sweep`: a sweep of such steps leaves just that.
 //!
-//! It stands on std alone. Its one contract to the others: a listed candidate stands in no other candidate's row, and
-//! each candidate stands in the row of a listed one.
+//! It stands on std alone. Its one contract to the others: the highest candidate is taken, with all that its row has.
 #![tactic(auto)]
 
 mod row;
+mod rows;
 #[cfg(test)]
 mod tests;
 mod thinning;
 
 pub use row::Row;
-pub use thinning::{Thinned, thin};
+pub use rows::Rows;
+pub use thinning::take_highest;

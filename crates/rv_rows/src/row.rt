@@ -1,5 +1,5 @@
 //! A set of numbers below 4,096.
-ghost use Rattle.std.specs.Prelude.{ℕ, not, ◌≡◌, ◌<◌, ◌≤◌, ◌==◌, ◌&&◌, ◌||◌, false};
+ghost use Rattle.std.specs.Prelude.{ℕ, not, ◌≡◌, ◌<◌, ◌≤◌, ◌==◌, ◌&&◌, ◌||◌, false, length, take};
 ghost use Rattle.rv_rows.specs.Bits.{Has, has_bit, IsHighest};
 
 use std::marker::Model;
@@ -53,14 +53,34 @@ impl Row {
         }
     }
 
-    /// Takes out all that the other set has.
-    pub fn subtract(&mut self, other: &Row)
-        ensures { (j : ℕ) → has_bit self.new j ≡ (has_bit self.old j && not (has_bit other.now j)) }
+    /// Puts in the numbers that the words have.
+    pub(crate) fn join_words(&mut self, words: &[u64])
+        requires { length words.now ≤ 64 }
+        ensures { (j : ℕ) → has_bit self.new j ≡ (has_bit self.old j || has_bit words.now j) }
     {
-        'words: for k in 0..64 {
-            let theirs = other.words[k];
+        'words: for k in 0..words.len() {
+            self.words[k] |= words[k];
+        }
+    }
+
+    /// Takes out the numbers that the words have.
+    pub(crate) fn subtract_words(&mut self, words: &[u64])
+        requires { length words.now ≤ 64 }
+        ensures { (j : ℕ) → has_bit self.new j ≡ (has_bit self.old j && not (has_bit words.now j)) }
+    {
+        'words: for k in 0..words.len() {
+            let theirs = words[k];
             self.words[k] &= !theirs;
         }
+    }
+
+    /// The first words: they have the numbers below 64 times their count.
+    pub(crate) fn lowest_words(&self, count: usize) -> &[u64]
+        requires { count ≤ 64 }
+        ensures words { result.now ≡ take count self.now }
+        ensures all { length self.now ≡ 64 }
+    {
+        &self.words[..count]
     }
 
     /// The highest number of a set whose numbers are all below `limit`, and `None` where it is empty. The search begins

@@ -1,43 +1,25 @@
-//! Which candidates stand in no other candidate's row.
-ghost use Rattle.std.specs.Prelude.{ℕ, ◌<◌, ◌≤◌, IfOk, length};
+//! The step of a sweep that finds which candidates stand in no other candidate's row.
+ghost use Rattle.std.specs.Prelude.{ℕ, ◌<◌, ◌≤◌, length};
 ghost use Rattle.rv_rows.specs.Bits.{Has};
-ghost use Rattle.rv_rows.specs.Closure.{RowHas, IsClosed, IsThinned};
+ghost use Rattle.rv_rows.specs.Closure.{IsTaken};
 
 use crate::row::Row;
-use std::alloc::{AllocError, Global};
+use crate::rows::Rows;
 
-/// What a sweep over candidates finds.
-#[derive(Drop)]
-pub struct Thinned {
-    /// The candidates that stand in no other candidate's row, the highest first.
-    pub listed: Vec<usize>,
-    /// All numbers that stand in the rows of these.
-    pub reach: Row,
-}
-
-/// Lists the candidates that stand in no other candidate's row, and gathers what their rows have.
+/// Takes the highest candidate out, and with it all that its row has; `None` where there is none. `limit` is above each
+/// candidate: the number of rows, or the candidate that was taken before.
 ///
-/// Row n is that of the number n; it has n and numbers below, and with a number all of that number's row. Each candidate
-/// has a row, and there are at most 4,096 rows. A sweep costs the joining and the subtraction of one row for each listed
-/// candidate.
-///
-/// # Errors
-/// `AllocError` where the list could not grow.
-pub fn thin(alloc: Global, candidates: Row, rows: &[Row]) -> Result<Thinned, AllocError>
+/// Where row n is that of the number n, has n and numbers below, and with a number all of that number's row, a sweep that
+/// takes until none is left takes just the candidates that stand in no other candidate's row, the highest first, and
+/// each candidate stands in the row of one that it took. A step costs a search from the limit down and the subtraction
+/// of one row.
+pub fn take_highest(candidates: &mut Row, rows: &Rows, limit: usize) -> Option<usize>
     requires few { length rows.now ≤ 4096 }
-    requires closed { IsClosed rows.now }
-    requires own { (b : ℕ) → Has candidates b → (b < length rows.now) × RowHas rows.now b b }
-    ensures { IfOk result (λ t. IsThinned rows.now candidates t.listed.items t.reach) }
+    requires limit { limit ≤ length rows.now }
+    requires below { (j : ℕ) → Has candidates.old j → j < limit }
+    ensures { IsTaken rows.now candidates.old result candidates.new }
 {
-    let mut left = candidates;
-    let mut listed = Vec::new(alloc);
-    let mut reach = Row::new();
-    let mut top = rows.len();
-    'numbers: while let Some(b) = left.highest_below(top) {
-        top = b;
-        listed.push(b)?;
-        reach.join(&rows[b]);
-        left.subtract(&rows[b]);
-    }
-    Ok(Thinned { listed, reach })
+    let number = candidates.highest_below(limit)?;
+    rows.subtract_from(number, candidates);
+    Some(number)
 }

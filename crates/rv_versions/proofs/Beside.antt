@@ -4,7 +4,7 @@ use Rattle.rv_event.proofs.Names.{Contains-cons, Contains-here, Contains-there}
 use Rattle.rv_event.specs.declared.event.Event.{Event}
 use Rattle.rv_versions.specs.Indexes.{beside}
 use Rattle.rv_versions.specs.declared.reservation.Reservation.{Reservation}
-use Rattle.rv_versions.proofs.Ranges.{Contains-none}
+use Rattle.rv_versions.proofs.Members.{Contains-none}
 
 pub beside-push : (log : List Event) (rs : List (Option Reservation)) (e : Event) (r : Option Reservation) →
     length log ≡ length rs → beside (log ++ e ∷ []) (rs ++ r ∷ []) ≡ beside log rs ++ (e, r) ∷ []

@@ -6,7 +6,7 @@ use Rattle.rv_event.specs.Operations.{is_store, IsStore}
 use Rattle.rv_event.specs.declared.event.Event.{Event}
 use Rattle.rv_cover.specs.Thinned.{IsNextLower, IsNextHigher}
 use Rattle.rv_versions.specs.Lookups.{IsForeign}
-use Rattle.rv_versions.proofs.Ranges.{Contains-none}
+use Rattle.rv_versions.proofs.Members.{Contains-none}
 
 pub record Best (Fits : Event → Type 0) (Least : Event → Event → Type 0) (log : List Event) : Type 0 where
   pub event : Event

@@ -14,7 +14,7 @@ use Rattle.rv_versions.specs.declared.accesses.Access.{Access}
 use Rattle.rv_versions.specs.declared.indexes.Indexes.{Indexes}
 use Rattle.rv_versions.specs.declared.reservation.Reservation.{Reservation}
 use Rattle.rv_versions.proofs.Beside.{beside_left, beside_of}
-use Rattle.rv_versions.proofs.Keys.{id_of}
+use Rattle.rv_versions.specs.Accesses.{id_of}
 use Rattle.rv_versions.proofs.Paired.{one_partner}
 
 abbrev pub store_access : Event → Access

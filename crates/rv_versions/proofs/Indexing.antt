@@ -18,9 +18,9 @@ use Rattle.rv_versions.specs.declared.accesses.Access.{Access}
 use Rattle.rv_versions.specs.declared.indexes.Indexes.{Indexes}
 use Rattle.rv_versions.specs.declared.reservation.Reservation.{Reservation}
 use Rattle.rv_versions.proofs.Beside.{beside-push, beside_left}
-use Rattle.rv_versions.proofs.Keys.{id_of}
+use Rattle.rv_versions.specs.Accesses.{id_of}
 use Rattle.rv_versions.proofs.Paired.{is_new, reservation_grows, reservation_settled, reservation_new}
-use Rattle.rv_versions.proofs.Ranges.{Contains-none}
+use Rattle.rv_versions.proofs.Members.{Contains-none}
 
 pub failed : {X E : Type 0} (r : Result X E) (P : Type 0) → is_err r ≡ true → OnErr r P → P
 failed (Ok x) P e h = absurd (false≢true e)

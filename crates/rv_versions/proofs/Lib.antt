@@ -5,13 +5,13 @@ pub mod Carrying
 pub mod Found
 pub mod Gathered
 pub mod Indexing
-pub mod Keys
 pub mod Listing
 pub mod Looking
+pub mod Members
 pub mod Nearing
 pub mod Nearest
 pub mod Owning
 pub mod Paired
-pub mod Ranges
+pub mod Placed
 pub mod Stored
-pub mod Topping
+pub mod Versioned

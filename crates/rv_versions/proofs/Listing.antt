@@ -1,9 +1,11 @@
 -- Lists of links that grow by those that are meant.
-use Rattle.std.proofs.Common.{◌≡◌, ◌≢◌, ℕ, ◌+◌, ◌<◌, ◌≤◌, List, [], ◌∷◌, ◌++◌, Contains, Option, Some, None, Result, Ok, Err, OnOk, ◌↔◌, ◌⊎◌, inl, inr, refl, sym, ap, ◌∙◌, arith, subst}
+use Rattle.std.proofs.Common.{◌≡◌, ◌≢◌, ℕ, ◌+◌, ◌<◌, ◌≤◌, List, [], ◌∷◌, ◌++◌, Contains, Option, Some, None, Result, Ok, Err, OnOk, ◌↔◌, ◌⊎◌, inl, inr, refl, sym, ap, ◌∙◌, arith, subst, append_assoc}
 use Rattle.std.proofs.lemmas.Bool.{cases_eq, cases_lt}
 use Rattle.std.proofs.lemmas.Option.{same_Some}
+use Rattle.std.proofs.lemmas.List.{append-nil}
 use Rattle.std.proofs.lemmas.List.Elements.{Contains-append_left, Contains-push, Contains-push_cases}
 use Rattle.rv_event.proofs.Indexed.{Indexed}
+use Rattle.rv_event.proofs.Names.{Contains-cons, Contains-here}
 use Rattle.rv_event.specs.Operations.{IsLoad, IsStore}
 use Rattle.rv_event.specs.declared.event.Event.{Event}
 use Rattle.rv_event.specs.declared.event.Id.{Id}
@@ -16,32 +18,37 @@ use Rattle.rv_versions.specs.Listed.{AtomicOutBefore, link, IsExtended, IsUncove
 use Rattle.rv_versions.specs.Lookups.{IsLowerStore, IsHigherStore, IsForeign, IsForeignLower, IsForeignHigher, IsLoadBetween, IsPairBetween}
 use Rattle.rv_versions.specs.declared.accesses.Access.{Access}
 use Rattle.rv_versions.specs.declared.reservation.Reservation.{Reservation}
-use Rattle.rv_versions.proofs.Keys.{id_of}
+use Rattle.rv_versions.specs.Accesses.{id_of}
 use Rattle.rv_versions.proofs.Nearing.{same_version}
-use Rattle.rv_versions.proofs.Ranges.{Contains-none}
+use Rattle.rv_versions.proofs.Members.{Contains-none}
+
+-- no link more, where none is meant
+pub extended_none : (old : List Link) (P : Link → Type 0) → ((l : Link) → P l → ⊥) → IsExtended old old P
+extended_none old P none = record {
+  others = [];
+  behind = sym (append-nil old);
+  meant = λ l. (λ c. absurd (Contains-none l c), λ p. absurd (none l p));
+}
 
 -- one link more, the only one that is meant
 pub extended_push : (old new : List Link) (k : Link) (P : Link → Type 0) → new ≡ old ++ k ∷ [] → P k →
     ((l : Link) → P l → l ≡ k) → IsExtended old new P
-extended_push old new k P is here only = subst (λ (ls : List Link). IsExtended old ls P) (sym is) (λ l. (to l, from l))
-  where
-    to : (l : Link) → Contains (old ++ k ∷ []) l → Contains old l ⊎ P l
-    to l c = elim (Contains-push_cases old k l c) [ inl was ↦ inl was | inr same ↦ inr (subst P same here) ]
-
-    from : (l : Link) → Contains old l ⊎ P l → Contains (old ++ k ∷ []) l
-    from l (inl c) = Contains-append_left old (k ∷ []) l c
-    from l (inr p) = subst (Contains (old ++ k ∷ [])) (sym (only l p)) (Contains-push old k)
+extended_push old new k P is here only = record {
+  others = k ∷ [];
+  behind = is;
+  meant = λ l. (
+    λ c. elim (Contains-cons k [] l c) [ inl same ↦ subst P same here | inr none ↦ absurd (Contains-none l none) ],
+    λ p. Contains-here k [] l (sym (only l p)),
+  );
+}
 
 pub extended_same : (old new : List Link) (P Q : Link → Type 0) → ((l : Link) → P l ↔ Q l) → IsExtended old new P →
     IsExtended old new Q
-extended_same old new P Q same h l = (to, from)
-  where
-    to : Contains new l → Contains old l ⊎ Q l
-    to c = elim ((h l).0 c) [ inl was ↦ inl was | inr p ↦ inr ((same l).0 p) ]
-
-    from : Contains old l ⊎ Q l → Contains new l
-    from (inl c) = (h l).1 (inl c)
-    from (inr q) = (h l).1 (inr ((same l).1 q))
+extended_same old new P Q same h = record {
+  others = h.others;
+  behind = h.behind;
+  meant = λ l. (λ c. (same l).0 ((h.meant l).0 c), λ q. (h.meant l).1 ((same l).1 q));
+}
 
 -- ---- a loop over ids, of which those that pass are linked
 
@@ -50,28 +57,28 @@ module _ (Pass : Id → Type 0) (reason : Reason) where
   Linked ids l = (i : Id) × Contains ids i × Pass i × (l ≡ link i reason)
 
   pub linked_none : (old : List Link) → IsExtended old old (Linked [])
-  linked_none old l = (λ c. inl c, λ h. elim h [ inl c ↦ c | inr p ↦ absurd (Contains-none p.0 p.1) ])
+  linked_none old = extended_none old (Linked []) (λ l p. Contains-none p.0 p.1)
 
   pub linked_more : (old mid new : List Link) (seen : List Id) (i : Id) → IsExtended old mid (Linked seen) →
       Pass i → new ≡ mid ++ link i reason ∷ [] → IsExtended old new (Linked (seen ++ i ∷ []))
-  linked_more old mid new seen i h pass is = subst (λ (ls : List Link). IsExtended old ls (Linked (seen ++ i ∷ [])))
-      (sym is) (λ l. (to l, from l))
+  linked_more old mid new seen i h pass is = record {
+    others = h.others ++ link i reason ∷ [];
+    behind = is ∙ ap (λ (ls : List Link). ls ++ link i reason ∷ []) h.behind ∙
+        append_assoc old h.others (link i reason ∷ []);
+    meant = λ l. (to l, from l);
+  }
     where
-      to : (l : Link) → Contains (mid ++ link i reason ∷ []) l → Contains old l ⊎ Linked (seen ++ i ∷ []) l
-      to l c = elim (Contains-push_cases mid (link i reason) l c) [
-        | inl was ↦ elim ((h l).0 was) [
-          | inl older ↦ inl older
-          | inr p ↦ inr (p.0, Contains-append_left seen (i ∷ []) p.0 p.1, p.2, p.3)
-        ]
-        | inr same ↦ inr (i, Contains-push seen i, pass, sym same)
+      to : (l : Link) → Contains (h.others ++ link i reason ∷ []) l → Linked (seen ++ i ∷ []) l
+      to l c = elim (Contains-push_cases h.others (link i reason) l c) [
+        | inl was ↦ (let p = (h.meant l).0 was in (p.0, Contains-append_left seen (i ∷ []) p.0 p.1, p.2, p.3))
+        | inr same ↦ (i, Contains-push seen i, pass, sym same)
       ]
 
-      from : (l : Link) → Contains old l ⊎ Linked (seen ++ i ∷ []) l → Contains (mid ++ link i reason ∷ []) l
-      from l (inl c) = Contains-append_left mid (link i reason ∷ []) l ((h l).1 (inl c))
-      from l (inr (j, c, p, e)) = elim (Contains-push_cases seen i j c) [
-        | inl was ↦ Contains-append_left mid (link i reason ∷ []) l ((h l).1 (inr (j, was, p, e)))
-        | inr same ↦ subst (Contains (mid ++ link i reason ∷ [])) (ap (λ (x : Id). link x reason) same ∙
-            sym e) (Contains-push mid (link i reason))
+      from : (l : Link) → Linked (seen ++ i ∷ []) l → Contains (h.others ++ link i reason ∷ []) l
+      from l (j, c, p, e) = elim (Contains-push_cases seen i j c) [
+        | inl was ↦ Contains-append_left h.others (link i reason ∷ []) l ((h.meant l).1 (j, was, p, e))
+        | inr same ↦ subst (Contains (h.others ++ link i reason ∷ [])) (ap (λ (x : Id). link x reason) same ∙
+            sym e) (Contains-push h.others (link i reason))
       ]
 
   pub linked_past : (old mid : List Link) (seen : List Id) (i : Id) → IsExtended old mid (Linked seen) → (Pass i →
@@ -424,29 +431,27 @@ module _ (log : List Event) (e : Event) (old new : List Link) where
       IsExtended old new (λ l. (i : Id) × Contains ids i × (i.hart ≢ e.id.hart) × (l ≡ link i AtomicOut)) →
       AtomicOutsBefore log e old new
   atomic_outs_before_of ids low w store eq parted found h = record {
-    kept = λ l c. (h l).1 (inl c);
-    only = λ l c. elim ((h l).0 c) [
-      | inl was ↦ inl was
-      | inr p ↦ let f = (found p.0).0 p.1 in
-          let high = f.below in
-          inr (
-            f.sc,
-            f.lr,
-            record {
-              store = store;
-              of_log = f.of_log;
-              pair = f.pair;
-              word = f.same;
-              below = omega arith;
-              other_hart
-                  = λ e. p.2 (sym (ap (λ (i : Id). i.hart) f.named) ∙ e);
-            },
-            p.3 ∙ ap (λ (i : Id). link i AtomicOut) (sym f.named),
-          )
-    ];
+    others = h.others;
+    behind = h.behind;
+    only = λ l c.
+        let p = (h.meant l).0 c in
+        let f = (found p.0).0 p.1 in
+        let high = f.below in (
+          f.sc,
+          f.lr,
+          record {
+            store = store;
+            of_log = f.of_log;
+            pair = f.pair;
+            word = f.same;
+            below = omega arith;
+            other_hart = λ e. p.2 (sym (ap (λ (i : Id). i.hart) f.named) ∙ e);
+          },
+          p.3 ∙ ap (λ (i : Id). link i AtomicOut) (sym f.named),
+        );
     each = λ sc lr a. let below = a.below in elim (cases_lt lr.read low) [
       | inl under ↦ inr (parted lr.read sc.id.hart under a.other_hart)
-      | inr over ↦ inl ((h (link sc.id AtomicOut)).1 (inr (
+      | inr over ↦ inl ((h.meant (link sc.id AtomicOut)).1 (
         sc.id,
         (found sc.id).1
             (record {
@@ -456,13 +461,12 @@ module _ (log : List Event) (e : Event) (old new : List Link) where
               pair = a.pair;
               same = a.word;
               at_least = over;
-              below =
-                  omega arith;
+              below = omega arith;
               named = refl;
             }),
         a.other_hart,
         refl,
-      )))
+      ))
     ];
   }
 
@@ -483,7 +487,8 @@ pub no_atomic_outs :
     (log : List Event) (e : Event) (links : List Link) → ((sc lr : Event) → AtomicOutBefore log e sc lr → ⊥) →
     AtomicOutsBefore log e links links
 no_atomic_outs log e links none = record {
-  kept = λ l c. c;
-  only = λ l c. inl c;
+  others = [];
+  behind = sym (append-nil links);
+  only = λ l c. absurd (Contains-none l c);
   each = λ sc lr a. absurd (none sc lr a);
 }

@@ -13,7 +13,7 @@ use Rattle.rv_versions.specs.declared.accesses.Access.{Access}
 use Rattle.rv_versions.specs.declared.indexes.Indexes.{Indexes}
 use Rattle.rv_versions.specs.declared.reservation.Reservation.{Reservation}
 use Rattle.rv_versions.proofs.Found.{store_access, store_found, store_listed, load_found, load_listed, pair_found, pair_listed}
-use Rattle.rv_versions.proofs.Keys.{id_of}
+use Rattle.rv_versions.specs.Accesses.{id_of}
 use Rattle.rv_versions.proofs.Nearing.{same_version}
 
 module _ (log now : List Event) (rs : List (Option Reservation)) (ix : Indexes) (known : AreIndexes log rs ix)

@@ -1,5 +1,6 @@
--- Accesses to words, in the order of word and version.
-use Rattle.std.specs.Prelude.{ℕ, ◌≡◌, ◌≢◌, ◌<◌, ◌≤◌, List, Contains, Option, Some, None}
+-- Accesses to words, by word and version.
+use Rattle.std.specs.Prelude.{ℕ, ◌≡◌, ◌≢◌, ◌<◌, ◌≤◌, ◌↔◌, List, [], length, Contains, AllPairs, Option, Some, None, slice_index_or}
+use Rattle.std.specs.List.Sorted.{IsPartitionPoint}
 use Rattle.rv_event.specs.declared.event.Id.{Id}
 use Rattle.rv_versions.specs.declared.accesses.Access.{Access}
 
@@ -7,10 +8,37 @@ use Rattle.rv_versions.specs.declared.accesses.Access.{Access}
 abbrev pub access : ℕ → ℕ → Id → Access
 access word version i = record { word = word; version = version; hart = i.hart; seq = i.seq }
 
+-- the event that made it
+abbrev pub id_of : Access → Id
+id_of x = record { hart = x.hart; seq = x.seq }
+
 -- the access is one of the word
 pub record IsOf (accesses : List Access) (word : ℕ) (x : Access) : Type 0 where
   pub known : Contains accesses x
   pub same : x.word ≡ word
+
+-- the list has the accesses of the word, and no others
+abbrev pub AreAllOf : List Access → ℕ → List Access → Type 0
+AreAllOf accesses word list = (x : Access) → Contains list x ↔ IsOf accesses word x
+
+-- an access stands before another one: it is not of a higher version
+abbrev pub StandsBefore : Access → Access → Type 0
+StandsBefore x y = (x.version ≤ y.version) × (x ≢ y)
+
+-- in the order of their versions, and none twice
+abbrev pub AreByVersion : List Access → Type 0
+AreByVersion accesses = AllPairs StandsBefore accesses
+
+-- those before the place are of a lower version, and those from it on are not
+abbrev pub IsStart : List Access → ℕ → ℕ → Type 0
+IsStart accesses version place =
+    IsPartitionPoint (λ x. x.version < version) (λ x. version ≤ x.version) accesses place
+
+-- a word's number is that of a list, no other word has it, and each access stands in the list of its word
+pub record AreInPlace (place_of : ℕ → Option ℕ) (lists : List (List Access)) : Type 0 where
+  pub known : (word place : ℕ) → place_of word ≡ Some place → place < length lists
+  pub apart : (word other place : ℕ) → place_of word ≡ Some place → place_of other ≡ Some place → word ≡ other
+  pub placed : (place : ℕ) (x : Access) → Contains (slice_index_or lists place []) x → place_of x.word ≡ Some place
 
 -- the access of the highest version of the word below this one
 abbrev pub IsLower : List Access → ℕ → ℕ → Option Access → Type 0

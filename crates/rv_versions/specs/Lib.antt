@@ -4,5 +4,4 @@ pub mod Listed
 pub mod Lookups
 pub mod Own
 pub mod Reserved
-pub mod Tops
 pub mod VersionLinks

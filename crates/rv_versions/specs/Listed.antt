@@ -1,5 +1,5 @@
 -- Which links of a new event are listed, reason by reason.
-use Rattle.std.specs.Prelude.{ℕ, ◌≡◌, ◌≢◌, ◌<◌, ◌≤◌, ◌↔◌, ◌⊎◌, List, Contains, Option, Some}
+use Rattle.std.specs.Prelude.{ℕ, ◌≡◌, ◌≢◌, ◌<◌, ◌≤◌, ◌↔◌, ◌⊎◌, ◌++◌, List, Contains, Option, Some}
 use Rattle.rv_event.specs.Log.{writer}
 use Rattle.rv_event.specs.Operations.{IsLoad, IsStore}
 use Rattle.rv_event.specs.declared.event.Event.{Event}
@@ -15,9 +15,11 @@ use Rattle.rv_versions.specs.declared.reservation.Reservation.{Reservation}
 abbrev pub link : Id → Reason → Link
 link i reason = record { id = i; reason = reason }
 
--- the new list has what the old one had and the links that are meant, and nothing else
-abbrev pub IsExtended : List Link → List Link → (Link → Type 0) → Type 0
-IsExtended old new IsMeant = (l : Link) → Contains new l ↔ (Contains old l ⊎ IsMeant l)
+-- behind the old links the new list has those that are meant, and nothing else
+pub record IsExtended (old new : List Link) (IsMeant : Link → Type 0) : Type 0 where
+  pub others : List Link
+  pub behind : new ≡ old ++ others
+  pub meant : (l : Link) → Contains others l ↔ IsMeant l
 
 -- ---- links into the new event
 
@@ -75,15 +77,16 @@ pub record IsParted (log : List Event) (word version wrote hart : ℕ) : Type 0 
   pub above : version < store.wrote
   pub below : store.wrote < wrote
 
--- all but such as a store of another hart than the SC's parts from the new event
+-- behind the old links stand all but such as a store of another hart than the SC's parts from the new event
 pub record AtomicOutsBefore (log : List Event) (e : Event) (old new : List Link) : Type 0 where
-  pub kept : (l : Link) → Contains old l → Contains new l
+  pub others : List Link
+  pub behind : new ≡ old ++ others
   pub only :
-      (l : Link) → Contains new l →
-      Contains old l ⊎ ((sc : Event) × (lr : Event) × AtomicOutBefore log e sc lr × (l ≡ link sc.id AtomicOut))
+      (l : Link) → Contains others l →
+      (sc : Event) × (lr : Event) × AtomicOutBefore log e sc lr × (l ≡ link sc.id AtomicOut)
   pub each :
       (sc lr : Event) → AtomicOutBefore log e sc lr →
-      Contains new (link sc.id AtomicOut) ⊎ IsParted log e.word lr.read e.wrote sc.id.hart
+      Contains others (link sc.id AtomicOut) ⊎ IsParted log e.word lr.read e.wrote sc.id.hart
 
 -- ---- links out of the new event
 

@@ -1,29 +1,27 @@
 //! Accesses to words, found by word and version.
 //!
-//! Where events come in commit order, nearly all that is asked of a word is about its highest version, and one look-up in
-//! the tops answers it. The rest is searched in an ordered set.
-ghost use Rattle.std.specs.Prelude.{ℕ, ◌≡◌, ◌≢◌, ◌↔◌, ◌⊎◌, ◌<◌, ◌≤◌, [], Contains, OnOk, OnErr, IfOk};
-ghost use Rattle.rv_versions.specs.Accesses.{IsLower, IsFirstFrom, IsForeignFrom, IsBetween};
+//! Each word has a number, and under that number the list of its accesses.
+ghost use Rattle.std.specs.Prelude.{ℕ, ◌≡◌, ◌↔◌, [], List, Contains, Some, OnOk, OnErr, IfOk, MatchOption, nat_eq, map};
+ghost use Rattle.std.specs.HashMap.{get};
+ghost use Rattle.std.specs.List.{flat_map};
+ghost use Rattle.rv_versions.specs.Accesses.{id_of, IsOf, AreAllOf, AreInPlace, IsLower, IsFirstFrom, IsForeignFrom, IsBetween};
 ghost use Rattle.rv_versions.specs.Indexes.{IsInserted, IsRemoved};
-ghost use Rattle.rv_versions.specs.Tops.{IsTop};
 ghost use Rattle.rv_versions.specs.declared.accesses.Access.{Access};
 ghost use Rattle.rv_event.specs.declared.event.Id.{Id};
 
-use crate::tops::{Top, Tops};
+use crate::by_version::ByVersion;
 use rv_event::{Id, NoMemory};
 use std::alloc::Global;
-use std::collections::BTreeSet;
+use std::collections::HashMap;
 use std::marker::Model;
 
-/// An access of an event to a version of a word. Accesses stand in the order of word and version.
-///
-/// Word and version are wider than those of an event, so that a range of accesses can end past the last one.
-#[derive(Clone, Copy, PartialEq, Eq, PartialOrd, Ord, Debug)]
+/// An access of an event to a version of a word.
+#[derive(Clone, Copy, PartialEq, Eq, Debug)]
 pub struct Access {
     /// The word.
-    pub word: u64,
+    pub word: u32,
     /// The version.
-    pub version: u64,
+    pub version: u32,
     /// The event's hart.
     pub hart: u8,
     /// The event's place in its hart's program order.
@@ -33,7 +31,7 @@ pub struct Access {
 impl Access {
     /// The event's name.
     pub fn id(&self) -> Id
-        ensures { result ≡ record { hart = self.now.hart; seq = self.now.seq } }
+        ensures { result ≡ id_of self.now }
     {
         Id {
             hart: self.hart,
@@ -45,98 +43,125 @@ impl Access {
 /// A set of accesses.
 #[derive(Drop)]
 pub struct Accesses {
-    set: BTreeSet<Access>,
-    tops: Tops,
+    alloc: Global,
+    places: HashMap<u32, usize>,
+    lists: Vec<ByVersion>,
 }
 
 impl Model for Accesses {
-    ghost use Rattle.std.specs.Prelude.{List};
-    ghost use Rattle.rv_versions.specs.Tops.{AreTops};
+    ghost use Rattle.std.specs.Prelude.{List, nat_eq};
+    ghost use Rattle.std.specs.HashMap.{get};
+    ghost use Rattle.std.specs.List.{flat_map};
+    ghost use Rattle.rv_versions.specs.Accesses.{AreInPlace};
     ghost use Rattle.rv_versions.specs.declared.accesses.Access.{Access};
 
     ghost Value = { List Access };
 
-    ghost view = { λ a. a.set.keys };
+    ghost view = { λ a. flat_map (λ l. l) a.lists.items };
 
-    ghost invariant = { λ a. AreTops a.set.keys a.tops };
+    ghost invariant = { λ a. AreInPlace (get nat_eq a.places) a.lists.items };
 }
 
-/// What comes first of a version of a word.
-fn start(word: u64, version: u64) -> Access
-    ensures { result ≡ record { word = word; version = version; hart = 0; seq = 0 } }
+/// The number of the word, which is given one where it has none.
+///
+/// # Errors
+/// `NoMemory`; no access is lost.
+fn place_of(
+    alloc: Global,
+    places: &mut HashMap<u32, usize>,
+    lists: &mut Vec<ByVersion>,
+    word: u32,
+) -> Result<usize, NoMemory>
+    requires { AreInPlace (get nat_eq places.old) lists.old.items }
+    ensures in_place { AreInPlace (get nat_eq places.new) lists.new.items }
+    ensures same { flat_map (λ l. l) lists.new.items ≡ flat_map (λ l. l) lists.old.items }
+    ensures placed { IfOk result (λ place. get nat_eq places.new word ≡ Some place) }
 {
-    Access {
-        word,
-        version,
-        hart: 0,
-        seq: 0,
+    if let Some(place) = places.get(&word) {
+        return Ok(*place);
     }
+    let place = lists.len();
+    lists.push(ByVersion::new(alloc))?;
+    places.insert(word, place)?;
+    Ok(place)
 }
 
 impl Accesses {
-    /// No accesses. It takes no memory.
+    /// No accesses. It takes no memory; the allocator serves the calls to come.
     pub fn new(alloc: Global) -> Self
         ensures { result ≡ [] }
     {
         Accesses {
-            set: BTreeSet::new(alloc),
-            tops: Tops::new(alloc),
+            alloc,
+            places: HashMap::new(alloc),
+            lists: Vec::new(alloc),
         }
     }
 
-    /// Puts the access in, where there is one.
+    /// Puts the access in, where there is one. It is not there yet.
+    ///
+    /// It costs a look-up, and a step where its word has no higher version; else a search, and the moving of what
+    /// stands behind it in its word's list.
     ///
     /// # Errors
     /// `NoMemory`; the accesses are then as they were.
     pub fn insert(&mut self, access: Option<Access>) -> Result<(), NoMemory>
+        requires { (x : Access) → access ≡ Some x → Contains self.old x → ⊥ }
         ensures inserted { OnOk result (IsInserted self.old access self.new) }
         ensures unchanged { OnErr result (self.new ≡ self.old) }
     {
         if let Some(access) = access {
-            self.tops.note(access.word)?;
-            self.set.insert(access)?;
-            self.tops.raise(access);
+            let place = place_of(self.alloc, &mut self.places, &mut self.lists, access.word)?;
+            let list = &mut self.lists[place];
+            list.insert(access)?;
         }
         Ok(())
     }
 
     /// Takes the access out, where there is one. It takes no memory.
+    ///
+    /// It costs a look-up, a step for each access of its version that came later, and the moving of what stands behind
+    /// it in its word's list.
     pub fn remove(&mut self, access: Option<Access>)
         ensures { IsRemoved self.old access self.new }
     {
-        if let Some(access) = access {
-            self.set.remove(&access);
-            self.tops.forget(access);
-        }
+        let Some(access) = access else {
+            return;
+        };
+        let Some(place) = self.places.get(&access.word) else {
+            return;
+        };
+        let list = &mut self.lists[*place];
+        list.remove(access);
     }
 
-    /// What is known of the word.
-    fn top(&self, word: u32) -> Top
-        ensures { IsTop self.now word result }
+    /// The accesses of the word, where it has a number.
+    fn of_word(&self, word: u32) -> Option<&ByVersion>
+        ensures { MatchOption result ((x : Access) → IsOf self.now word x → ⊥) (λ list. AreAllOf self.now word list.now) }
     {
-        self.tops.get(u64::from(word))
+        match self.places.get(&word) {
+            Some(place) => Some(&self.lists[*place]),
+            None => None,
+        }
     }
 
     /// The access of the lowest version of the word from this one on.
     pub fn first_from(&self, word: u32, version: u64) -> Option<Access>
         ensures { IsFirstFrom self.now word version result }
     {
-        match self.top(word) {
-            Top::Nothing => None,
-            Top::Known(top) if top.version < version => None,
-            Top::Known(top) if top.version == version => Some(top),
-            _ => self.search_from(word, version),
+        match self.of_word(word) {
+            Some(list) => list.first_from(version),
+            None => None,
         }
     }
 
     /// The access of the highest version of the word below this one.
-    pub fn lower(&self, word: u32, version: u64) -> Option<Access>
+    pub fn lower(&self, word: u32, version: u32) -> Option<Access>
         ensures { IsLower self.now word version result }
     {
-        match self.top(word) {
-            Top::Nothing => None,
-            Top::Known(top) if top.version < version => Some(top),
-            _ => self.search_below(word, version),
+        match self.of_word(word) {
+            Some(list) => list.lower(version),
+            None => None,
         }
     }
 
@@ -144,87 +169,19 @@ impl Accesses {
     pub fn foreign_from(&self, word: u32, version: u64, hart: u8) -> Option<Access>
         ensures { IsForeignFrom self.now word version hart result }
     {
-        match self.top(word) {
-            Top::Nothing => None,
-            Top::Known(top) if top.version < version => None,
-            _ => self.search_foreign(word, version, hart),
+        match self.of_word(word) {
+            Some(list) => list.foreign_from(version, hart),
+            None => None,
         }
     }
 
-    /// The ids of the accesses to a version of the word from the first on and below the second.
-    ///
-    /// # Errors
-    /// `NoMemory` where the list could not grow.
-    pub fn ids_between(
-        &self,
-        alloc: Global,
-        word: u32,
-        from: u64,
-        to: u64,
-    ) -> Result<Vec<Id>, NoMemory>
-        requires { from ≤ to }
-        ensures { IfOk result (λ ids. (i : Id) →
-            Contains ids.items i ↔ IsBetween self.now word from to i) }
+    /// The accesses to a version of the word from the first on and below the second.
+    pub fn between(&self, word: u32, from: u32, to: u64) -> &[Access]
+        ensures { (i : Id) → Contains (map id_of result.now) i ↔ IsBetween self.now word from to i }
     {
-        match self.top(word) {
-            Top::Nothing => Ok(Vec::new(alloc)),
-            Top::Known(top) if top.version < from => Ok(Vec::new(alloc)),
-            _ => self.search_between(alloc, word, from, to),
+        match self.of_word(word) {
+            Some(list) => list.between(from, to),
+            None => &[],
         }
-    }
-
-    /// What `first_from` answers, by a search.
-    fn search_from(&self, word: u32, version: u64) -> Option<Access>
-        ensures { IsFirstFrom self.now word version result }
-    {
-        let word = u64::from(word);
-        self.set
-            .range(start(word, version)..start(word + 1, 0))
-            .next()
-            .copied()
-    }
-
-    /// What `lower` answers, by a search.
-    fn search_below(&self, word: u32, version: u64) -> Option<Access>
-        ensures { IsLower self.now word version result }
-    {
-        let word = u64::from(word);
-        self.set
-            .range(start(word, 0)..start(word, version))
-            .next_back()
-            .copied()
-    }
-
-    /// What `foreign_from` answers, by a search.
-    fn search_foreign(&self, word: u32, version: u64, hart: u8) -> Option<Access>
-        ensures { IsForeignFrom self.now word version hart result }
-    {
-        let word = u64::from(word);
-        for access in self.set.range(start(word, version)..start(word + 1, 0)) {
-            if access.hart != hart {
-                return Some(*access);
-            }
-        }
-        None
-    }
-
-    /// What `ids_between` answers, by a search.
-    fn search_between(
-        &self,
-        alloc: Global,
-        word: u32,
-        from: u64,
-        to: u64,
-    ) -> Result<Vec<Id>, NoMemory>
-        requires { from ≤ to }
-        ensures { IfOk result (λ ids. (i : Id) →
-            Contains ids.items i ↔ IsBetween self.now word from to i) }
-    {
-        let word = u64::from(word);
-        let mut ids = Vec::new(alloc);
-        for access in self.set.range(start(word, from)..start(word, to)) {
-            ids.push(access.id())?;
-        }
-        Ok(ids)
     }
 }

@@ -23,8 +23,8 @@ fn access(word: u32, version: u32, id: Id) -> Access
     ensures { result ≡ record { word = word; version = version; hart = id.hart; seq = id.seq } }
 {
     Access {
-        word: u64::from(word),
-        version: u64::from(version),
+        word,
+        version,
         hart: id.hart,
         seq: id.seq,
     }

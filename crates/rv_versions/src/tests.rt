@@ -89,7 +89,9 @@ fn push(rt: &impl Abort, alloc: Global, versions: &mut Versions, event: &Event) 
 fn around(rt: &impl Abort, alloc: Global, versions: &Versions, event: &Event) -> VersionLinks {
     assert_sound(rt, versions, event);
     let reserved = reservation(alloc, versions.entries(), event).expect(rt, "memory");
-    versions.around(event, reserved).expect(rt, "memory")
+    versions
+        .around(event, reserved, Vec::new(alloc))
+        .expect(rt, "memory")
 }
 
 fn has_own_edge(rt: &impl Abort, alloc: Global, versions: &Versions, event: &Event) -> bool {
@@ -115,6 +117,20 @@ fn log_of(rt: &impl Abort, alloc: Global, events: &[Event]) -> Versions {
 }
 
 /// Holds the links of one event more against those that are expected.
+fn assert_around(
+    rt: &impl Abort,
+    alloc: Global,
+    versions: &Versions,
+    event: &Event,
+    before: &[Link],
+    after: &[Link],
+) {
+    let links = around(rt, alloc, versions, event);
+    assert!(rt; links.before.as_slice() == before);
+    assert!(rt; links.after.as_slice() == after);
+}
+
+/// The same, over the log of these events.
 fn assert_links(
     rt: &impl Abort,
     alloc: Global,
@@ -124,9 +140,7 @@ fn assert_links(
     after: &[Link],
 ) {
     let versions = log_of(rt, alloc, log);
-    let links = around(rt, alloc, &versions, event);
-    assert!(rt; links.before.as_slice() == before);
-    assert!(rt; links.after.as_slice() == after);
+    assert_around(rt, alloc, &versions, event, before, after);
 }
 
 #[test]
@@ -302,4 +316,61 @@ fn what_is_popped_is_found_no_more(rt: HostRuntime) {
     versions.pop();
     assert!(rt; versions.entries().is_empty());
     assert!(rt; versions.writer(7, 3).is_none());
+}
+
+/// Stores and loads of a word whose higher versions come first, with loads of one version by two harts.
+fn late_events(alloc: Global) -> [Event; 5] {
+    [
+        event(alloc, Op::Store, id(0, 0), 7, (0, 4)),
+        event(alloc, Op::Load, id(1, 0), 7, (4, 0)),
+        event(alloc, Op::Store, id(2, 0), 7, (0, 2)),
+        event(alloc, Op::Load, id(3, 0), 7, (2, 0)),
+        event(alloc, Op::Load, id(4, 0), 7, (2, 0)),
+    ]
+}
+
+#[test]
+fn what_comes_late_stands_by_its_version(rt: HostRuntime) {
+    let alloc = rt.alloc();
+    let log = late_events(alloc);
+    let before = [
+        link(2, 0, Reason::Coherence),
+        link(3, 0, Reason::FromRead),
+        link(4, 0, Reason::FromRead),
+    ];
+    let after = [link(0, 0, Reason::Coherence)];
+    let store = event(alloc, Op::Store, id(5, 0), 7, (0, 3));
+    assert_links(&rt, alloc, &log, &store, &before, &after);
+    let load = event(alloc, Op::Load, id(5, 0), 7, (2, 0));
+    let writer = [link(2, 0, Reason::ReadsFrom)];
+    let next = [link(0, 0, Reason::FromRead)];
+    assert_links(&rt, alloc, &log, &load, &writer, &next);
+    let lowest = event(alloc, Op::Store, id(5, 0), 7, (0, 1));
+    let above = [link(2, 0, Reason::Coherence)];
+    assert_links(&rt, alloc, &log, &lowest, &[], &above);
+}
+
+#[test]
+fn what_came_late_is_taken_out_of_the_middle(rt: HostRuntime) {
+    let alloc = rt.alloc();
+    let mut versions = log_of(&rt, alloc, &late_events(alloc));
+    let store = event(alloc, Op::Store, id(5, 0), 7, (0, 3));
+    assert_sound(&rt, &versions, &store);
+    let reserved = reservation(alloc, versions.entries(), &store).expect(&rt, "memory");
+    versions.push(&store, reserved).expect(&rt, "memory");
+    assert!(rt; versions.writer(7, 3) == Some(id(5, 0)));
+    versions.pop();
+    assert!(rt; versions.writer(7, 3).is_none());
+    let load = event(alloc, Op::Load, id(6, 0), 7, (2, 0));
+    assert_sound(&rt, &versions, &load);
+    let reserved = reservation(alloc, versions.entries(), &load).expect(&rt, "memory");
+    versions.push(&load, reserved).expect(&rt, "memory");
+    versions.pop();
+    let before = [
+        link(2, 0, Reason::Coherence),
+        link(3, 0, Reason::FromRead),
+        link(4, 0, Reason::FromRead),
+    ];
+    let after = [link(0, 0, Reason::Coherence)];
+    assert_around(&rt, alloc, &versions, &store, &before, &after);
 }

@@ -6,6 +6,7 @@ ghost use Rattle.rv_event.specs.Log.{events, writer};
 ghost use Rattle.rv_event.specs.WellFormed.{WellFormedEvents};
 ghost use Rattle.rv_event.specs.declared.event.Event.{Event};
 ghost use Rattle.rv_event.specs.Edges.{IsEdge};
+ghost use Rattle.rv_event.specs.declared.reason.Link.{Link};
 ghost use Rattle.rv_event.specs.declared.reason.Reason.{Reason};
 ghost use Rattle.rv_event.specs.declared.memory_model.MemoryModel.{MemoryModel};
 ghost use Rattle.rv_versions.specs.Reserved.{IsReserved};
@@ -27,7 +28,7 @@ use std::marker::Model;
 /// Links from other events to a new one and back, for each reason but the rules of preserved program order.
 #[derive(Drop, Debug)]
 pub struct VersionLinks {
-    /// Links from other events to it.
+    /// Links from other events to it, behind those that were given.
     pub before: Vec<Link>,
     /// Links from it to other events.
     pub after: Vec<Link>,
@@ -35,8 +36,8 @@ pub struct VersionLinks {
 
 /// A log whose stores, loads and pairs are found by word and version.
 ///
-/// Contracts see it as the list of its events. Its type keeps that each event has no fault over those before it, and that
-/// the indexes have the log's stores, loads and pairs, and nothing else.
+/// Contracts see it as the list of its events. Its type keeps that each event has no fault over those before it, and
+/// that the indexes have the log's stores, loads and pairs, and nothing else.
 #[derive(Drop)]
 pub struct Versions {
     alloc: Global,
@@ -79,33 +80,40 @@ impl Versions {
         self.entries.as_slice()
     }
 
-    /// The links of the event, which has no fault over the log, with what its LR returned.
+    /// The links of the event, which has no fault over the log, with what its LR returned. Those into it are added
+    /// behind the given ones.
     ///
     /// Each link is an edge between the event and another one, for one of the reasons that look at versions: coherence,
-    /// reads-from, from-read, atomic-in and atomic-out (Unprivileged ISA, section 14.1, "Memory Model Axioms"). Each edge
-    /// for such a reason is linked, or another event splits it.
+    /// reads-from, from-read, atomic-in and atomic-out (Unprivileged ISA, section 14.1, "Memory Model Axioms"). Each
+    /// edge for such a reason is linked, or another event splits it.
     ///
-    /// It costs a few look-ups, each logarithmic in the events, a step for each link, and for atomic-out a step for each
-    /// store that it passes on the way to another hart's.
+    /// It costs a few look-ups of words and a step for each link. Where the event comes in commit order, each look-up
+    /// takes a few steps; else it searches the accesses to its word, in logarithmic time. For atomic-out it takes a
+    /// step more for each store that it passes on the way to another hart's.
     ///
     /// # Errors
-    /// `NoMemory` where a list could not be had; nothing changes.
+    /// `NoMemory` where a list could not be had or grow; nothing changes, but the given links are gone.
     pub fn around(
         &self,
         event: &Event,
         reserved: Option<Reservation>,
+        before: Vec<Link>,
     ) -> Result<VersionLinks, NoMemory>
         requires sound { event_fault self.now event.now ≡ None }
         requires reserved { IsReserved self.now event.now reserved }
-        ensures { IfOk result (λ w. (model : MemoryModel) → AreVersionLinks model self.now event.now w.before.items w.after.items) }
+        ensures { IfOk result (λ w. (others : List Link) × (w.before.items ≡ before.items ++ others)
+            × ((model : MemoryModel) → AreVersionLinks model self.now event.now others w.after.items)) }
     {
-        let before = self.links_before(event, reserved)?;
+        let links = self.links_before(event, reserved, before)?;
         let after = self.links_after(event, reserved)?;
-        Ok(VersionLinks { before, after })
+        Ok(VersionLinks {
+            before: links,
+            after,
+        })
     }
 
-    /// Whether an edge leads from the event to itself: where an AMO returned what it writes, or an SC's LR returned what
-    /// the SC writes. No rule holds of an event and itself.
+    /// Whether an edge leads from the event to itself: where an AMO returned what it writes, or an SC's LR returned
+    /// what the SC writes. No rule holds of an event and itself.
     ///
     /// It takes no memory and constant time.
     pub fn has_own_edge(&self, event: &Event, reserved: Option<Reservation>) -> bool
@@ -121,12 +129,12 @@ impl Versions {
 
     /// The store that wrote this version of the word. Version 0, the initial value, has none.
     ///
-    /// It takes no memory, and costs one look-up, logarithmic in the stores.
+    /// It takes no memory. It costs a few steps for a word's highest version, and else a search among the word's
+    /// stores.
     pub fn writer(&self, word: u32, version: u32) -> Option<Id>
         ensures { result ≡ option_map (λ w. w.id) (writer self.now word version) }
     {
-        let version = u64::from(version);
-        let Some(store) = self.indexes.stores.first_from(word, version) else {
+        let Some(store) = self.indexes.stores.first_from(word, u64::from(version)) else {
             return None;
         };
         if store.version != version {
@@ -137,7 +145,8 @@ impl Versions {
 
     /// Adds the event, which has no fault over the log, with what its LR returned.
     ///
-    /// It costs at most three insertions, each logarithmic in the events.
+    /// It costs at most three insertions, of a few steps each where no version of the word is higher. Else each costs a
+    /// search among the word's accesses, and the moving of those of a higher version.
     ///
     /// # Errors
     /// `NoMemory` where the event could not be kept; the log stays as it is.
@@ -158,7 +167,7 @@ impl Versions {
 
     /// Takes the last event off; there is one. It takes no memory.
     ///
-    /// It costs at most three removals, each logarithmic in the events.
+    /// It costs at most three removals, each as an insertion.
     pub fn pop(&mut self)
         requires { self.old ≢ [] }
         ensures { (front : List Event) (e : Event) → self.old ≡ front ++ e ∷ [] → self.new ≡ front }

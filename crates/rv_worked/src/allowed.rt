@@ -13,7 +13,7 @@ pub struct WorkedAllowed {
     pub waiting: usize,
 }
 
-pub const ALLOWED: &[WorkedAllowed] = &[
+const ALLOWED: &[WorkedAllowed] = &[
     WorkedAllowed {
         name: "nothing",
         model: MemoryModel::Rvwmo,
@@ -156,3 +156,9 @@ pub const ALLOWED: &[WorkedAllowed] = &[
         waiting: 0,
     },
 ];
+
+/// The executions that the model allows. What they are is told to no proof, as a table of this size is dear in each
+/// function that names it.
+pub fn allowed() -> &'static [WorkedAllowed] {
+    ALLOWED
+}

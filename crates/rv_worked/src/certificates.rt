@@ -1,5 +1,5 @@
 //! The checker over the worked circles: each is taken, and refused when anything in it is changed.
-use crate::circles::{CIRCLES, TOTAL_STORE_CIRCLES, WorkedCircle};
+use crate::circles::{WorkedCircle, circles, total_store_circles};
 use crate::rows::{Bits, Row, X, id, load, log_of, row, store};
 use rv_cert::{Certificate, Circle, check};
 use rv_event::{Entry, Id, MemoryModel, Op, Reason};
@@ -148,14 +148,14 @@ fn assert_exact(rt: &impl Abort, alloc: Global, circle: &WorkedCircle) {
 
 #[test]
 fn circles_are_taken_and_their_changes_refused(rt: HostRuntime) {
-    for circle in CIRCLES {
+    for circle in circles() {
         assert_exact(&rt, rt.alloc(), circle);
     }
 }
 
 #[test]
 fn circles_of_total_store_ordering_are_taken_by_their_model_alone(rt: HostRuntime) {
-    for circle in TOTAL_STORE_CIRCLES {
+    for circle in total_store_circles() {
         assert_exact(&rt, rt.alloc(), circle);
         let log = log_of(rt.alloc(), circle.rows).expect(&rt, "memory");
         let steps = Vec::from_slice(rt.alloc(), circle.edges).expect(&rt, "memory");

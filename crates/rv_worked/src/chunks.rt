@@ -1,5 +1,5 @@
 //! Chunks offered to a book: in order, twice, too early, and with an event that no order allows.
-use crate::allowed::ALLOWED;
+use crate::allowed::{WorkedAllowed, allowed};
 use crate::rows::{Bits, Row, X, Y, event_of, load, row, store};
 use rv_book::{Book, ChunkOffer};
 use rv_event::{Chunk, Id, MemoryModel, Op, pack, unpack};
@@ -16,7 +16,44 @@ fn chunk_of(rt: &impl Abort, alloc: Global, number: u32, rows: &[Row]) -> Chunk 
     pack(events.as_slice(), 0, number).expect(rt, "packable")
 }
 
-const EIGHT: [Row; 8] = [
+/// What an offered chunk came to.
+#[derive(Clone, Copy, PartialEq, Eq, Debug)]
+enum Came {
+    Applied(usize),
+    NotYet(usize),
+    Already,
+    Halted,
+    Stopped,
+    NoMemory,
+}
+
+/// Offers the chunk, and says what it came to.
+fn offer(book: &mut Book, chunk: &Chunk) -> Came {
+    match book.offer_chunk(chunk) {
+        ChunkOffer::Applied(count) => Came::Applied(count),
+        ChunkOffer::NotYet(count) => Came::NotYet(count),
+        ChunkOffer::Already => Came::Already,
+        ChunkOffer::Halted(_) => Came::Halted,
+        ChunkOffer::Stopped => Came::Stopped,
+        ChunkOffer::NoMemory => Came::NoMemory,
+    }
+}
+
+/// Offers two chunks to a book, the second one too early, and each of them twice. They have so many events.
+fn assert_applied_in_order(
+    rt: &impl Abort,
+    book: &mut Book,
+    (first, first_count): (&Chunk, usize),
+    (second, second_count): (&Chunk, usize),
+) {
+    assert!(rt; offer(book, second) == Came::NotYet(0));
+    assert!(rt; offer(book, first) == Came::Applied(first_count));
+    assert!(rt; offer(book, first) == Came::Already);
+    assert!(rt; offer(book, second) == Came::Applied(second_count));
+    assert!(rt; offer(book, second) == Came::Already);
+}
+
+const EIGHT: &[Row] = &[
     store!(0: 0, X = 1),
     store!(0: 1, X = 2),
     store!(0: 2, X = 3),
@@ -30,19 +67,15 @@ const EIGHT: [Row; 8] = [
 #[test]
 fn chunks_are_applied_in_order_and_once(rt: HostRuntime) {
     let alloc = rt.alloc();
-    let first = chunk_of(&rt, alloc, 0, &EIGHT);
+    let first = chunk_of(&rt, alloc, 0, EIGHT);
     let second = chunk_of(&rt, alloc, 1, &[store!(0: 8, Y = 2), load!(0: 9, X = 4)]);
     let mut book = Book::new(alloc, MemoryModel::Rvwmo);
-    assert!(rt; matches!(book.offer_chunk(&second), ChunkOffer::NotYet(0)));
-    assert!(rt; matches!(book.offer_chunk(&first), ChunkOffer::Applied(8)));
-    assert!(rt; matches!(book.offer_chunk(&first), ChunkOffer::Already));
-    assert!(rt; matches!(book.offer_chunk(&second), ChunkOffer::Applied(2)));
-    assert!(rt; matches!(book.offer_chunk(&second), ChunkOffer::Already));
-    assert_eq!(rt; book.accepted(), 10);
+    assert_applied_in_order(&rt, &mut book, (&first, 8), (&second, 2));
+    assert!(rt; book.accepted() == 10);
 }
 
 /// Nine stores of hart 0 to one word, in the order of their versions.
-const NINE: [Row; 9] = [
+const NINE: &[Row] = &[
     store!(0: 0, X = 1),
     store!(0: 1, X = 2),
     store!(0: 2, X = 3),
@@ -54,34 +87,43 @@ const NINE: [Row; 9] = [
     store!(0: 8, X = 9),
 ];
 
+/// The nine stores. What they are is told to no proof.
+fn nine() -> &'static [Row] {
+    NINE
+}
+
 #[test]
 fn nine_stores_in_two_chunks_stand_in_their_order(rt: HostRuntime) {
     let alloc = rt.alloc();
-    let first = chunk_of(&rt, alloc, 0, &NINE[..8]);
-    let second = chunk_of(&rt, alloc, 1, &NINE[8..]);
+    let first = chunk_of(&rt, alloc, 0, nine().get(..8).expect(&rt, "eight"));
+    let second = chunk_of(&rt, alloc, 1, nine().get(8..).expect(&rt, "one"));
     let mut book = Book::new(alloc, MemoryModel::Rvwmo);
-    assert!(rt; matches!(book.offer_chunk(&second), ChunkOffer::NotYet(0)));
-    assert!(rt; matches!(book.offer_chunk(&first), ChunkOffer::Applied(8)));
-    assert!(rt; matches!(book.offer_chunk(&first), ChunkOffer::Already));
-    assert!(rt; matches!(book.offer_chunk(&second), ChunkOffer::Applied(1)));
-    assert!(rt; matches!(book.offer_chunk(&second), ChunkOffer::Already));
+    assert_applied_in_order(&rt, &mut book, (&first, 8), (&second, 1));
     let order = book.order().expect(&rt, "memory");
-    assert_eq!(rt; order.len(), 9);
-    for (id, row) in order.iter().zip(NINE.iter()) {
-        assert_eq!(rt;
-            *id,
-            Id {
-                hart: row.hart,
-                seq: row.seq
-            }
-        );
+    assert!(rt; are_ids(order.as_slice(), nine()));
+}
+
+/// Whether these are the ids of the rows.
+fn are_ids(ids: &[Id], rows: &[Row]) -> bool {
+    ids.len() == rows.len()
+        && ids
+            .iter()
+            .zip(rows)
+            .all(|(id, row)| id.hart == row.hart && id.seq == row.seq)
+}
+
+#[test]
+fn a_chunk_gives_its_events_back_and_they_are_copied(rt: HostRuntime) {
+    let alloc = rt.alloc();
+    let eight = nine().get(..8).expect(&rt, "eight");
+    let chunk = chunk_of(&rt, alloc, 0, eight);
+    let events = unpack(alloc, &chunk).expect(&rt, "memory");
+    for (event, row) in events.iter().zip(eight) {
+        let copy = event.copy(alloc).expect(&rt, "memory");
+        assert!(rt; copy == *event);
+        assert!(rt; copy == event_of(alloc, row).expect(&rt, "memory"));
     }
-    let events = unpack(alloc, &first).expect(&rt, "memory");
-    for (event, row) in events.iter().zip(NINE.iter()) {
-        assert!(rt; *event == event_of(alloc, row).expect(&rt, "memory"));
-        assert!(rt; event.copy(alloc).expect(&rt, "memory") == *event);
-    }
-    assert_eq!(rt; events.len(), 8);
+    assert!(rt; events.len() == 8);
 }
 
 #[test]
@@ -94,24 +136,25 @@ fn a_chunk_halts_at_its_first_forbidden_event(rt: HostRuntime) {
         &[store!(0: 0, X = 1), load!(0: 1, X = 0), store!(0: 2, Y = 1)],
     );
     let mut book = Book::new(alloc, MemoryModel::Rvwmo);
-    assert!(rt; matches!(book.offer_chunk(&stale), ChunkOffer::Halted(_)));
+    assert!(rt; offer(&mut book, &stale) == Came::Halted);
     assert!(rt; book.stopped() && book.accepted() == 1);
-    assert!(rt; matches!(book.offer_chunk(&stale), ChunkOffer::Stopped));
+    assert!(rt; offer(&mut book, &stale) == Came::Stopped);
+}
+
+/// The execution is applied as one chunk.
+fn assert_applied(rt: &impl Abort, alloc: Global, worked: &WorkedAllowed) {
+    let chunk = chunk_of(rt, alloc, 0, worked.rows);
+    let mut book = Book::new(alloc, worked.model);
+    let came = offer(&mut book, &chunk);
+    assert!(rt; came == Came::Applied(worked.rows.len()), "{}", worked.name);
+    assert!(rt; book.operations() == worked.operations, "{}", worked.name);
 }
 
 #[test]
 fn allowed_executions_are_applied_as_one_chunk(rt: HostRuntime) {
-    for worked in ALLOWED {
-        if worked.rows.is_empty() || worked.rows.len() > 8 {
-            continue;
+    for worked in allowed() {
+        if !worked.rows.is_empty() && worked.rows.len() <= 8 {
+            assert_applied(&rt, rt.alloc(), worked);
         }
-        let chunk = chunk_of(&rt, rt.alloc(), 0, worked.rows);
-        let mut book = Book::new(rt.alloc(), worked.model);
-        assert!(rt;
-            matches!(book.offer_chunk(&chunk), ChunkOffer::Applied(count) if count == worked.rows.len()),
-            "{}",
-            worked.name
-        );
-        assert_eq!(rt; book.operations(), worked.operations, "{}", worked.name);
     }
 }

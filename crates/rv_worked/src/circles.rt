@@ -13,7 +13,7 @@ pub struct WorkedCircle {
     pub edges: &'static [(Id, Reason)],
 }
 
-pub const CIRCLES: &[WorkedCircle] = &[
+const CIRCLES: &[WorkedCircle] = &[
     WorkedCircle {
         name: "store buffering with fences",
         model: MemoryModel::Rvwmo,
@@ -283,8 +283,14 @@ pub const CIRCLES: &[WorkedCircle] = &[
     },
 ];
 
+/// The executions that a circle of edges forbids. What they are is told to no proof, as a table of this size is dear in
+/// each function that names it.
+pub fn circles() -> &'static [WorkedCircle] {
+    CIRCLES
+}
+
 /// Executions that total store ordering forbids and RVWMO allows.
-pub const TOTAL_STORE_CIRCLES: &[WorkedCircle] = &[
+const TOTAL_STORE_CIRCLES: &[WorkedCircle] = &[
     WorkedCircle {
         name: "message passing",
         model: MemoryModel::Ztso,
@@ -334,3 +340,8 @@ pub const TOTAL_STORE_CIRCLES: &[WorkedCircle] = &[
         ],
     },
 ];
+
+/// The circles that total store ordering alone forbids, as `circles`.
+pub fn total_store_circles() -> &'static [WorkedCircle] {
+    TOTAL_STORE_CIRCLES
+}

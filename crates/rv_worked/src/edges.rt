@@ -1,6 +1,6 @@
 //! Histories of the worked executions: preserved program order in them, and the links of each circle's last event.
-use crate::circles::{CIRCLES, TOTAL_STORE_CIRCLES, WorkedCircle};
-use crate::histories::HISTORIES;
+use crate::circles::{WorkedCircle, circles, total_store_circles};
+use crate::histories::histories;
 use crate::rows::{Bits, Row, X, Y, event_of, id, load, row, store};
 use rv_edges::{Around, History};
 use rv_event::{Event, Id, Link, MemoryModel, Op, Reason};
@@ -65,17 +65,17 @@ fn assert_listed(rt: &impl Abort, alloc: Global, circle: &WorkedCircle) {
 
 #[test]
 fn the_last_event_of_a_circle_lists_its_edges(rt: HostRuntime) {
-    for circle in CIRCLES {
+    for circle in circles() {
         assert_listed(&rt, rt.alloc(), circle);
     }
-    for circle in TOTAL_STORE_CIRCLES {
+    for circle in total_store_circles() {
         assert_listed(&rt, rt.alloc(), circle);
     }
 }
 
 #[test]
 fn histories_preserve_program_order_by_the_lowest_rule(rt: HostRuntime) {
-    for worked in HISTORIES {
+    for worked in histories() {
         let history = history_of(&rt, rt.alloc(), worked.model, worked.rows);
         let from = Id {
             hart: 0,

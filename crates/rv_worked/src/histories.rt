@@ -15,7 +15,7 @@ pub struct WorkedHistory {
     pub rule: u8,
 }
 
-pub const HISTORIES: &[WorkedHistory] = &[
+const HISTORIES: &[WorkedHistory] = &[
     WorkedHistory {
         name: "a store of the word of an earlier load",
         model: MemoryModel::Rvwmo,
@@ -298,9 +298,14 @@ pub const HISTORIES: &[WorkedHistory] = &[
     },
 ];
 
+/// The histories. What they are is told to no proof, as a table of this size is dear in each function that names it.
+pub fn histories() -> &'static [WorkedHistory] {
+    HISTORIES
+}
+
 #[test]
 fn lowest_rules(rt: HostRuntime) {
-    for history in HISTORIES {
+    for history in histories() {
         let log = log_of(rt.alloc(), history.rows).expect(&rt, "memory");
         let from = Id {
             hart: 0,

@@ -1,5 +1,5 @@
 //! The steps of circles, which are edges, and the stale pair, which is one.
-use crate::circles::{CIRCLES, TOTAL_STORE_CIRCLES};
+use crate::circles::{circles, total_store_circles};
 use crate::refused::STALE;
 use crate::rows::{Bits, Row, X, id, load, log_of, row, store};
 use rv_event::{Entry, Id, MemoryModel, Op, Reason, is_edge, is_stale};
@@ -15,7 +15,7 @@ fn has_edges(model: MemoryModel, log: &[Entry], edges: &[(Id, Reason)]) -> bool 
 
 #[test]
 fn each_step_of_a_circle_is_an_edge(rt: HostRuntime) {
-    for circle in CIRCLES {
+    for circle in circles() {
         let log = log_of(rt.alloc(), circle.rows).expect(&rt, "memory");
         assert!(rt;
             has_edges(circle.model, log.as_slice(), circle.edges),
@@ -27,7 +27,7 @@ fn each_step_of_a_circle_is_an_edge(rt: HostRuntime) {
 
 #[test]
 fn circles_of_total_store_ordering_are_none_of_rvwmo(rt: HostRuntime) {
-    for circle in TOTAL_STORE_CIRCLES {
+    for circle in total_store_circles() {
         let log = log_of(rt.alloc(), circle.rows).expect(&rt, "memory");
         assert!(rt;
             has_edges(circle.model, log.as_slice(), circle.edges),

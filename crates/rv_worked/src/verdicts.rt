@@ -1,5 +1,5 @@
 //! Verdicts over the worked executions: what they name, and that a copy is equal.
-use crate::circles::{CIRCLES, TOTAL_STORE_CIRCLES, WorkedCircle};
+use crate::circles::{WorkedCircle, circles, total_store_circles};
 use crate::rows::{Bits, Row, X, event_of, id, log_of, row, store};
 use rv_cert::{Certificate, Circle, Evidence, Forbidden, Malformed, Verdict, check};
 use rv_event::{Entry, Fault, Id, MemoryModel, NoMemory, Op, find_fault, is_well_formed};
@@ -36,12 +36,12 @@ fn assert_copied(rt: &impl Abort, alloc: Global, verdict: &Verdict) {
 
 #[test]
 fn forbidden_verdicts_name_the_last_entry(rt: HostRuntime) {
-    for circle in CIRCLES {
+    for circle in circles() {
         let verdict = Verdict::Forbidden(forbidden(&rt, rt.alloc(), circle));
         assert_copied(&rt, rt.alloc(), &verdict);
         assert_eq!(rt; verdict.model(), MemoryModel::Rvwmo);
     }
-    for circle in TOTAL_STORE_CIRCLES {
+    for circle in total_store_circles() {
         let verdict = Verdict::Forbidden(forbidden(&rt, rt.alloc(), circle));
         assert_copied(&rt, rt.alloc(), &verdict);
         assert_eq!(rt; verdict.model(), MemoryModel::Ztso);

@@ -52,9 +52,8 @@ impl Versions {
         if !event.is_store() {
             return Ok(());
         }
-        let wrote = u64::from(event.wrote);
-        let loads = self.loads_between(event.word, wrote, wrote + 1)?;
-        append_links(links, &loads, Reason::ReadsFrom)
+        let loads = self.loads_between(event.word, event.wrote, u64::from(event.wrote) + 1);
+        append_links(links, loads, Reason::ReadsFrom)
     }
 
     /// Adds the link to the store of the next version above the one that the event returned.
@@ -81,9 +80,8 @@ impl Versions {
         if !event.is_store() {
             return Ok(());
         }
-        let wrote = u64::from(event.wrote);
-        let scs = self.pairs_between(event.word, wrote, wrote + 1)?;
-        append_links(links, &scs, Reason::AtomicIn)
+        let scs = self.pairs_between(event.word, event.wrote, u64::from(event.wrote) + 1);
+        append_links(links, scs, Reason::AtomicIn)
     }
 
     /// Adds the link to the other harts' store of the lowest version above what the event's LR returned.

@@ -7,6 +7,7 @@ use Rattle.rv_event.specs.declared.event.Id.{Id}
 use Rattle.rv_edges.specs.Kept.{Past, Kept, happened, grown}
 use Rattle.rv_edges.specs.Histories.{kept_of, Joined, HasOwnEdge, IsStaleOf}
 use Rattle.rv_book.specs.Arranged.{Arranged, IsArranged}
+use Rattle.rv_book.proofs.Circling.{own_leads}
 use Rattle.rv_book.proofs.Grown.{arranged_aside}
 use Rattle.rv_book.proofs.arrangement.Arrangement.add.Goals as goal
 
@@ -25,3 +26,8 @@ invariant_of-self-2 c =
     let not_stale : IsStaleOf v.history k.event None = rw c.in_default.is at c.in_ok-around.ensures.stale in
     let aside : IsMemory k.event → ⊥ = λ m. false≢true (sym c.if-is_memory.false ∙ c.is_memory.ensures.1 m) in
     subst (λ (h : Past). IsArranged (record { model = h.model; history = h.kept; edges = v.edges; ranks = v.ranks; ids = v.ids })) (sym c.in_ok-push.ensures.pushed) (arranged_aside v c.self.invariant k joined none_own not_stale aside)
+
+pub circle_of-requires-clause-leads : goal.circle_of-requires-clause-leads
+circle_of-requires-clause-leads c =
+    own_leads c.self.inside.history.model (grown c.self.inside.history.kept c.args.event.now) c.args.event.now.id
+    (c.in_ok-around.ensures.itself.0 c.if-around.true)

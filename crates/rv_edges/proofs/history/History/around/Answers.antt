@@ -1,18 +1,15 @@
 -- The links of the event's hart and those by versions are together as a history wants them.
-use Rattle.std.proofs.Common.{◌≡◌, List, [], ◌∷◌, ◌++◌, None, IsTrue, ◌↔◌, sym, ap, ◌∙◌, subst}
+use Rattle.std.proofs.Common.{◌≡◌, List, [], ◌∷◌, ◌++◌, None, IsTrue, ◌↔◌, sym, ◌∙◌, subst}
 use Rattle.rv_event.specs.Edges.{IsEdge}
 use Rattle.rv_event.specs.Faults.{event_fault}
 use Rattle.rv_event.proofs.Indexed.{Indexed}
 use Rattle.rv_event.specs.declared.event.Event.{Event}
-use Rattle.rv_event.specs.declared.memory_model.MemoryModel.{MemoryModel}
 use Rattle.rv_event.specs.declared.reason.Link.{Link}
 use Rattle.rv_event.specs.declared.reason.Reason.{Reason}
-use Rattle.rv_cover.specs.Paths.{Covers}
-use Rattle.rv_cover.specs.Thinned.{IsUnsplit, IsNearest}
 use Rattle.rv_hart.specs.RuleLinks.{AreRuleLinks}
 use Rattle.rv_versions.specs.Reserved.{IsReserved}
 use Rattle.rv_versions.specs.VersionLinks.{AreVersionLinks}
-use Rattle.rv_edges.specs.Kept.{Kept, Past, kept_from, happened, grown, IsTied}
+use Rattle.rv_edges.specs.Kept.{Kept, Past, kept_from, happened}
 use Rattle.rv_edges.specs.Histories.{IsLinked, IsCarried}
 use Rattle.rv_edges.specs.Indexes.{hart_in}
 use Rattle.rv_edges.proofs.Carrying.{carried_from_IsHistory, covered_with}
@@ -22,30 +19,30 @@ use Rattle.rv_edges.proofs.history.History.around.Goals as goal
 
 pub around-requires-clause-sound : goal.around-requires-clause-sound
 around-requires-clause-sound c =
-    let log = log-is c.self.inside.model c.self.inside.versions c.self.inside.harts.items c.self.inside.links.items c.self.invariant c.args.self.now c.self.view_is in
+    let log = log-is c.self.inside.model c.self.inside.versions c.self.inside.harts.items c.self.inside.links c.self.invariant c.args.self.now c.self.view_is in
     subst (λ (l : List Event). event_fault l c.args.event.now ≡ None) (sym log) c.requires
 
 pub around-requires-clause-reserved : goal.around-requires-clause-reserved
 around-requires-clause-reserved c =
-    let log = log-is c.self.inside.model c.self.inside.versions c.self.inside.harts.items c.self.inside.links.items c.self.invariant c.args.self.now c.self.view_is in
+    let log = log-is c.self.inside.model c.self.inside.versions c.self.inside.harts.items c.self.inside.links c.self.invariant c.args.self.now c.self.view_is in
     subst (λ (l : List Event). IsReserved l c.args.event.now c.reserved-reserved.result) (sym log) c.reserved-reserved.ensures
 
 pub has_own_edge-requires-clause-sound : goal.has_own_edge-requires-clause-sound
 has_own_edge-requires-clause-sound c =
-    let log = log-is c.self.inside.model c.self.inside.versions c.self.inside.harts.items c.self.inside.links.items c.self.invariant c.args.self.now c.self.view_is in
+    let log = log-is c.self.inside.model c.self.inside.versions c.self.inside.harts.items c.self.inside.links c.self.invariant c.args.self.now c.self.view_is in
     subst (λ (l : List Event). event_fault l c.args.event.now ≡ None) (sym log) c.requires
 
 pub has_own_edge-requires-clause-reserved : goal.has_own_edge-requires-clause-reserved
 has_own_edge-requires-clause-reserved c =
-    let log = log-is c.self.inside.model c.self.inside.versions c.self.inside.harts.items c.self.inside.links.items c.self.invariant c.args.self.now c.self.view_is in
+    let log = log-is c.self.inside.model c.self.inside.versions c.self.inside.harts.items c.self.inside.links c.self.invariant c.args.self.now c.self.view_is in
     subst (λ (l : List Event). IsReserved l c.args.event.now c.reserved-reserved.result) (sym log) c.reserved-reserved.ensures
 
-module _ (c : goal.After-drop-others-2) where
+module _ (c : goal.After-stale) where
   log : c.self.inside.versions ≡ happened c.args.self.now.kept
-  log = log-is c.self.inside.model c.self.inside.versions c.self.inside.harts.items c.self.inside.links.items c.self.invariant c.args.self.now c.self.view_is
+  log = log-is c.self.inside.model c.self.inside.versions c.self.inside.harts.items c.self.inside.links c.self.invariant c.args.self.now c.self.view_is
 
   known : Indexed (happened c.args.self.now.kept)
-  known = past-indexed c.self.inside.model c.self.inside.versions c.self.inside.harts.items c.self.inside.links.items c.self.invariant c.args.self.now c.self.view_is
+  known = past-indexed c.self.inside.model c.self.inside.versions c.self.inside.harts.items c.self.inside.links c.self.invariant c.args.self.now c.self.view_is
 
   abbrev before : List Link
   before = c.from_vec.result
@@ -53,28 +50,29 @@ module _ (c : goal.After-drop-others-2) where
   abbrev after : List Link
   after = c.from_vec-2.result
 
+  abbrev rules : List Link
+  rules = c.in_ok-rules.rules.items
+
   abbrev others : List Link
-  others = c.in_ok-others.field-0.before.items
+  others = c.in_ok-before.ensures.0
 
-  joined : before ≡ c.in_ok-before.before.items ++ others
-  joined =
-      c.from_vec.ensures ∙ c.in_ok-extend_from_slice.ensures.items
-      ∙ ap (λ (ls : List Link). c.in_ok-before.before.items ++ ls) c.as_slice.ensures.value
+  joined : before ≡ rules ++ others
+  joined = c.from_vec.ensures ∙ c.in_ok-before.ensures.1
 
-  by_rules : AreRuleLinks (hart_in c.args.self.now c.args.event.now.id.hart) c.args.event.now c.in_ok-before.before.items
-  by_rules = c.in_ok-before.ensures
+  by_rules : AreRuleLinks (hart_in c.args.self.now c.args.event.now.id.hart) c.args.event.now rules
+  by_rules = c.in_ok-rules.ensures
 
   by_versions : AreVersionLinks c.args.self.now.model (happened c.args.self.now.kept) c.args.event.now others after
   by_versions =
       subst (λ (ls : List Link). AreVersionLinks c.args.self.now.model (happened c.args.self.now.kept) c.args.event.now others ls) (sym c.from_vec-2.ensures)
-      (subst (λ (l : List Event). AreVersionLinks c.args.self.now.model l c.args.event.now others c.in_ok-others.field-0.after.items) log
-      (c.in_ok-others.ensures c.args.self.now.model))
+      (subst (λ (l : List Event). AreVersionLinks c.args.self.now.model l c.args.event.now others c.in_ok-before.field-0.after.items) log
+      (c.in_ok-before.ensures.2 c.args.self.now.model))
 
   abbrev found : Kept
   found = record { event = c.args.event.now; before = before; after = after }
 
   linked : IsLinked c.args.self.now.model c.args.self.now.kept found
-  linked = linked_with c.args.self.now.model c.args.self.now.kept found c.in_ok-before.before.items others known c.requires joined by_rules by_versions
+  linked = linked_with c.args.self.now.model c.args.self.now.kept found rules others known c.requires joined by_rules by_versions
 
 pub returns-clause-linked : goal.returns-clause-linked
 returns-clause-linked c = linked c
@@ -83,7 +81,7 @@ pub returns-clause-covered : goal.returns-clause-covered
 returns-clause-covered c =
     let carried : IsCarried c.args.self.now.model c.args.self.now.kept =
     subst (λ (w : Past). IsCarried w.model w.kept) c.self.view_is
-    (carried_from_IsHistory c.self.inside.model (kept_from c.self.inside.versions c.self.inside.links.items) c.self.invariant.history) in
+    (carried_from_IsHistory c.self.inside.model (kept_from c.self.inside.versions c.self.inside.links) c.self.invariant.history) in
     covered_with c.args.self.now.model c.args.self.now.kept (found c) (known c) (record { sound = c.requires; linked = linked c }) carried.covered
 
 pub returns-clause-itself : goal.returns-clause-itself
@@ -94,8 +92,8 @@ returns-clause-itself c =
 
 pub returns-clause-unsplit : goal.returns-clause-unsplit
 returns-clause-unsplit c =
-    unsplit_is c.args.self.now.model (happened c.args.self.now.kept) c.args.event.now (known c) c.requires c.in_ok-before.before.items (others c) (before c) (after c) (joined c) (by_rules c) (by_versions c)
+    unsplit_is c.args.self.now.model (happened c.args.self.now.kept) c.args.event.now (known c) c.requires (rules c) (others c) (before c) (after c) (joined c) (by_rules c) (by_versions c)
 
 pub returns-clause-nearest : goal.returns-clause-nearest
 returns-clause-nearest c =
-    nearest_is c.args.self.now.model (happened c.args.self.now.kept) c.args.event.now (known c) c.requires c.in_ok-before.before.items (others c) (before c) (after c) (joined c) (by_rules c) (by_versions c)
+    nearest_is c.args.self.now.model (happened c.args.self.now.kept) c.args.event.now (known c) c.requires (rules c) (others c) (before c) (after c) (joined c) (by_rules c) (by_versions c)

@@ -1,5 +1,5 @@
 -- Each look-up tells what a scan would.
-use Rattle.std.proofs.Common.{◌≡◌, ℕ, List, length, sym, ap, ◌∙◌, slice_get}
+use Rattle.std.proofs.Common.{List, length, sym, ap, ◌∙◌, slice_get}
 use Rattle.rv_event.specs.Faults.{is_bad_dependency}
 use Rattle.rv_event.specs.Contexts.{is_bad_on}
 use Rattle.rv_event.specs.declared.event.Dep.{Dep}

@@ -1,13 +1,13 @@
 -- A hart's events are the log's of the hart.
-use Rattle.std.proofs.Common.{◌≡◌, ℕ, List, [], Some, None, refl, sym, ap, ◌∙◌, subst, slice_get, find}
-use Rattle.rv_event.specs.Log.{named, of_hart, same_id}
+use Rattle.std.proofs.Common.{◌≡◌, List, refl, sym, ap, ◌∙◌, subst, slice_get, find}
+use Rattle.rv_event.specs.Log.{same_id}
 use Rattle.rv_event.proofs.Growing.{named-of_hart}
 use Rattle.rv_event.specs.declared.event.Id.{Id}
 use Rattle.rv_event.specs.declared.event.Event.{Event}
 use Rattle.rv_hart.specs.Harts.{Hart, IsHart}
 use Rattle.rv_hart.proofs.Reserving.{named-at}
 use Rattle.rv_hart.proofs.OfHart.{named-own}
-use Rattle.rv_edges.specs.Kept.{Past, happened}
+use Rattle.rv_edges.specs.Kept.{happened}
 use Rattle.rv_edges.specs.Indexes.{hart_in}
 use Rattle.rv_edges.proofs.history.History.events_of.Goals as goal
 

@@ -12,7 +12,7 @@ use Rattle.rv_edges.proofs.history.History.hart.Goals as goal
 module _ (c : goal.After-get) where
   own : (n : ℕ) → hart_of c.self.inside.model c.self.inside.harts.items n ≡ Rattle.rv_edges.specs.Indexes.hart_in c.args.self.now n
   own n =
-      hart-is c.self.inside.model c.self.inside.versions c.self.inside.harts.items c.self.inside.links.items c.self.invariant c.args.self.now c.self.view_is n
+      hart-is c.self.inside.model c.self.inside.versions c.self.inside.harts.items c.self.inside.links c.self.invariant c.args.self.now c.self.view_is n
 
   abbrev none : Hart
   none = record { model = c.self.inside.model; number = c.args.number; events = [] }
@@ -35,4 +35,4 @@ returns-clause-hart c =
 
 pub returns-clause-indexed : goal.returns-clause-indexed
 returns-clause-indexed c =
-    past-indexed c.self.inside.model c.self.inside.versions c.self.inside.harts.items c.self.inside.links.items c.self.invariant c.args.self.now c.self.view_is
+    past-indexed c.self.inside.model c.self.inside.versions c.self.inside.harts.items c.self.inside.links c.self.invariant c.args.self.now c.self.view_is

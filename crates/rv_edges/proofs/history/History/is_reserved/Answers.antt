@@ -1,8 +1,6 @@
 -- A hart's events are the log's of the hart.
-use Rattle.std.proofs.Common.{◌≡◌, List, refl, sym, ap, ◌∙◌}
-use Rattle.rv_event.specs.Log.{of_hart}
+use Rattle.std.proofs.Common.{◌≡◌, ap, ◌∙◌}
 use Rattle.rv_event.specs.Faults.{is_reserved}
-use Rattle.rv_event.specs.declared.event.Event.{Event}
 use Rattle.rv_hart.specs.Harts.{Hart}
 use Rattle.rv_hart.proofs.OfHart.{reserved-own}
 use Rattle.rv_edges.specs.Kept.{happened}

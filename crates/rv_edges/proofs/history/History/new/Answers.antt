@@ -1,9 +1,7 @@
 -- No events and no links are a history, in which no hart has events.
-use Rattle.std.proofs.Common.{◌≡◌, ℕ, List, [], sym, ap, ◌∙◌, subst, length}
-use Rattle.rv_event.specs.Log.{of_hart}
+use Rattle.std.proofs.Common.{List, sym, ap, ◌∙◌, subst}
 use Rattle.rv_event.specs.declared.event.Event.{Event}
 use Rattle.rv_hart.specs.Harts.{Hart}
-use Rattle.rv_edges.specs.Kept.{kept_from}
 use Rattle.rv_edges.specs.Histories.{IsHistory}
 use Rattle.rv_edges.specs.Indexes.{hart_of, hart_from}
 use Rattle.rv_edges.proofs.Carrying.{IsHistory-nil}
@@ -12,7 +10,7 @@ use Rattle.rv_edges.proofs.history.History.new.Goals as goal
 
 pub invariant_of-result : goal.invariant_of-result
 invariant_of-result c =
-    let none = no_sides c.new.result c.new-3.result.items c.new.ensures c.new-3.ensures.items in
+    let none = no_sides c.new.result c.new-3.result c.new.ensures c.new-3.ensures in
     record {
       lengths = none.0;
       history = subst (IsHistory _) (sym none.1) (IsHistory-nil _);

@@ -1,10 +1,10 @@
 -- The LR is one of the hart's events, and so one of the history's.
-use Rattle.std.proofs.Common.{◌≡◌, List, [], Contains, Some, None, refl, sym, ap, ◌∙◌, subst}
+use Rattle.std.proofs.Common.{◌≡◌, List, Contains, Some, None, refl, sym, subst}
 use Rattle.rv_event.specs.declared.event.Event.{Event}
 use Rattle.rv_hart.specs.Harts.{Hart, Follows}
 use Rattle.rv_hart.specs.Kept.{IsPartner}
 use Rattle.rv_versions.specs.Reserved.{IsReserved}
-use Rattle.rv_edges.specs.Kept.{Past, happened}
+use Rattle.rv_edges.specs.Kept.{happened}
 use Rattle.rv_edges.specs.Indexes.{hart_in}
 use Rattle.rv_edges.proofs.Indexing.{follows}
 use Rattle.rv_edges.proofs.Harting.{partner_from, partner_to}

@@ -1,8 +1,8 @@
 -- The hart's links, or none where it has no events.
-use Rattle.std.proofs.Common.{◌≡◌, List, [], Some, None, sym, ap, ◌∙◌, subst, IfOk, Option, ℕ}
+use Rattle.std.proofs.Common.{◌≡◌, sym, subst, IfOk}
 use Rattle.rv_hart.specs.Harts.{Hart, Follows, IsReturned}
 use Rattle.rv_hart.specs.RuleLinks.{AreRuleLinks}
-use Rattle.rv_edges.specs.Kept.{Past, happened}
+use Rattle.rv_edges.specs.Kept.{happened}
 use Rattle.rv_edges.specs.Indexes.{hart_in}
 use Rattle.rv_edges.proofs.Indexing.{follows}
 use Rattle.rv_edges.proofs.Harting.{none_linked}

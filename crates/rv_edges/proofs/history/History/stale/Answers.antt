@@ -1,9 +1,9 @@
 -- What the hart's events say, the history's say.
-use Rattle.std.proofs.Common.{◌≡◌, List, [], Option, Some, None, sym, ap, ◌∙◌, subst}
+use Rattle.std.proofs.Common.{◌≡◌, Option, Some, None, sym, subst}
 use Rattle.rv_event.specs.declared.event.Id.{Id}
 use Rattle.rv_hart.specs.Harts.{Hart, Follows}
 use Rattle.rv_hart.specs.Kept.{IsStaleBy}
-use Rattle.rv_edges.specs.Kept.{Past, happened}
+use Rattle.rv_edges.specs.Kept.{happened}
 use Rattle.rv_edges.specs.Histories.{IsStaleOf}
 use Rattle.rv_edges.specs.Indexes.{hart_in}
 use Rattle.rv_edges.proofs.Indexing.{follows}

@@ -1,14 +1,11 @@
-use Rattle.std.proofs.Common.{List, ℕ, get_or, refl, sym, ◌∙◌, subst}
+use Rattle.std.proofs.Common.{◌≡◌, List, ℕ, Some, None, length, sym, ◌∙◌, subst}
 use Rattle.std.proofs.lemmas.Bool.{false≢true}
-use Rattle.std.proofs.lemmas.List.{take_all}
-use Rattle.std.proofs.lemmas.List.Elements.{Contains-get_or}
-use Rattle.rv_event.specs.Operations.{IsMemory}
 use Rattle.rv_event.specs.declared.event.Event.{Event}
+use Rattle.rv_rows.specs.Closure.{IsTaken}
 use Rattle.rv_hart.specs.Harts.{Hart}
 use Rattle.rv_hart.specs.Kept.{hart_of}
-use Rattle.rv_hart.specs.RuleRows.{IsSwept}
 use Rattle.rv_hart.proofs.Knowing.{Fits, fits_of}
-use Rattle.rv_hart.proofs.Linking.{AreLinksOf, links-none, links-more, links-are, links-nothing, listed-candidate}
+use Rattle.rv_hart.proofs.Linking.{Sweeping, IsListing, rows-few, listing-begun, listing-candidate, listing-more, listing-done, links-nothing}
 use Rattle.rv_hart.proofs.kept.Kept.before.Goals as goal
 
 pub returns-then-not-is_memory : goal.returns-then-not-is_memory
@@ -18,33 +15,92 @@ returns-then-not-is_memory c =
     let f : Fits h e = fits_of h e c.requires.kept.hart c.requires.follows in
     links-nothing h e f (λ m. false≢true (sym c.if-not-is_memory.true ∙ c.is_memory.ensures.1 m)) c.new-links.result.items c.new-links.ensures.items
 
-pub loop-number-init : goal.loop-number-init
-loop-number-init c = links-none (hart_of c.args.self.now) c.args.event.now c.deref-number-items.result.now c.new-links.result.items c.new-links.ensures.items
+pub taken-init : goal.taken-init
+taken-init c =
+    let h : Hart = hart_of c.args.self.now in
+    let e : Event = c.args.event.now in
+    let rows : List (List ℕ) = c.args.self.now.rows in
+    let first : List ℕ = c.fill_candidates.new.row in
+    let g : Sweeping h e rows first = record {
+      fits = fits_of h e c.requires.kept.hart c.requires.follows;
+      memory = c.is_memory.ensures.0 c.if-not-is_memory.false;
+      mean = c.requires.kept.rows;
+      count = c.requires.kept.count;
+      enough = c.fill_candidates.ensures;
+    } in
+    let top : length rows ≡ c.len-top.result = sym c.len-top.ensures in
+    subst (λ (n : ℕ). IsListing h e rows first first n c.new-links.result.items) top
+    (listing-begun h e rows first g c.new-links.result.items c.new-links.ensures.items)
+
+pub take_highest-requires-clause-few : goal.take_highest-requires-clause-few
+take_highest-requires-clause-few c =
+    let h : Hart = hart_of c.args.self.now in
+    let e : Event = c.args.event.now in
+    let rows : List (List ℕ) = c.args.self.now.rows in
+    let first : List ℕ = c.fill_candidates.new.row in
+    let g : Sweeping h e rows first = record {
+      fits = fits_of h e c.requires.kept.hart c.requires.follows;
+      memory = c.is_memory.ensures.0 c.if-not-is_memory.false;
+      mean = c.requires.kept.rows;
+      count = c.requires.kept.count;
+      enough = c.fill_candidates.ensures;
+    } in
+    rows-few h e rows first g
+
+pub take_highest-requires-clause-limit : goal.take_highest-requires-clause-limit
+take_highest-requires-clause-limit c = c.taken.invariant.within
+
+pub take_highest-requires-clause-below : goal.take_highest-requires-clause-below
+take_highest-requires-clause-below c = c.taken.invariant.swept.low
 
 pub lowest_rule-rule-requires-clause-candidate : goal.lowest_rule-rule-requires-clause-candidate
 lowest_rule-rule-requires-clause-candidate c =
     let h : Hart = hart_of c.args.self.now in
     let e : Event = c.args.event.now in
-    let f : Fits h e = fits_of h e c.requires.kept.hart c.requires.follows in
-    let memory : IsMemory e = c.is_memory.ensures.0 c.if-not-is_memory.false in
-    let items : List ℕ = c.deref-number-items.result.now in
-    let swept : IsSwept h e c.args.self.now.rows.items items c.in_ok-swept.swept.reach = subst (λ (ns : List ℕ). IsSwept h e c.args.self.now.rows.items ns c.in_ok-swept.swept.reach) (sym c.deref-number-items.ensures.value) c.in_ok-swept.ensures in
-    listed-candidate h e f memory c.args.self.now.rows.items c.requires.kept.rows items c.in_ok-swept.swept.reach swept (get_or items c.loop-number.number-index 0) (Contains-get_or items c.loop-number.number-index 0 c.loop-number-test.true)
+    let rows : List (List ℕ) = c.args.self.now.rows in
+    let first : List ℕ = c.fill_candidates.new.row in
+    let g : Sweeping h e rows first = record {
+      fits = fits_of h e c.requires.kept.hart c.requires.follows;
+      memory = c.is_memory.ensures.0 c.if-not-is_memory.false;
+      mean = c.requires.kept.rows;
+      count = c.requires.kept.count;
+      enough = c.fill_candidates.ensures;
+    } in
+    let is : IsTaken rows c.taken.left (Some c.in-Some.number) c.take_highest.new.candidates =
+    rw c.in-Some.is at c.take_highest.ensures in
+    listing-candidate h e rows first g c.taken.left c.take_highest.new.candidates c.taken.top c.in-Some.number c.taken.links.items c.taken.invariant is
 
-pub loop-number-preserved : goal.loop-number-preserved
-loop-number-preserved c =
+pub taken-preserved : goal.taken-preserved
+taken-preserved c =
     let h : Hart = hart_of c.args.self.now in
     let e : Event = c.args.event.now in
-    let items : List ℕ = c.deref-number-items.result.now in
-    links-more h e items c.loop-number.number-index (get_or items c.loop-number.number-index 0) c.lowest_rule-rule.result c.loop-number.links.items c.push.new.self.items c.loop-number-test.true refl c.loop-number.invariant c.lowest_rule-rule.ensures c.in_ok-push.ensures.items
+    let rows : List (List ℕ) = c.args.self.now.rows in
+    let first : List ℕ = c.fill_candidates.new.row in
+    let g : Sweeping h e rows first = record {
+      fits = fits_of h e c.requires.kept.hart c.requires.follows;
+      memory = c.is_memory.ensures.0 c.if-not-is_memory.false;
+      mean = c.requires.kept.rows;
+      count = c.requires.kept.count;
+      enough = c.fill_candidates.ensures;
+    } in
+    let is : IsTaken rows c.taken.left (Some c.in-Some.number) c.take_highest.new.candidates =
+    rw c.in-Some.is at c.take_highest.ensures in
+    listing-more h e rows first g c.taken.left c.take_highest.new.candidates c.taken.top c.in-Some.number c.lowest_rule-rule.result c.taken.links.items c.push.new.self.items c.taken.invariant is
+    c.lowest_rule-rule.ensures c.in_ok-push.ensures.items
 
 pub returns : goal.returns
 returns c =
     let h : Hart = hart_of c.args.self.now in
     let e : Event = c.args.event.now in
-    let f : Fits h e = fits_of h e c.requires.kept.hart c.requires.follows in
-    let memory : IsMemory e = c.is_memory.ensures.0 c.if-not-is_memory.false in
-    let items : List ℕ = c.deref-number-items.result.now in
-    let swept : IsSwept h e c.args.self.now.rows.items items c.in_ok-swept.swept.reach = subst (λ (ns : List ℕ). IsSwept h e c.args.self.now.rows.items ns c.in_ok-swept.swept.reach) (sym c.deref-number-items.ensures.value) c.in_ok-swept.ensures in
-    links-are h e f memory c.args.self.now.rows.items c.requires.kept.rows items c.in_ok-swept.swept.reach swept c.loop-number.links.items
-    (subst (λ (done : List ℕ). AreLinksOf h e items done c.loop-number.links.items) (take_all c.loop-number.number-index items c.loop-number-test.false) c.loop-number.invariant)
+    let rows : List (List ℕ) = c.args.self.now.rows in
+    let first : List ℕ = c.fill_candidates.new.row in
+    let g : Sweeping h e rows first = record {
+      fits = fits_of h e c.requires.kept.hart c.requires.follows;
+      memory = c.is_memory.ensures.0 c.if-not-is_memory.false;
+      mean = c.requires.kept.rows;
+      count = c.requires.kept.count;
+      enough = c.fill_candidates.ensures;
+    } in
+    let is : IsTaken rows c.taken.left None c.take_highest.new.candidates =
+    rw c.in_default.is at c.take_highest.ensures in
+    listing-done h e rows first g c.taken.left c.take_highest.new.candidates c.taken.top c.taken.links.items c.taken.invariant is

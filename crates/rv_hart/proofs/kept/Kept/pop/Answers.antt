@@ -25,10 +25,16 @@ returns-clause-kept c =
     let hart : List Event → Hart = λ es. record { model = k.model; number = k.number; events = es } in
     let last : (front : List Event) × (e : Event) × (k.events.items ≡ front ++ e ∷ []) = split_last k.events.items (some_length k.events.items c.requires.some) in
     let some : 0 < length k.events.items = some_length k.events.items c.requires.some in
-    let row : (before : List (List ℕ)) × (r : List ℕ) × (k.rows.items ≡ before ++ r ∷ []) = split_last k.rows.items (omega (arith, c.requires.kept.count)) in
+    let row : (before : List (List ℕ)) × (r : List ℕ) × (k.rows ≡ before ++ r ∷ []) = split_last k.rows (omega (arith, c.requires.kept.count)) in
     let events : c.pop-2.new.self.items ≡ last.0 = rest-is k.events.items last.0 c.pop-2.new.self.items last.1 k.events.len last.2 k.events.ok.0 c.pop-2.ensures.rest in
-    let rows : c.pop-3.new.self.items ≡ row.0 = rest-is k.rows.items row.0 c.pop-3.new.self.items row.1 k.rows.len row.2 k.rows.ok.0 c.pop-3.ensures.rest in
+    let rows : c.pop-3.new.self ≡ row.0 = c.pop-3.ensures row.0 row.1 row.2 in
     let front : IsHart (hart last.0) = hart-front (hart_of k) last.0 last.1 c.requires.kept.hart last.2 in
     kept-popped k _ last.0 last.1 row.0 row.1 c.requires.kept last.2 row.2 (ap hart events) rows
     (c.sets_of-self.ensures (hart last.0) front refl (sym (c.as_slice-2.ensures.value ∙ events)))
     (c.pop.ensures last.0 last.1 (c.as_slice.ensures.value ∙ last.2))
+
+pub pop-requires-3 : goal.pop-requires-3
+pop-requires-3 c =
+    let some : 0 < length c.args.self.now.events.items = some_length c.args.self.now.events.items c.requires.some in
+    let count = c.requires.kept.count in
+    omega arith

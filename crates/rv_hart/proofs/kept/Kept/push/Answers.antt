@@ -1,11 +1,12 @@
-use Rattle.std.proofs.Common.{◌≡◌, ◌++◌, ◌∷◌, List, ℕ, [], length, refl, sym, ap, ◌∙◌, subst}
+use Rattle.std.proofs.Common.{◌≡◌, ◌++◌, ◌∷◌, List, [], length, refl, sym, ap, ◌∙◌, subst, arith}
 use Rattle.rv_event.specs.declared.event.Event.{Event}
-use Rattle.rv_hart.specs.Harts.{Hart}
+use Rattle.rv_rows.specs.Flat.{IsPushed}
+use Rattle.rv_hart.specs.Harts.{Hart, hart_with}
 use Rattle.rv_hart.specs.Kept.{hart_of}
 use Rattle.rv_hart.specs.Words.{AreNumbered, AreWords}
 use Rattle.rv_hart.specs.declared.kept.Kept.{Kept}
-use Rattle.rv_hart.proofs.Knowing.{fits_of, known_of, own-deps-few}
-use Rattle.rv_hart.proofs.Keeping.{kept-same, kept-pushed}
+use Rattle.rv_hart.proofs.Knowing.{Fits, fits_of, known_of, own-deps-few}
+use Rattle.rv_hart.proofs.Keeping.{kept-same, kept-pushed, row-low, means-same}
 use Rattle.rv_hart.proofs.kept.Kept.push.Goals as goal
 
 pub returns-in_err-reserve-clause-kept : goal.returns-in_err-reserve-clause-kept
@@ -14,33 +15,47 @@ returns-in_err-reserve-clause-kept c =
     let hart : List Event → Hart = λ es. record { model = k.model; number = k.number; events = es } in
     kept-same k _ c.requires.kept (ap hart c.reserve.ensures.items) refl refl c.requires.kept.words
 
-pub returns-in_err-reserve-2-clause-kept : goal.returns-in_err-reserve-2-clause-kept
-returns-in_err-reserve-2-clause-kept c =
-    let k : Kept = c.args.self.now in
-    let hart : List Event → Hart = λ es. record { model = k.model; number = k.number; events = es } in
-    kept-same k _ c.requires.kept (ap hart c.reserve.ensures.items) c.reserve-2.ensures.items refl c.requires.kept.words
+pub push-requires-clause-few : goal.push-requires-clause-few
+push-requires-clause-few c =
+    let f : Fits (hart_of c.args.self.now) c.args.event.now = fits_of (hart_of c.args.self.now) c.args.event.now c.requires.kept.hart c.requires.follows in
+    let room = f.room in
+    let count = c.requires.kept.count in
+    omega arith
 
-pub push-requires-clause-numbered : goal.push-requires-clause-numbered
-push-requires-clause-numbered c =
-    let is : c.as_slice.result.now ≡ c.args.self.now.events.items = c.as_slice.ensures.value ∙ c.reserve.ensures.items in
-    subst AreNumbered (sym is) (known_of (hart_of c.args.self.now) c.requires.kept.hart).at
-
-pub push-requires-clause-next : goal.push-requires-clause-next
-push-requires-clause-next c =
-    let is : c.as_slice.result.now ≡ c.args.self.now.events.items = c.as_slice.ensures.value ∙ c.reserve.ensures.items in
-    (fits_of (hart_of c.args.self.now) c.args.event.now c.requires.kept.hart c.requires.follows).seq ∙ ap (λ (es : List Event). length es) (sym is)
-
-pub push-requires-clause-words : goal.push-requires-clause-words
-push-requires-clause-words c =
-    let is : c.as_slice.result.now ≡ c.args.self.now.events.items = c.as_slice.ensures.value ∙ c.reserve.ensures.items in
-    subst (λ (es : List Event). AreWords es c.args.self.now.words) (sym is) c.requires.kept.words
+pub push-requires-clause-below : goal.push-requires-clause-below
+push-requires-clause-below c =
+    let f : Fits (hart_of c.args.self.now) c.args.event.now = fits_of (hart_of c.args.self.now) c.args.event.now c.requires.kept.hart c.requires.follows in
+    row-low (hart_of c.args.self.now) c.args.event.now f c.args.self.now.rows c.fill_row.new.row c.requires.kept.count c.fill_row.ensures
 
 pub returns-in_err-push-clause-kept : goal.returns-in_err-push-clause-kept
 returns-in_err-push-clause-kept c =
     let k : Kept = c.args.self.now in
     let hart : List Event → Hart = λ es. record { model = k.model; number = k.number; events = es } in
+    kept-same k _ c.requires.kept (ap hart c.reserve.ensures.items) c.in_err-push.ensures.unchanged refl c.requires.kept.words
+
+pub push-requires-2-clause-numbered : goal.push-requires-2-clause-numbered
+push-requires-2-clause-numbered c =
+    let is : c.as_slice.result.now ≡ c.args.self.now.events.items = c.as_slice.ensures.value ∙ c.reserve.ensures.items in
+    subst AreNumbered (sym is) (known_of (hart_of c.args.self.now) c.requires.kept.hart).at
+
+pub push-requires-2-clause-next : goal.push-requires-2-clause-next
+push-requires-2-clause-next c =
+    let is : c.as_slice.result.now ≡ c.args.self.now.events.items = c.as_slice.ensures.value ∙ c.reserve.ensures.items in
+    (fits_of (hart_of c.args.self.now) c.args.event.now c.requires.kept.hart c.requires.follows).seq ∙ ap (λ (es : List Event). length es) (sym is)
+
+pub push-requires-2-clause-words : goal.push-requires-2-clause-words
+push-requires-2-clause-words c =
+    let is : c.as_slice.result.now ≡ c.args.self.now.events.items = c.as_slice.ensures.value ∙ c.reserve.ensures.items in
+    subst (λ (es : List Event). AreWords es c.args.self.now.words) (sym is) c.requires.kept.words
+
+pub returns-in-Err-clause-kept : goal.returns-in-Err-clause-kept
+returns-in-Err-clause-kept c =
+    let k : Kept = c.args.self.now in
+    let hart : List Event → Hart = λ es. record { model = k.model; number = k.number; events = es } in
     let is : c.as_slice.result.now ≡ k.events.items = c.as_slice.ensures.value ∙ c.reserve.ensures.items in
-    kept-same k _ c.requires.kept (ap hart c.reserve.ensures.items) c.reserve-2.ensures.items refl (subst (λ (es : List Event). AreWords es c.push.new.self) is c.in_err-push.ensures.unchanged)
+    let pushed : IsPushed k.rows c.fill_row.new.row c.push.new.self = c.in_ok-push.ensures.pushed in
+    kept-same k _ c.requires.kept (ap hart c.reserve.ensures.items) (c.pop.ensures k.rows pushed.last pushed.is_last) refl
+    (subst (λ (es : List Event). AreWords es c.push-2.new.self) is c.in-Err.ensures.unchanged)
 
 pub absorb-requires-clause-dependencies : goal.absorb-requires-clause-dependencies
 absorb-requires-clause-dependencies c = own-deps-few (hart_of c.args.self.now) c.args.event.now (fits_of (hart_of c.args.self.now) c.args.event.now c.requires.kept.hart c.requires.follows)
@@ -52,7 +67,8 @@ returns-clause-kept c =
     let hart : List Event → Hart = λ es. record { model = k.model; number = k.number; events = es } in
     let is : c.as_slice.result.now ≡ k.events.items = c.as_slice.ensures.value ∙ c.reserve.ensures.items in
     let events : c.push_reserved.new.self.items ≡ k.events.items ++ e ∷ [] = c.push_reserved.ensures.items ∙ ap (λ (es : List Event). es ++ c.in_ok-copy.copy ∷ []) c.reserve.ensures.items ∙ ap (λ (x : Event). k.events.items ++ x ∷ []) c.in_ok-copy.ensures in
-    let rows : c.push_reserved-2.new.self.items ≡ k.rows.items ++ c.in_ok-row.row ∷ [] = c.push_reserved-2.ensures.items ∙ ap (λ (rs : List (List ℕ)). rs ++ c.in_ok-row.row ∷ []) c.reserve-2.ensures.items in
-    kept-pushed k _ e c.in_ok-row.row c.requires.kept c.requires.follows (ap hart events) rows c.in_ok-row.ensures
+    let pushed : IsPushed k.rows c.fill_row.new.row c.push.new.self = c.in_ok-push.ensures.pushed in
+    kept-pushed k _ e pushed.last c.requires.kept c.requires.follows (ap hart events) pushed.is_last
+    (means-same (hart_with (hart_of k) e) e.id.seq c.fill_row.new.row pushed.last pushed.same c.fill_row.ensures)
     (c.absorb.ensures (hart_of k) c.requires.kept.hart c.requires.follows refl c.requires.kept.sets)
-    (subst (λ (es : List Event). AreWords (es ++ e ∷ []) c.push.new.self) is c.in_ok-push.ensures.pushed)
+    (subst (λ (es : List Event). AreWords (es ++ e ∷ []) c.push-2.new.self) is c.in_default.ensures.pushed)

@@ -7,29 +7,34 @@ use Rattle.rv_versions.proofs.Nearest.{nearest}
 use Rattle.rv_versions.proofs.versions.Versions.around.Goals as goal
 
 pub returns : goal.returns
-returns c model =
+returns c =
     let log = c.args.self.now in
     let e = c.args.event.now in
     let known : Indexed log = indexed_from_events log c.links_before.ensures.well_formed in
     let sound : Sound log e = sound_of log e c.requires.sound in
     let is = c.requires.reserved in
     let r = c.args.reserved in
-    let b = c.in_ok-before.ensures.listed in
-    let a = c.in_ok-after.ensures in
-    record {
-      edges_before = λ l h. edge_before model log e r known sound is l (b.only l h);
-      edges_after = λ l h. edge_after model log e r known sound is l ((a l).0 h);
-      reasons_before = λ l h. reason_of model log e r known sound is (Into model log e r known sound is) l
-          (warrant_before model log e r known sound is l (b.only l h));
-      reasons_after = λ l h. reason_of model log e r known sound is (Out model log e r known sound is) l
-          (warrant_after model log e r known sound is l ((a l).0 h));
-      other_before = λ l h. other_of model log e r known sound is (Into model log e r known sound is) l
-          (warrant_before model log e r known sound is l (b.only l h));
-      other_after = λ l h. other_of model log e r known sound is (Out model log e r known sound is) l
-          (warrant_after model log e r known sound is l ((a l).0 h));
-      carried_before = λ reason x of cx mx me why. carried_before model log e r known sound is
-          c.in_ok-before.before.items b reason x of cx why;
-      carried_after = λ reason x of cx me mx why. carried_after model log e r known sound is
-          c.in_ok-after.after.items a reason x of cx why;
-      nearest = nearest log e r known c.in_ok-before.before.items c.in_ok-after.after.items b a;
-    }
+    let listed = c.in_ok-links.ensures.listed in
+    let others = listed.0 in
+    let b = listed.2 in
+    let a = c.in_ok-after.ensures in (
+      others,
+      listed.1,
+      λ model. record {
+        edges_before = λ l h. edge_before model log e r known sound is l (b.only l h);
+        edges_after = λ l h. edge_after model log e r known sound is l ((a l).0 h);
+        reasons_before = λ l h. reason_of model log e r known sound is (Into model log e r known sound is) l
+            (warrant_before model log e r known sound is l (b.only l h));
+        reasons_after = λ l h. reason_of model log e r known sound is (Out model log e r known sound is) l
+            (warrant_after model log e r known sound is l ((a l).0 h));
+        other_before = λ l h. other_of model log e r known sound is (Into model log e r known sound is) l
+            (warrant_before model log e r known sound is l (b.only l h));
+        other_after = λ l h. other_of model log e r known sound is (Out model log e r known sound is) l
+            (warrant_after model log e r known sound is l ((a l).0 h));
+        carried_before = λ reason x of cx mx me why. carried_before model log e r known sound is
+            others b reason x of cx why;
+        carried_after = λ reason x of cx me mx why. carried_after model log e r known sound is
+            c.in_ok-after.after.items a reason x of cx why;
+        nearest = nearest log e r known others c.in_ok-after.after.items b a;
+      },
+    )

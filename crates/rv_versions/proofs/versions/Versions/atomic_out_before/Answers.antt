@@ -1,6 +1,6 @@
-use Rattle.std.proofs.Common.{List, Contains, ◌↔◌, refl, sym, ◌∙◌, subst, arith}
+use Rattle.std.proofs.Common.{map, refl, sym, ◌∙◌, arith}
 use Rattle.std.proofs.lemmas.Bool.{false≢true}
-use Rattle.rv_event.specs.declared.event.Id.{Id}
+use Rattle.rv_versions.specs.Accesses.{id_of}
 use Rattle.rv_versions.specs.Lookups.{IsPairBetween}
 use Rattle.rv_versions.proofs.Listing.{on_ok, atomic_outs_before_of, no_atomic_outs}
 use Rattle.rv_versions.proofs.versions.Versions.atomic_out_before.Goals as goal
@@ -10,11 +10,9 @@ pub returns : goal.returns
 returns c =
     let e = c.args.event.now in
     on_ok _ _ (atomic_outs_before_of c.args.self.now e c.args.links.now.items c.append_foreign.new.links.items
-    c.deref.result.now c.unparted_from-low.result c.from-wrote.result
-    (c.is_store.ensures.0 c.if-not-is_store.false) c.from-wrote.ensures c.unparted_from-low.ensures.parted
-    (subst (λ (ids : List Id). (i : Id) →
-    Contains ids i ↔ IsPairBetween c.args.self.now e.word c.unparted_from-low.result c.from-wrote.result i)
-    (sym c.deref.ensures.value) c.in_ok-scs.ensures))
+    (map id_of c.pairs_between-scs.result.now) c.unparted_from-low.result c.from.result
+    (c.is_store.ensures.0 c.if-not-is_store.false) c.from.ensures c.unparted_from-low.ensures.parted
+    c.pairs_between-scs.ensures)
     c.append_foreign.result c.append_foreign.ensures
 
 pub returns-then-not-is_store : goal.returns-then-not-is_store
@@ -25,16 +23,14 @@ returns-then-not-is_store c =
       | then-not-is_store-via-then-not-is_store w ↦
           false≢true (sym w.if-not-is_store.true ∙ c.is_store.ensures.1 a.store)
       | then-not-is_store-via-else-not-is_store+then-not-has_pair_below w ↦
-          let wrote = c.from-wrote.ensures in
-          let below = a.below in
-          let pair : IsPairBetween log e.word 0 c.from-wrote.result sc.id = record {
+          let pair : IsPairBetween log e.word 0 e.wrote sc.id = record {
             sc = sc;
             lr = lr;
             of_log = a.of_log;
             pair = a.pair;
             same = a.word;
             at_least = omega arith;
-            below = omega arith;
+            below = a.below;
             named = refl;
           } in
           false≢true (sym w.if-not-has_pair_below.true ∙ w.has_pair_below.ensures.1 (sc.id, pair))

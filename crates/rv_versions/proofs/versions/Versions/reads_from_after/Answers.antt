@@ -1,17 +1,16 @@
-use Rattle.std.proofs.Common.{◌+◌, List, Contains, ◌↔◌, sym, subst}
+use Rattle.std.proofs.Common.{ℕ, ◌+◌, ◌↔◌, Contains, map, refl, subst}
 use Rattle.rv_event.specs.declared.event.Id.{Id}
+use Rattle.rv_versions.specs.Accesses.{id_of}
 use Rattle.rv_versions.specs.Lookups.{IsLoadBetween}
 use Rattle.rv_versions.proofs.Listing.{on_ok, reads_from_after_of}
 use Rattle.rv_versions.proofs.versions.Versions.reads_from_after.Goals as goal
 
 pub returns : goal.returns
 returns c =
-    let w = c.from-wrote.result in
     let e = c.args.event.now in
-    on_ok _ _ (reads_from_after_of c.args.self.now e c.args.links.now.items c.append_links.new.links.items
-    c.deref.result.now w
-    (c.is_store.ensures.0 c.if-not-is_store.false) c.from-wrote.ensures
-    (subst (λ (ids : List Id). (i : Id) →
-    Contains ids i ↔ IsLoadBetween c.args.self.now e.word w (w + 1) i)
-    (sym c.deref.ensures.value) c.in_ok-loads.ensures))
+    let ids = map id_of c.loads_between-loads.result.now in
+    on_ok _ _ (reads_from_after_of c.args.self.now e c.args.links.now.items c.append_links.new.links.items ids e.wrote
+    (c.is_store.ensures.0 c.if-not-is_store.false) refl
+    (subst (λ (n : ℕ). (i : Id) → Contains ids i ↔ IsLoadBetween c.args.self.now e.word e.wrote (n + 1) i)
+    c.from.ensures c.loads_between-loads.ensures))
     c.append_links.result c.append_links.ensures

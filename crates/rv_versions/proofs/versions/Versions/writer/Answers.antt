@@ -10,8 +10,8 @@ returns-then-store-version c =
     (writer l c.args.word c.args.version)) c.self.view_is
     (no_writer (events c.self.inside.entries.items) c.self.inside.reserved.items c.self.inside.indexes
     c.self.invariant c.args.word c.args.version
-    (λ x of at. let least = c.in-Some.ensures.2 x of in let first : c.from-version.result < c.in-Some.store.version =
-    omega (arith, c.in-Some.ensures.1, c.if-store-version.true) in omega (arith, least, c.from-version.ensures)))
+    (λ x of at. let least = c.in-Some.ensures.2 x of in let first : c.from.result < c.in-Some.store.version =
+    omega (arith, c.in-Some.ensures.1, c.if-store-version.true) in omega (arith, least, c.from.ensures)))
 
 pub returns : goal.returns
 returns c =
@@ -20,7 +20,7 @@ returns c =
     (ap Some c.id.ensures ∙ writer_found
     (events c.self.inside.entries.items) c.self.inside.reserved.items c.self.inside.indexes c.self.invariant
     c.args.word c.args.version
-    c.in-Some.store c.in-Some.ensures.0 (c.if-store-version.false ∙ c.from-version.ensures))
+    c.in-Some.store c.in-Some.ensures.0 c.if-store-version.false)
 
 pub returns-in_default : goal.returns-in_default
 returns-in_default c =
@@ -28,4 +28,4 @@ returns-in_default c =
     (writer l c.args.word c.args.version)) c.self.view_is
     (no_writer (events c.self.inside.entries.items) c.self.inside.reserved.items c.self.inside.indexes
     c.self.invariant c.args.word c.args.version
-    (λ x of at. let past = c.in_default.ensures x of in omega (arith, past, c.from-version.ensures)))
+    (λ x of at. let past = c.in_default.ensures x of in omega (arith, past, c.from.ensures)))

@@ -1,9 +1,10 @@
-use Rattle.std.proofs.Common.{take, ◌≢◌}
+use Rattle.std.proofs.Common.{take, map, ◌≢◌}
+use Rattle.rv_versions.specs.Accesses.{id_of}
 use Rattle.rv_versions.specs.Listed.{IsExtended}
 use Rattle.rv_versions.proofs.Listing.{Linked}
 use Rattle.rv_versions.proofs.versions.links.append_foreign.Given as goal
 
--- the ids so far of other harts are linked
-abbrev pub invariant-loop-id : goal.invariant-loop-id
-invariant-loop-id l = IsExtended l.initial.links.items l.links.items (Linked (λ i. i.hart ≢ l.hart) l.reason
-    (take l.id-index l.ids))
+-- the accesses so far of other harts are linked
+abbrev pub invariant-loop-access : goal.invariant-loop-access
+invariant-loop-access l = IsExtended l.initial.links.items l.links.items (Linked (λ i. i.hart ≢ l.hart) l.reason
+    (map id_of (take l.access-index l.accesses)))

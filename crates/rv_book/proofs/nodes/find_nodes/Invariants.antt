@@ -1,0 +1,6 @@
+use Rattle.std.proofs.Common.{take}
+use Rattle.rv_book.specs.Nodes.{AreNodes}
+use Rattle.rv_book.proofs.nodes.find_nodes.Given as goal
+
+abbrev pub invariant-loop-link : goal.invariant-loop-link
+invariant-loop-link l = AreNodes l.ids (take l.link-index l.links) l.nodes.items

@@ -1,0 +1,105 @@
+-- Links of events, in one list, when one event more comes or the last one goes.
+use Rattle.std.proofs.Common.{◌≡◌, ℕ, ◌+◌, ◌-◌, ◌≤◌, List, [], ◌∷◌, ◌++◌, length, take, drop, sym, ap, ◌∙◌, arith}
+use Rattle.std.proofs.lemmas.List.{take-append-le, drop-append-le, take-append-drop, length-drop, length-take-le}
+use Rattle.std.proofs.Math.Seq.{take-append_seam, drop-append_seam, take-length}
+use Rattle.rv_event.specs.declared.reason.Link.{Link}
+use Rattle.rv_edges.specs.declared.links.Sides.{Sides}
+use Rattle.rv_edges.specs.OwnLinks.{OwnLinks, total, own_from}
+
+pub total-push : (sides : List Sides) (s : Sides) → total (sides ++ s ∷ []) ≡ total sides + (s.before + s.after)
+total-push [] s = omega arith
+total-push (x ∷ sides) s = omega (arith, total-push sides s)
+
+-- how many links two lists have
+abbrev pub sides_of : List Link → List Link → Sides
+sides_of before after = record { before = length before; after = length after }
+
+-- the links of one event
+abbrev one : List Link → Sides → OwnLinks
+one links s = record { before = take s.before links; after = take s.after (drop s.before links) }
+
+-- the first event's links are the same where more come behind
+one-append : (s : Sides) (links more : List Link) → s.before + s.after ≤ length links → one (links ++ more) s ≡ one links s
+one-append s links more few = λ i. record { before = front i; after = back i }
+  where
+    front : take s.before (links ++ more) ≡ take s.before links
+    front = take-append-le s.before links more (omega (arith, few))
+
+    back : take s.after (drop s.before (links ++ more)) ≡ take s.after (drop s.before links)
+    back =
+        ap (take s.after) (drop-append-le s.before links more (omega (arith, few)))
+        ∙ take-append-le s.after (drop s.before links) more (omega (arith, few, length-drop s.before links))
+
+-- the links of one event more
+pub own_from-push :
+    (sides : List Sides) (links before after : List Link) → total sides ≡ length links →
+    own_from (links ++ (before ++ after)) (sides ++ sides_of before after ∷ [])
+    ≡ own_from links sides ++ record { before = before; after = after } ∷ []
+own_from-push [] [] before after same = λ i. record { before = take-append_seam before after i; after = ends i } ∷ []
+  where
+    ends : take (length after) (drop (length before) (before ++ after)) ≡ after
+    ends = ap (take (length after)) (drop-append_seam before after) ∙ take-length after
+own_from-push [] (l ∷ links) before after same = absurd (omega (arith, same))
+own_from-push (s ∷ sides) links before after same =
+    λ i. one-append s links (before ++ after) few i ∷ (rest ∙ own_from-push sides (drop w links) before after left) i
+  where
+    w : ℕ
+    w = s.before + s.after
+
+    few : s.before + s.after ≤ length links
+    few = omega (arith, same)
+
+    left : total sides ≡ length (drop (s.before + s.after) links)
+    left = omega (arith, same, length-drop (s.before + s.after) links)
+
+    rest :
+        own_from (drop (s.before + s.after) (links ++ (before ++ after))) (sides ++ sides_of before after ∷ [])
+        ≡ own_from (drop (s.before + s.after) links ++ (before ++ after)) (sides ++ sides_of before after ∷ [])
+    rest =
+        ap (λ (ls : List Link). own_from ls (sides ++ sides_of before after ∷ []))
+        (drop-append-le (s.before + s.after) links (before ++ after) few)
+
+-- the links without those of the last event
+module _ (sides : List Sides) (s : Sides) (links : List Link) (same : total (sides ++ s ∷ []) ≡ length links) where
+  abbrev front : List Link
+  front = take (length links - (s.before + s.after)) links
+
+  abbrev back : List Link
+  back = drop (length links - (s.before + s.after)) links
+
+  abbrev before : List Link
+  before = take s.before back
+
+  abbrev after : List Link
+  after = drop s.before back
+
+  all : total sides + (s.before + s.after) ≡ length links
+  all = sym (total-push sides s) ∙ same
+
+  pub total-front : total sides ≡ length front
+  total-front = omega (arith, all, length-take-le (length links - (s.before + s.after)) links (omega arith))
+
+  long : length back ≡ s.before + s.after
+  long = omega (arith, all, length-drop (length links - (s.before + s.after)) links)
+
+  sizes : s ≡ sides_of before after
+  sizes = λ i. record { before = sym long_before i; after = sym long_after i }
+    where
+      long_before : length before ≡ s.before
+      long_before = length-take-le s.before back (omega (arith, long))
+
+      long_after : length after ≡ s.after
+      long_after = omega (arith, long, length-drop s.before back)
+
+  parts : links ≡ front ++ (before ++ after)
+  parts =
+      sym (take-append-drop (length links - (s.before + s.after)) links)
+      ∙ ap (λ (ls : List Link). front ++ ls) (sym (take-append-drop s.before back))
+
+  pub own_from-pop : (own : OwnLinks) × (own_from links (sides ++ s ∷ []) ≡ own_from front sides ++ own ∷ [])
+  own_from-pop = (
+    record { before = before; after = after },
+    ap (λ (x : Sides). own_from links (sides ++ x ∷ [])) sizes
+        ∙ ap (λ (ls : List Link). own_from ls (sides ++ sides_of before after ∷ [])) parts
+        ∙ own_from-push sides front before after total-front,
+  )

@@ -1,0 +1,43 @@
+-- The links of the last event stand behind all others.
+use Rattle.std.proofs.Common.{◌≡◌, ℕ, ◌+◌, ◌-◌, List, [], ◌∷◌, ◌++◌, length, take, sym, ap, ◌∙◌, arith}
+use Rattle.rv_event.specs.declared.reason.Link.{Link}
+use Rattle.rv_edges.specs.declared.links.Sides.{Sides}
+use Rattle.rv_edges.specs.OwnLinks.{total, own_from}
+use Rattle.rv_edges.proofs.Owning.{total-push, total-front, own_from-pop}
+use Rattle.rv_edges.proofs.links.KeptLinks.pop.Goals as goal
+
+pub overflow_sub-left : goal.overflow_sub-left
+overflow_sub-left c =
+    omega (arith, total-push c.pop.new.self.items c.in-Some.last, ap total c.in-Some.ensures.items, c.self.invariant, c.len.ensures, c.self.inside.links.ok)
+
+pub overflow_sub-left-in-Some : goal.overflow_sub-left-in-Some
+overflow_sub-left-in-Some c =
+    omega (arith, total-push c.pop.new.self.items c.in-Some.last, ap total c.in-Some.ensures.items, c.self.invariant, c.len.ensures, c.self.inside.links.ok)
+
+module _ (c : goal.After-truncate) where
+  abbrev links : List Link
+  links = c.self.inside.links.items
+
+  abbrev last : Sides
+  last = c.in-Some.last
+
+  same : total (c.pop.new.self.items ++ last ∷ []) ≡ length links
+  same = sym (ap total c.in-Some.ensures.items) ∙ c.self.invariant
+
+  left : c.truncate.new.self.items ≡ take (length links - (last.before + last.after)) links
+  left =
+      c.truncate.ensures.items
+      ∙ ap (λ (n : ℕ). take n links) (omega (arith, c.len.ensures, c.self.inside.links.ok))
+
+pub invariant_of-self : goal.invariant_of-self
+invariant_of-self c = total-front c.pop.new.self.items (last c) (links c) (same c) ∙ sym (ap length (left c))
+
+pub returns-in-Some : goal.returns-in-Some
+returns-in-Some c =
+    let p = own_from-pop c.pop.new.self.items (last c) (links c) (same c) in (
+      p.0,
+      sym c.self.view_is
+          ∙ ap (own_from (links c)) c.in-Some.ensures.items
+          ∙ p.1
+          ∙ ap (λ (ls : List Link). own_from ls c.pop.new.self.items ++ p.0 ∷ []) (sym (left c)),
+    )

@@ -1,0 +1,89 @@
+use Rattle.std.proofs.Common.{◌≡◌, List, ℕ, Some, None, length, sym, subst, arith}
+use Rattle.rv_event.specs.declared.event.Event.{Event}
+use Rattle.rv_rows.specs.Closure.{IsTaken}
+use Rattle.rv_hart.specs.Harts.{Hart}
+use Rattle.rv_hart.specs.Kept.{hart_of}
+use Rattle.rv_hart.proofs.Knowing.{fits_of}
+use Rattle.rv_hart.proofs.Linking.{Sweeping, IsGathering, rows-few, gathering-begun, gathering-more, gathering-done}
+use Rattle.rv_hart.proofs.kept.Kept.add_swept.Goals as goal
+
+pub taken-init : goal.taken-init
+taken-init c =
+    let h : Hart = hart_of c.args.self.now in
+    let e : Event = c.args.event.now in
+    let rows : List (List ℕ) = c.args.self.now.rows in
+    let first : List ℕ = c.fill_candidates.new.row in
+    let g : Sweeping h e rows first = record {
+      fits = fits_of h e c.requires.asked.kept.hart c.requires.asked.follows;
+      memory = c.requires.asked.memory;
+      mean = c.requires.asked.kept.rows;
+      count = c.requires.asked.kept.count;
+      enough = c.fill_candidates.ensures;
+    } in
+    let top : length rows ≡ c.len-top.result = sym c.len-top.ensures in
+    subst (λ (n : ℕ). IsGathering rows first first n c.insert.new.self c.insert.new.self) top
+    (gathering-begun h e rows first g c.insert.new.self)
+
+pub take_highest-requires-clause-few : goal.take_highest-requires-clause-few
+take_highest-requires-clause-few c =
+    let h : Hart = hart_of c.args.self.now in
+    let e : Event = c.args.event.now in
+    let rows : List (List ℕ) = c.args.self.now.rows in
+    let first : List ℕ = c.fill_candidates.new.row in
+    let g : Sweeping h e rows first = record {
+      fits = fits_of h e c.requires.asked.kept.hart c.requires.asked.follows;
+      memory = c.requires.asked.memory;
+      mean = c.requires.asked.kept.rows;
+      count = c.requires.asked.kept.count;
+      enough = c.fill_candidates.ensures;
+    } in
+    rows-few h e rows first g
+
+pub take_highest-requires-clause-limit : goal.take_highest-requires-clause-limit
+take_highest-requires-clause-limit c = c.taken.invariant.within
+
+pub take_highest-requires-clause-below : goal.take_highest-requires-clause-below
+take_highest-requires-clause-below c = c.taken.invariant.swept.low
+
+pub taken-preserved : goal.taken-preserved
+taken-preserved c =
+    let h : Hart = hart_of c.args.self.now in
+    let e : Event = c.args.event.now in
+    let rows : List (List ℕ) = c.args.self.now.rows in
+    let first : List ℕ = c.fill_candidates.new.row in
+    let g : Sweeping h e rows first = record {
+      fits = fits_of h e c.requires.asked.kept.hart c.requires.asked.follows;
+      memory = c.requires.asked.memory;
+      mean = c.requires.asked.kept.rows;
+      count = c.requires.asked.kept.count;
+      enough = c.fill_candidates.ensures;
+    } in
+    let is : IsTaken rows c.taken.left (Some c.in-Some.number) c.take_highest.new.candidates =
+    rw c.in-Some.is at c.take_highest.ensures in
+    gathering-more h e rows first g c.taken.left c.take_highest.new.candidates c.taken.top c.in-Some.number c.insert.new.self c.taken.row c.join_into.new.row c.taken.invariant is
+    c.join_into.ensures
+
+pub returns : goal.returns
+returns c =
+    let h : Hart = hart_of c.args.self.now in
+    let e : Event = c.args.event.now in
+    let rows : List (List ℕ) = c.args.self.now.rows in
+    let first : List ℕ = c.fill_candidates.new.row in
+    let g : Sweeping h e rows first = record {
+      fits = fits_of h e c.requires.asked.kept.hart c.requires.asked.follows;
+      memory = c.requires.asked.memory;
+      mean = c.requires.asked.kept.rows;
+      count = c.requires.asked.kept.count;
+      enough = c.fill_candidates.ensures;
+    } in
+    let is : IsTaken rows c.taken.left None c.take_highest.new.candidates =
+    rw c.in_default.is at c.take_highest.ensures in
+    gathering-done h e rows first g c.taken.left c.take_highest.new.candidates c.taken.top c.args.row.now c.insert.new.self c.taken.row c.taken.invariant is c.insert.ensures
+
+pub join_into-requires : goal.join_into-requires
+join_into-requires c =
+    let is : IsTaken c.args.self.now.rows c.taken.left (Some c.in-Some.number) c.take_highest.new.candidates =
+    rw c.in-Some.is at c.take_highest.ensures in
+    let low = c.taken.invariant.swept.low c.in-Some.number is.0.1 in
+    let within = c.taken.invariant.within in
+    omega arith

@@ -1,0 +1,6 @@
+use Rattle.std.proofs.Common.{List, ℕ, length, sym, ap, ◌∙◌}
+use Rattle.rv_rows.proofs.Laying.{rows_count}
+use Rattle.rv_rows.proofs.rows.Rows.len.Goals as goal
+
+pub returns : goal.returns
+returns c = sym (rows_count c.self.inside.words.items c.self.inside.count) ∙ ap (λ (rs : List (List ℕ)). length rs) c.self.view_is

@@ -1,0 +1,25 @@
+use Rattle.std.proofs.Common.{◌≡◌, ◌+◌, ◌∙◌, List, ℕ, Some, insert, ap, sym, subst}
+use Rattle.rv_versions.specs.Accesses.{AreByVersion, IsStart}
+use Rattle.rv_versions.specs.Indexes.{IsInserted}
+use Rattle.rv_versions.specs.declared.accesses.Access.{Access}
+use Rattle.rv_versions.proofs.Versioned.{ordered_inserted, was_inserted}
+use Rattle.rv_versions.proofs.by_version.ByVersion.insert.Goals.{In_ok-insert}
+use Rattle.rv_versions.proofs.by_version.ByVersion.insert.Goals as goal
+
+made : (c : In_ok-insert) → c.insert.new.self.items ≡ insert c.args.self.now c.start-place.result c.args.access
+made c =
+    c.in_ok-insert.ensures.items ∙
+    ap (λ (xs : List Access). insert xs c.start-place.result c.args.access) c.self.view_is
+
+pub invariant_of-self-2 : goal.invariant_of-self-2
+invariant_of-self-2 c =
+    let xs = c.args.self.now in
+    let n = c.start-place.result in
+    subst AreByVersion (sym (made c))
+    (ordered_inserted xs (subst AreByVersion c.self.view_is c.self.invariant) c.args.access n c.start-place.ensures.bound
+    c.requires (subst (λ (v : ℕ). IsStart xs (v + 1) n) c.from.ensures c.start-place.ensures.parted))
+
+pub returns-clause-inserted : goal.returns-clause-inserted
+returns-clause-inserted c =
+    subst (λ (xs : List Access). IsInserted c.args.self.now (Some c.args.access) xs) (sym (made c))
+    (was_inserted c.args.self.now c.start-place.result c.args.access)

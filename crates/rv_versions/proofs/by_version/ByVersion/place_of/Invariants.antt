@@ -1,0 +1,7 @@
+use Rattle.std.proofs.Common.{◌≢◌}
+use Rattle.std.specs.List.{AllWithin}
+use Rattle.rv_versions.proofs.by_version.ByVersion.place_of.Given as goal
+
+-- the access is not among those from the place on
+abbrev pub invariant-loop-place : goal.invariant-loop-place
+invariant-loop-place l = AllWithin (λ x. x ≢ l.access) l.self-inside.accesses.items l.place l.end

@@ -1,0 +1,176 @@
+//! The accesses to one word, in the order of their versions.
+//!
+//! Where events come in commit order, an access goes to the end, and what is asked is nearly always answered by the
+//! last accesses. So each function looks at these first, and searches only where they do not answer.
+ghost use Rattle.std.specs.Prelude.{ℕ, ◌≡◌, ◌+◌, ◌<◌, ◌≤◌, ◌↔◌, [], List, length, Contains, Some, OnOk, OnErr, MatchOption};
+ghost use Rattle.std.specs.List.{HoldsAt, AllWithin};
+ghost use Rattle.rv_versions.specs.Accesses.{AreAllOf, IsStart, IsLower, IsFirstFrom, IsForeignFrom};
+ghost use Rattle.rv_versions.specs.Indexes.{IsInserted, IsRemoved};
+ghost use Rattle.rv_versions.specs.declared.accesses.Access.{Access};
+
+use crate::accesses::Access;
+use rv_event::NoMemory;
+use std::alloc::Global;
+use std::marker::Model;
+
+/// The accesses to one word, in the order of their versions. Those of one version stand in the order in which they
+/// came.
+///
+/// Contracts see the list. Its type keeps the order, and that no access stands in it twice. That it has the accesses of
+/// one word is a premise of each answer.
+#[derive(Drop)]
+pub struct ByVersion {
+    accesses: Vec<Access>,
+}
+
+impl Model for ByVersion {
+    ghost use Rattle.std.specs.Prelude.{List};
+    ghost use Rattle.rv_versions.specs.Accesses.{AreByVersion};
+    ghost use Rattle.rv_versions.specs.declared.accesses.Access.{Access};
+
+    ghost Value = { List Access };
+
+    ghost view = { λ a. a.accesses.items };
+
+    ghost invariant = { λ a. AreByVersion a.accesses.items };
+}
+
+impl ByVersion {
+    /// No accesses. It takes no memory.
+    pub fn new(alloc: Global) -> Self
+        ensures { result ≡ [] }
+    {
+        ByVersion {
+            accesses: Vec::new(alloc),
+        }
+    }
+
+    /// Puts an access in that is not there, behind all of its version or a lower one.
+    ///
+    /// It costs a step where no version is higher, and else a search and the moving of what stands behind it.
+    ///
+    /// # Errors
+    /// `NoMemory`; the accesses are then as they were.
+    pub fn insert(&mut self, access: Access) -> Result<(), NoMemory>
+        requires { Contains self.old access → ⊥ }
+        ensures inserted { OnOk result (IsInserted self.old (Some access) self.new) }
+        ensures unchanged { OnErr result (self.new ≡ self.old) }
+    {
+        let place = self.start(u64::from(access.version) + 1);
+        self.accesses.insert(place, access)?;
+        Ok(())
+    }
+
+    /// Takes an access out, where it is there. It takes no memory.
+    ///
+    /// It costs a step for each of its version that came later, and the moving of what stands behind it.
+    pub fn remove(&mut self, access: Access)
+        ensures { IsRemoved self.old (Some access) self.new }
+    {
+        if let Some(place) = self.place_of(access) {
+            self.accesses.remove(place);
+        }
+    }
+
+    /// The access of the highest version below this one.
+    pub fn lower(&self, version: u32) -> Option<Access>
+        ensures { (accesses : List Access) (word : ℕ) → AreAllOf accesses word self.now →
+            IsLower accesses word version result }
+    {
+        let end = self.start(u64::from(version));
+        if end == 0 {
+            return None;
+        }
+        Some(self.accesses[end - 1])
+    }
+
+    /// An access of the lowest version from this one on.
+    pub fn first_from(&self, version: u64) -> Option<Access>
+        ensures { (accesses : List Access) (word : ℕ) → AreAllOf accesses word self.now →
+            IsFirstFrom accesses word version result }
+    {
+        if let Some(last) = self.accesses.last()
+            && u64::from(last.version) == version
+        {
+            return Some(*last);
+        }
+        let start = self.start(version);
+        if start < self.accesses.len() {
+            Some(self.accesses[start])
+        } else {
+            None
+        }
+    }
+
+    /// The access of the lowest version from this one on that another hart has made.
+    ///
+    /// It costs a step for each access that it passes on the way.
+    pub fn foreign_from(&self, version: u64, hart: u8) -> Option<Access>
+        ensures { (accesses : List Access) (word : ℕ) → AreAllOf accesses word self.now →
+            IsForeignFrom accesses word version hart result }
+    {
+        for place in self.start(version)..self.accesses.len() {
+            let access = self.accesses[place];
+            if access.hart != hart {
+                return Some(access);
+            }
+        }
+        None
+    }
+
+    /// The accesses of a version from the first on and below the second.
+    ///
+    /// Besides looking for the second version, it costs a step for each of them.
+    pub fn between(&self, from: u32, to: u64) -> &[Access]
+        ensures { (x : Access) → Contains result.now x ↔ (Contains self.now x × (from ≤ x.version) × (x.version < to)) }
+    {
+        let end = self.start(to);
+        &self.accesses[self.start_back(from, end)..end]
+    }
+
+    /// How many accesses are of a version below this one.
+    fn start(&self, version: u64) -> usize
+        ensures bound { result ≤ length self.now }
+        ensures parted { IsStart self.now version result }
+    {
+        match self.accesses.last() {
+            Some(last) if version <= u64::from(last.version) => self
+                .accesses
+                .partition_point(|x| u64::from(x.version) < version),
+            _ => self.accesses.len(),
+        }
+    }
+
+    /// The place from which on those before the end are of this version or a higher one.
+    fn start_back(&self, version: u32, end: usize) -> usize
+        requires { end ≤ length self.now }
+        ensures bound { result ≤ end }
+        ensures below { AllWithin (λ x. x.version < version) self.now 0 result }
+        ensures from { AllWithin (λ x. version ≤ x.version) self.now result end }
+    {
+        for place in (0..end).rev() {
+            if self.accesses[place].version < version {
+                return place + 1;
+            }
+        }
+        0
+    }
+
+    /// The place of an access, where it is there.
+    fn place_of(&self, access: Access) -> Option<usize>
+        ensures { MatchOption result (Contains self.now access → ⊥)
+            (λ place. (place < length self.now) × HoldsAt (λ x. x ≡ access) self.now place) }
+    {
+        let end = self.start(u64::from(access.version) + 1);
+        for place in (0..end).rev() {
+            let other = self.accesses[place];
+            if other == access {
+                return Some(place);
+            }
+            if other.version < access.version {
+                return None;
+            }
+        }
+        None
+    }
+}
