@@ -1,14 +1,18 @@
-//! What judging costs beside reading: a trace from memory, read alone, and read and offered to a book. It is done once, as
-//! a program that goes on has memory at hand that a program which begins does not.
+//! What judging costs beside reading: a file with a trace, read alone, and read and offered to a book. It is done once, as a
+//! program that goes on has memory at hand that a program which begins does not.
 use rv_book::{Book, Offer};
 use rv_event::{Entry, MemoryModel};
 use rv_trace::Trace;
 use std::alloc::{AllocError, Global};
+use std::fs::{self, File};
 use std::io;
 use std::time::Instant;
 
 /// How long a trace may be.
 const LONGEST: u32 = 65_536;
+
+/// The file that a trace is written to before it is measured.
+const PLACE: &str = "/tmp/rv_bench.csv";
 
 /// How many harts a trace has, whose events come in turn.
 const HARTS: u32 = 16;
@@ -100,8 +104,8 @@ fn text_of(alloc: Global, shape: Shape, count: u32) -> Result<String, AllocError
 }
 
 /// How many events are read.
-fn read(alloc: Global, text: &[u8], count: u32) -> u32 {
-    let mut trace = Trace::new(alloc, text, 0);
+fn read(alloc: Global, file: File, count: u32) -> u32 {
+    let mut trace = Trace::new(alloc, file, 0);
     for read in 0..=count {
         if !matches!(trace.next_event(), Ok(Some(_))) {
             return read;
@@ -111,8 +115,8 @@ fn read(alloc: Global, text: &[u8], count: u32) -> u32 {
 }
 
 /// How many events are read and accepted.
-fn judge(alloc: Global, text: &[u8], count: u32) -> u32 {
-    let mut trace = Trace::new(alloc, text, 0);
+fn judge(alloc: Global, file: File, count: u32) -> u32 {
+    let mut trace = Trace::new(alloc, file, 0);
     let mut book = Book::new(alloc, MemoryModel::Rvwmo);
     for judged in 0..=count {
         let Ok(Some(event)) = trace.next_event() else {
@@ -134,11 +138,14 @@ fn share(nanoseconds: u128, count: u32) -> u128 {
 fn measure(rt: &HostRuntime, name: &str, shape: Shape, count: u32) -> io::Result<()> {
     let alloc = rt.alloc();
     let text = text_of(alloc, shape, count)?;
+    fs::write(rt, PLACE, text.as_str())?;
+    let file = File::open(rt, PLACE)?;
     let start = Instant::now(rt)?;
-    let count_read = read(alloc, text.as_bytes(), count);
+    let count_read = read(alloc, file, count);
     let reading = start.elapsed(rt)?.as_nanos();
+    let file = File::open(rt, PLACE)?;
     let start = Instant::now(rt)?;
-    let count_judged = judge(alloc, text.as_bytes(), count);
+    let count_judged = judge(alloc, file, count);
     let judging = start.elapsed(rt)?.as_nanos();
     println!(rt;
         "{name}: {count_read} of {count} events read, {count_judged} judged: {} ns and {} ns each",

@@ -15,8 +15,8 @@ use std::marker::Model;
 /// The events of one hart, with what the rules of preserved program order ask of them at the next event (manual,
 /// section 14.1, "Preserved Program Order").
 ///
-/// Contracts see the memory model, the hart's number and its events. Event n takes n / 8 bytes and some 50 more beside
-/// itself.
+/// Contracts see the memory model, the hart's number and its events. Beside itself an event takes some 60 bytes, and 8 for
+/// each 64 events from the first that leads to it by rules to itself: at most n / 8 for event n.
 #[derive(Drop)]
 pub struct HartOrder {
     kept: Kept,
@@ -57,9 +57,9 @@ impl HartOrder {
     ///
     /// `returned` is the number of the hart's own store that the event, a load, returns, where there is one.
     ///
-    /// It costs some passes over 512 bytes for the event, one over n / 8 bytes for a link from event n, and a step for
+    /// It costs a step for each 64 events from the first to the last of the candidates, for each link, and a step for
     /// each operation of its word back to the hart's last store of it; loads of one version in a row cost one step
-    /// together.
+    /// together. A hart's fences, annotated events and branches cost a pass over their sets each.
     ///
     /// # Errors
     /// `NoMemory` where the list could not be had.
@@ -74,8 +74,8 @@ impl HartOrder {
     /// Adds the event. `links` are links into it, those of other harts and of other reasons among them; each earlier
     /// event that a rule orders before it has one, or stands before another that has one.
     ///
-    /// It costs some passes over 512 bytes for the event and one over n / 8 bytes for a link from event n that names a
-    /// rule, and what `before` costs more where a link of the hart names no rule, and no other link leads to its event.
+    /// It costs a step for each 64 events from the first to the last that leads to it by rules, for each link that names
+    /// a rule, and what `before` costs more where a link of the hart names no rule, and no other link leads to its event.
     ///
     /// # Errors
     /// `NoMemory` where it could not be kept; the hart stays as it is.

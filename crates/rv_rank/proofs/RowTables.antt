@@ -1,18 +1,20 @@
 -- Rows of a table that grow at their ends.
-use Rattle.std.proofs.Common.{◌≡◌, ◌≢◌, ℕ, ◌+◌, ◌-◌, ◌<◌, List, [], ◌∷◌, ◌++◌, length, get_or, set, take}
-use Rattle.std.proofs.Common.{map, inl, inr, sym, ◌∙◌, arith, ap, refl, subst, Vec, Global, vec_len}
-use Rattle.std.proofs.Common.{vec_capacity}
+use Rattle.std.proofs.Common.{◌≡◌, ◌≢◌, ℕ, ◌+◌, ◌-◌, ◌<◌, ◌≤◌, List, [], ◌∷◌, ◌++◌, length, get_or, set, take}
+use Rattle.std.proofs.Common.{map, inl, inr, sym, ◌∙◌, arith, ap, refl, subst}
 use Rattle.std.specs.List.{All, Contains}
 use Rattle.std.proofs.lemmas.List.{get_or-set_same, get_or-set_other, length-set, map-set, set-get_or}
 use Rattle.std.proofs.lemmas.List.{get_or-map, length-map, length_push, get_or_push}
+use Rattle.std.proofs.lemmas.List.Elements.{All-nil, All-more, All-weaker}
 use Rattle.std.proofs.lemmas.Bool.{cases_eq}
-use Rattle.rv_rank.specs.Rows.{HasRoom, IsAppended, EndsIn}
+use Rattle.rv_rank.specs.Rows.{Neighbours, outgoing_of, incoming_of, rooms_of, degree, HasRoom, KeepsRoom}
+use Rattle.rv_rank.specs.Rows.{IsAppended, EndsIn}
 use Rattle.rv_rank.proofs.Lists.{Contains-take_more, Contains-take_kept, Contains-take_last, contains_cases}
 
-pub map_set_same : {X : Type 0} (f : X → List ℕ) (xs : List X) (i : ℕ) (v d : X) → i < length xs →
+-- a write that leaves what f reads
+pub map_set_same : {X Y : Type 0} (f : X → Y) (xs : List X) (i : ℕ) (v d : X) (e : Y) → i < length xs →
     f v ≡ f (get_or xs i d) → map f (set xs i v) ≡ map f xs
-map_set_same f xs i v d l e =
-    map-set f xs i v ∙ ap (λ y. set (map f xs) i y) (e ∙ sym (get_or-map f xs i d [] l)) ∙ set-get_or (map f xs) i []
+map_set_same f xs i v d e l q =
+    map-set f xs i v ∙ ap (λ y. set (map f xs) i y) (q ∙ sym (get_or-map f xs i d e l)) ∙ set-get_or (map f xs) i e
 
 -- a row that was lengthened
 pub IsAppended-more : (old new : List (List ℕ)) (places : List ℕ) (item i : ℕ) →
@@ -61,77 +63,180 @@ EndsIn-append row item =
 pub not_EndsIn : (row : List ℕ) (item : ℕ) → All (λ a. a < item) row → EndsIn row item → ⊥
 not_EndsIn row item h e = let b = h (length row - 1) 0 (omega (arith, e.0)) in omega (arith, e.1)
 
-pub HasRoom-set : (rows : List (Vec ℕ Global)) (p a : ℕ) (v : Vec ℕ Global) → p < length rows →
-    vec_len v < vec_capacity v → HasRoom rows a → HasRoom (set rows p v) a
-HasRoom-set rows p a v l room h = λ d. elim (cases_eq a p) [
-  | inl e ↦ let q : get_or (set rows p v) a d ≡ v = ap (λ x. get_or (set rows p v) x d) e ∙
-      get_or-set_same rows p v d l in rw q room
-  | inr n ↦ rw (get_or-set_other rows p a v d n) (h d)
-]
+pub KeepsRoom-set : (old rows : List Neighbours) (p : ℕ) (v d : Neighbours) → KeepsRoom old rows →
+    p < length rows → (get_or rows p d).room ≤ v.room → KeepsRoom old (set rows p v)
+KeepsRoom-set old rows p v d h l m a =
+    let f : Neighbours → ℕ = λ n. n.room in
+    let e : map f (set rows p v) ≡ set (map f rows) p v.room = map-set f rows p v in
+    elim (cases_eq a p) [
+      | inl q ↦
+          let here : get_or (set (map f rows) p v.room) p 0 ≡ v.room =
+          get_or-set_same (map f rows) p v.room 0 (omega (arith, length-map rows f)) in
+          let was : get_or (map f rows) p 0 ≡ (get_or rows p d).room = get_or-map f rows p d 0 l in
+          rw (q, e) (omega (arith, here, was, h p))
+      | inr n ↦
+          let there : get_or (set (map f rows) p v.room) a 0 ≡ get_or (map f rows) a 0 =
+          get_or-set_other (map f rows) p a v.room 0 n in
+          rw e (omega (arith, there, h a))
+    ]
 
--- the rows at the first i places have been lengthened
-pub record IsFilling (old rows : List (Vec ℕ Global)) (places : List ℕ) (item i : ℕ) : Type 0 where
-  pub appended : IsAppended (map (λ v. v.items) old) (map (λ v. v.items) rows) (take i places) item
-  pub same : (a : ℕ) → (Contains (take i places) a → ⊥) → (d : Vec ℕ Global) → get_or rows a d ≡ get_or old a d
+pub HasRoom-kept : (old new : List Neighbours) (more a : ℕ) → outgoing_of new ≡ outgoing_of old →
+    incoming_of new ≡ incoming_of old → get_or (rooms_of old) a 0 ≤ get_or (rooms_of new) a 0 →
+    HasRoom old more a → HasRoom new more a
+HasRoom-kept old new more a o i k h = rw (o, i) (omega (arith, k, h))
 
-pub Filling-none : (old : List (Vec ℕ Global)) (places : List ℕ) (item : ℕ) → IsFilling old old places item 0
-Filling-none old places item = record {
-  appended = record { long = refl; here = λ a l w. absurd (omega (arith, w.1)); other = λ a n. refl };
-  same = λ a n d. refl;
+pub HasRoom-set : (rows : List Neighbours) (p more : ℕ) (v : Neighbours) → p < length rows →
+    degree v + more ≤ v.room → HasRoom (set rows p v) more p
+HasRoom-set rows p more v l h =
+    let f : Neighbours → List ℕ = λ n. n.incoming in
+    let g : Neighbours → List ℕ = λ n. n.outgoing in
+    let r : Neighbours → ℕ = λ n. n.room in
+    let at = get_or-set_same rows p v v l in
+    let within : p < length (set rows p v) = omega (arith, length-set rows p v) in
+    let i : get_or (map f (set rows p v)) p [] ≡ v.incoming =
+    get_or-map f (set rows p v) p v [] within ∙ ap f at in
+    let o : get_or (map g (set rows p v)) p [] ≡ v.outgoing =
+    get_or-map g (set rows p v) p v [] within ∙ ap g at in
+    let k : get_or (map r (set rows p v)) p 0 ≡ v.room =
+    get_or-map r (set rows p v) p v 0 within ∙ ap r at in
+    rw (i, o, k) h
+
+-- there is still room for one in the other row
+pub HasRoom-less : (old new : List Neighbours) (places : List ℕ) (item a : ℕ) →
+    IsAppended (outgoing_of old) (outgoing_of new) places item → incoming_of new ≡ incoming_of old →
+    get_or (rooms_of old) a 0 ≤ get_or (rooms_of new) a 0 → a < length old → HasRoom old 2 a → HasRoom new 1 a
+HasRoom-less old new places item a h i k l room =
+    let row = get_or (outgoing_of old) a [] in
+    let few : length (get_or (outgoing_of new) a []) ≤ length row + 1 = elim (contains_cases places a) [
+      | inl w ↦
+          let e = h.here a (omega (arith, length-map old (λ n. n.outgoing))) w in
+          omega (arith, ap length e, length_push row item)
+      | inr n ↦ omega (arith, ap length (h.other a n))
+    ] in
+    rw i (omega (arith, few, k, room))
+
+-- the nodes at the first i places have room for so many neighbours more
+pub record IsRoomy (old rows : List Neighbours) (places : List ℕ) (more i : ℕ) : Type 0 where
+  pub outgoing : outgoing_of rows ≡ outgoing_of old
+  pub incoming : incoming_of rows ≡ incoming_of old
+  pub kept : KeepsRoom old rows
+  pub room : All (HasRoom rows more) (take i places)
+
+pub IsRoomy-none : (old : List Neighbours) (places : List ℕ) (more : ℕ) → IsRoomy old old places more 0
+IsRoomy-none old places more = record {
+  outgoing = refl;
+  incoming = refl;
+  kept = λ a. omega arith;
+  room = All-nil (HasRoom old more);
 }
 
-pub not_yet : (old rows : List (Vec ℕ Global)) (places : List ℕ) (item i : ℕ) (d : Vec ℕ Global) →
-    IsFilling old rows places item i → get_or places i 0 < length rows →
-    (EndsIn (get_or rows (get_or places i 0) d).items item → ⊥) → Contains (take i places) (get_or places i 0) →
-    ⊥
-not_yet old rows places item i d h l n w =
-    let p = get_or places i 0 in
-    let long = length-map rows (λ v. v.items) in
-    let e : get_or (map (λ v. v.items) rows) p [] ≡ (get_or rows p d).items =
-    get_or-map (λ v. v.items) rows p d [] l in
-    let q = sym e ∙ h.appended.here p (omega (arith, long, h.appended.long)) w in
-    n (rw q (EndsIn-append (get_or (map (λ v. v.items) old) p []) item))
-
-pub Filling-more : (old rows : List (Vec ℕ Global)) (places : List ℕ) (item i : ℕ) (v d : Vec ℕ Global) →
-    IsFilling old rows places item i → i < length places → get_or places i 0 < length rows →
-    v.items ≡ (get_or rows (get_or places i 0) d).items ++ item ∷ [] →
-    (Contains (take i places) (get_or places i 0) → ⊥) →
-    IsFilling old (set rows (get_or places i 0) v) places item (i + 1)
-Filling-more old rows places item i v d h l b e n =
-    let p = get_or places i 0 in
-    let long = length-map rows (λ v. v.items) in
-    let at : get_or (map (λ v. v.items) rows) p [] ≡ (get_or rows p d).items =
-    get_or-map (λ v. v.items) rows p d [] b in
-    let q : map (λ v. v.items) (set rows p v) ≡ set (map (λ v. v.items) rows) p
-    (get_or (map (λ v. v.items) rows) p [] ++ item ∷ []) = map-set (λ v. v.items) rows p v ∙
-    ap (λ x. set (map (λ v. v.items) rows) p x) (e ∙ ap (λ x. x ++ item ∷ []) (sym at)) in
+-- a node that was given room
+pub IsRoomy-set : (old rows : List Neighbours) (places : List ℕ) (more i p : ℕ) (v d : Neighbours) →
+    IsRoomy old rows places more i → p < length rows → v.outgoing ≡ (get_or rows p d).outgoing →
+    v.incoming ≡ (get_or rows p d).incoming → (get_or rows p d).room ≤ v.room →
+    IsRoomy old (set rows p v) places more i
+IsRoomy-set old rows places more i p v d h l o n k =
+    let same_out = map_set_same (λ n. n.outgoing) rows p v d [] l o in
+    let same_in = map_set_same (λ n. n.incoming) rows p v d [] l n in
+    let least = KeepsRoom-set rows rows p v d (λ a. omega arith) l k in
     record {
-      appended =
-          rw q (IsAppended-more (map (λ v. v.items) old) (map (λ v. v.items) rows) places item i h.appended l
-          (omega (arith, long)) n);
-      same = λ a m d2.
-          let apart : a ≢ p = λ e. m (rw e (Contains-take_last places i l)) in
-          get_or-set_other rows p a v d2 apart ∙ h.same a (λ w. m (Contains-take_kept places i a l w)) d2;
+      outgoing = same_out ∙ h.outgoing;
+      incoming = same_in ∙ h.incoming;
+      kept = KeepsRoom-set old rows p v d h.kept l k;
+      room = All-weaker (HasRoom rows more) (HasRoom (set rows p v) more)
+          (λ a. HasRoom-kept rows (set rows p v) more a same_out same_in (least a)) (take i places) h.room;
     }
 
-pub Filling-skip : (old rows : List (Vec ℕ Global)) (places : List ℕ) (item i : ℕ) (d : Vec ℕ Global) →
-    IsFilling old rows places item i → i < length places → get_or places i 0 < length rows →
-    All (λ row. All (λ a. a < item) row) (map (λ v. v.items) old) →
-    EndsIn (get_or rows (get_or places i 0) d).items item → IsFilling old rows places item (i + 1)
-Filling-skip old rows places item i d h l b fresh ends =
+pub IsRoomy-more : (old rows : List Neighbours) (places : List ℕ) (more i : ℕ) (v d : Neighbours) →
+    IsRoomy old rows places more i → i < length places → get_or places i 0 < length rows →
+    v.outgoing ≡ (get_or rows (get_or places i 0) d).outgoing →
+    v.incoming ≡ (get_or rows (get_or places i 0) d).incoming →
+    (get_or rows (get_or places i 0) d).room ≤ v.room → degree v + more ≤ v.room →
+    IsRoomy old (set rows (get_or places i 0) v) places more (i + 1)
+IsRoomy-more old rows places more i v d h m l o n k r =
     let p = get_or places i 0 in
-    let long = length-map rows (λ v. v.items) in
-    let long_old = length-map old (λ v. v.items) in
-    elim (contains_cases (take i places) p) [
-      | inl w ↦ record {
-        appended = IsAppended-skip (map (λ v. v.items) old) (map (λ v. v.items) rows) places item i h.appended l w;
-        same = λ a m d2. h.same a (λ u. m (Contains-take_kept places i a l u)) d2;
+    let s = IsRoomy-set old rows places more i p v d h l o n k in
+    record {
+      outgoing = s.outgoing;
+      incoming = s.incoming;
+      kept = s.kept;
+      room = All-more (HasRoom (set rows p v) more) places i 0 m s.room (HasRoom-set rows p more v l r);
+    }
+
+-- f's rows at the first i places have been lengthened, and g's rows are as they were
+pub record IsFilling (f g : Neighbours → List ℕ) (old rows : List Neighbours) (places : List ℕ) (item i : ℕ) :
+    Type 0 where
+  pub appended : IsAppended (map f old) (map f rows) (take i places) item
+  pub same : map g rows ≡ map g old
+  pub kept : KeepsRoom old rows
+
+pub Filling-none : (f g : Neighbours → List ℕ) (old : List Neighbours) (places : List ℕ) (item : ℕ) →
+    IsFilling f g old old places item 0
+Filling-none f g old places item = record {
+  appended = record { long = refl; here = λ a l w. absurd (omega (arith, w.1)); other = λ a n. refl };
+  same = refl;
+  kept = λ a. omega arith;
+}
+
+module _
+    (f g : Neighbours → List ℕ) (old rows : List Neighbours) (places : List ℕ) (item i : ℕ) (d : Neighbours)
+    (filling : IsFilling f g old rows places item i) (within : get_or places i 0 < length rows) where
+  row_at : get_or (map f rows) (get_or places i 0) [] ≡ f (get_or rows (get_or places i 0) d)
+  row_at = get_or-map f rows (get_or places i 0) d [] within
+
+  pub not_yet : (EndsIn (f (get_or rows (get_or places i 0) d)) item → ⊥) →
+      Contains (take i places) (get_or places i 0) → ⊥
+  not_yet n w =
+      let p = get_or places i 0 in
+      let q = sym row_at ∙ filling.appended.here p
+      (omega (arith, length-map rows f, filling.appended.long, within)) w in
+      n (rw q (EndsIn-append (get_or (map f old) p []) item))
+
+  pub room_at : (Contains (take i places) (get_or places i 0) → ⊥) →
+      (length (get_or (map f old) (get_or places i 0) []) + length (get_or (map g old) (get_or places i 0) []))
+      + 1 ≤ get_or (rooms_of old) (get_or places i 0) 0 →
+      length (f (get_or rows (get_or places i 0) d)) + length (g (get_or rows (get_or places i 0) d))
+      < (get_or rows (get_or places i 0) d).room
+  room_at n room =
+      let p = get_or places i 0 in
+      let r : Neighbours → ℕ = λ n. n.room in
+      let here : f (get_or rows p d) ≡ get_or (map f old) p [] = sym row_at ∙ filling.appended.other p n in
+      let there : g (get_or rows p d) ≡ get_or (map g old) p [] =
+      sym (get_or-map g rows p d [] within) ∙ ap (λ x. get_or x p []) filling.same in
+      let k : get_or (map r rows) p 0 ≡ (get_or rows p d).room = get_or-map r rows p d 0 within in
+      rw (here, there) (omega (arith, k, filling.kept p, room))
+
+  pub Filling-more : (v : Neighbours) → i < length places →
+      f v ≡ f (get_or rows (get_or places i 0) d) ++ item ∷ [] →
+      g v ≡ g (get_or rows (get_or places i 0) d) → (get_or rows (get_or places i 0) d).room ≤ v.room →
+      (Contains (take i places) (get_or places i 0) → ⊥) →
+      IsFilling f g old (set rows (get_or places i 0) v) places item (i + 1)
+  Filling-more v l e s k n =
+      let p = get_or places i 0 in
+      let q : map f (set rows p v) ≡ set (map f rows) p (get_or (map f rows) p [] ++ item ∷ []) =
+      map-set f rows p v ∙ ap (λ x. set (map f rows) p x) (e ∙ ap (λ x. x ++ item ∷ []) (sym row_at)) in
+      record {
+        appended =
+            rw q (IsAppended-more (map f old) (map f rows) places item i filling.appended l
+            (omega (arith, length-map rows f, within)) n);
+        same = map_set_same g rows p v d [] within s ∙ filling.same;
+        kept = KeepsRoom-set old rows p v d filling.kept within k;
       }
-      | inr n ↦
-          let e = h.same p n d in
-          let within : p < length old = omega (arith, long, long_old, h.appended.long) in
-          let at : get_or (map (λ v. v.items) old) p [] ≡ (get_or old p d).items =
-          get_or-map (λ v. v.items) old p d [] within in
-          let below = rw at at (fresh p [] (omega (arith, long_old))) in
-          absurd (not_EndsIn (get_or old p d).items item below (rw e at ends))
-    ]
+
+  pub Filling-skip : i < length places → All (λ row. All (λ a. a < item) row) (map f old) →
+      EndsIn (f (get_or rows (get_or places i 0) d)) item → IsFilling f g old rows places item (i + 1)
+  Filling-skip l fresh ends =
+      let p = get_or places i 0 in
+      elim (contains_cases (take i places) p) [
+        | inl w ↦ record {
+          appended = IsAppended-skip (map f old) (map f rows) places item i filling.appended l w;
+          same = filling.same;
+          kept = filling.kept;
+        }
+        | inr n ↦
+            let here : f (get_or rows p d) ≡ get_or (map f old) p [] =
+            sym row_at ∙ filling.appended.other p n in
+            let below = fresh p []
+            (omega (arith, length-map rows f, filling.appended.long, within)) in
+            absurd (not_EndsIn (get_or (map f old) p []) item below (rw here at ends))
+      ]

@@ -1,16 +1,39 @@
--- Rows of a table that grow at their ends.
-use Rattle.std.specs.Prelude.{◌≡◌, ℕ, ◌-◌, ◌<◌, List, [], ◌∷◌, ◌++◌, map, length, slice_index, slice_index_or}
-use Rattle.std.specs.Prelude.{Vec, vec_len, vec_capacity}
+-- The neighbours of each node, in two rows that grow at their ends.
+use Rattle.std.specs.Prelude.{◌≡◌, ℕ, ◌+◌, ◌-◌, ◌<◌, ◌≤◌, List, [], ◌∷◌, ◌++◌, map, length}
+use Rattle.std.specs.Prelude.{slice_index, slice_index_or}
 use Rattle.std.specs.List.{Contains}
-use Rattle.std.specs.declared.alloc.Global.{Global}
 
--- the rows as lists
-abbrev pub rows_of : List (Vec ℕ Global) → List (List ℕ)
-rows_of rows = map (λ v. v.items) rows
+-- the nodes that an edge leads from, those that one leads to, and how many there is room for in all
+pub record Neighbours : Type 0 where
+  pub incoming : List ℕ
+  pub outgoing : List ℕ
+  pub room : ℕ
 
--- the row at a place has room for one more
-abbrev pub HasRoom : List (Vec ℕ Global) → ℕ → Type 0
-HasRoom rows a = (d : Vec ℕ Global) → vec_len (slice_index_or rows a d) < vec_capacity (slice_index_or rows a d)
+-- by node those that its edges lead to
+abbrev pub outgoing_of : List Neighbours → List (List ℕ)
+outgoing_of nodes = map (λ n. n.outgoing) nodes
+
+-- by node those that its edges lead from
+abbrev pub incoming_of : List Neighbours → List (List ℕ)
+incoming_of nodes = map (λ n. n.incoming) nodes
+
+-- by node how many neighbours there is room for
+abbrev pub rooms_of : List Neighbours → List ℕ
+rooms_of nodes = map (λ n. n.room) nodes
+
+-- how many neighbours a node has
+abbrev pub degree : Neighbours → ℕ
+degree n = length n.incoming + length n.outgoing
+
+-- the node at a place has room for so many neighbours more
+abbrev pub HasRoom : List Neighbours → ℕ → ℕ → Type 0
+HasRoom nodes more a =
+    (length (slice_index_or (incoming_of nodes) a []) + length (slice_index_or (outgoing_of nodes) a [])) + more
+    ≤ slice_index (rooms_of nodes) a
+
+-- no node has less room than before
+abbrev pub KeepsRoom : List Neighbours → List Neighbours → Type 0
+KeepsRoom old new = (a : ℕ) → slice_index (rooms_of old) a ≤ slice_index (rooms_of new) a
 
 -- the last of a list
 abbrev pub EndsIn : List ℕ → ℕ → Type 0

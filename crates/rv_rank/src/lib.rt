@@ -12,6 +12,7 @@
 //! of a worklist it goes over the ranks in order, since the ranks respect the kept edges already.
 #![tactic(auto)]
 
+mod node;
 mod order;
 mod ranks;
 mod search;

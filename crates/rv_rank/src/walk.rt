@@ -3,22 +3,26 @@
 //! # Memory
 //!
 //! An order keeper takes at most 80 bytes a node and 16 an edge, both directions together and the allocator's
-//! own aside. A node has 64 bytes: a row of 24 in either table here, two places of 4 in the list of visits, and
-//! a place of 4 in either table of the order. A full table grows by a quarter and one, so it has room for at
-//! most five quarters of its items and one more, and the 64 bytes become 80. An edge has 4 bytes in a row of
-//! either table, and a full row becomes twice as long. Where one call names an edge twice, both mentions count.
+//! own aside. A node has 48 bytes: 32 for its list and the count of its predecessors here, two places of 4 in the
+//! list of visits, and a place of 4 in either table of the order. A full table grows by a quarter and one, so it
+//! has room for at most five quarters of its items and one more, and the 48 bytes become 60. An edge has 4 bytes
+//! in the list of either end. A list has room for at most twice its neighbours, which makes the 8 bytes 16, or for
+//! four, which are 16 bytes more a node: so it begins, and a full one becomes twice as long. The list of a
+//! successor becomes so where it has room for one alone, since a successor may be a predecessor too. Where one
+//! call names an edge twice, both mentions count.
 //!
 //! Beyond this are some 200 bytes for each keeper, room that a refused placement made in vain, and, until a
 //! call returns, the marks of a placement with successors, 8 bytes for each rank from the least of theirs on,
-//! the path that `Circle` gives, and the old block of a table that grows.
+//! the path that `Circle` gives, and the old block of a table or a list that grows.
 ghost use Rattle.std.specs.Prelude.{◌≡◌, ◌<◌, ◌≤◌, ◌+◌, ◌*◌, ◌%◌, ◌-◌, ◌^◌, ◌↔◌, ◌++◌, ℕ, [], ◌∷◌, length};
 ghost use Rattle.std.specs.Prelude.{slice_index_or, max, ◌/◌, vec_len, vec_capacity, IsTrue, OnOk, OnErr};
 ghost use Rattle.std.specs.List.{All, Contains};
 ghost use Rattle.std.specs.Borrow.{sem};
 ghost use Rattle.rv_rank.specs.Graph.{Edge, IsGrown};
-ghost use Rattle.rv_rank.specs.Rows.{rows_of, HasRoom, IsAppended, EndsIn};
+ghost use Rattle.rv_rank.specs.Rows.{outgoing_of, incoming_of, HasRoom, KeepsRoom, IsAppended, EndsIn};
 ghost use Rattle.rv_rank.specs.Walking.{IsMirror};
 
+use crate::node::Node;
 use std::alloc::{AllocError, Global};
 use std::marker::Model;
 
@@ -29,27 +33,26 @@ use std::marker::Model;
 #[derive(Drop)]
 pub struct Walk {
     alloc: Global,
-    outgoing: Vec<Vec<u32>>,
-    incoming: Vec<Vec<u32>>,
+    nodes: Vec<Node>,
     visits: Vec<u32>,
     rounds: u64,
 }
 
 impl Model for Walk {
     ghost use Rattle.std.specs.Prelude.{ℕ, vec_capacity};
-    ghost use Rattle.rv_rank.specs.Rows.{rows_of};
+    ghost use Rattle.rv_rank.specs.Rows.{outgoing_of, incoming_of};
     ghost use Rattle.rv_rank.specs.Walking.{Walking, IsMirror};
 
     ghost Value = { Walking };
 
     ghost view = { λ w. record {
-      edges = rows_of w.outgoing.items;
+      edges = outgoing_of w.nodes.items;
       visits = w.visits.items;
       rounds = w.rounds;
       room = vec_capacity w.visits;
     } };
 
-    ghost invariant = { λ w. IsMirror (rows_of w.outgoing.items) (rows_of w.incoming.items) };
+    ghost invariant = { λ w. IsMirror (outgoing_of w.nodes.items) (incoming_of w.nodes.items) };
 }
 
 impl Walk {
@@ -63,8 +66,7 @@ impl Walk {
     {
         Walk {
             alloc,
-            outgoing: Vec::new(alloc),
-            incoming: Vec::new(alloc),
+            nodes: Vec::new(alloc),
             visits: Vec::new(alloc),
             rounds: 0,
         }
@@ -80,7 +82,7 @@ impl Walk {
         ensures rounds { OnOk result (self.new.rounds ≡ (self.old.rounds + 1) % 2 ^ 64) }
         ensures err { OnErr result (self.new ≡ self.old) }
     {
-        let wanted = 2 * self.outgoing.len();
+        let wanted = 2 * self.nodes.len();
         if wanted > self.visits.capacity() {
             let more = wanted + wanted / 4 - self.visits.len();
             self.visits.try_reserve_exact(more)?;
@@ -108,14 +110,14 @@ impl Walk {
     pub fn len(&self) -> usize
         ensures { result ≡ length self.now.edges }
     {
-        self.outgoing.len()
+        self.nodes.len()
     }
 
     /// Whether there is no node.
     pub fn is_empty(&self) -> bool
         ensures { IsTrue result ↔ (self.now.edges ≡ []) }
     {
-        self.outgoing.is_empty()
+        self.nodes.is_empty()
     }
 
     /// Adds the next node, with an edge from each of `preds` and one to each of `succs`. The visits stay. After
@@ -130,13 +132,7 @@ impl Walk {
         ensures room { self.new.room ≡ self.old.room }
         ensures err { OnErr result (self.new ≡ self.old) }
     {
-        grow(
-            self.alloc,
-            &mut self.outgoing,
-            &mut self.incoming,
-            preds,
-            succs,
-        )
+        grow(self.alloc, &mut self.nodes, preds, succs)
     }
 
     /// The nodes that an edge leads to from `node`, which is put at the end of the list of visits. The list is
@@ -148,7 +144,7 @@ impl Walk {
         ensures value { result.now ≡ slice_index_or self.old.edges node [] }
     {
         self.visits.push(node).unwrap();
-        self.outgoing[node as usize].as_slice()
+        self.nodes[node as usize].outgoing()
     }
 
     /// The nodes that an edge leads from to `node`, which is put at the end of the list of visits. The list is
@@ -160,62 +156,65 @@ impl Walk {
         ensures value { (a : ℕ) → Contains result.now a ↔ Edge self.old.edges a node }
     {
         self.visits.push(node).unwrap();
-        self.incoming[node as usize].as_slice()
+        self.nodes[node as usize].incoming()
     }
 }
 
-/// Adds a node to both tables. All room is made before anything is written.
+/// Adds a node. All room is made before anything is written.
 fn grow(
     alloc: Global,
-    outgoing: &mut Vec<Vec<u32>>,
-    incoming: &mut Vec<Vec<u32>>,
+    nodes: &mut Vec<Node>,
     preds: &[u32],
     succs: &[u32],
 ) -> Result<(), AllocError>
-    requires mirror { IsMirror (rows_of outgoing.old.items) (rows_of incoming.old.items) }
-    requires preds { All (λ p. p < length outgoing.old.items) preds.now }
-    requires succs { All (λ s. s < length outgoing.old.items) succs.now }
-    requires small { length outgoing.old.items < 65536 }
+    requires mirror { IsMirror (outgoing_of nodes.old.items) (incoming_of nodes.old.items) }
+    requires preds { All (λ p. p < length nodes.old.items) preds.now }
+    requires succs { All (λ s. s < length nodes.old.items) succs.now }
+    requires small { length nodes.old.items < 65536 }
     ensures grown { OnOk result
-        (IsGrown (rows_of outgoing.old.items) (rows_of outgoing.new.items)
-        preds.now succs.now) }
-    ensures mirror { IsMirror (rows_of outgoing.new.items) (rows_of incoming.new.items) }
-    ensures err { OnErr result (rows_of outgoing.new.items ≡ rows_of outgoing.old.items) }
+        (IsGrown (outgoing_of nodes.old.items) (outgoing_of nodes.new.items) preds.now succs.now) }
+    ensures mirror { IsMirror (outgoing_of nodes.new.items) (incoming_of nodes.new.items) }
+    ensures err { OnErr result (outgoing_of nodes.new.items ≡ outgoing_of nodes.old.items) }
 {
-    let after = Vec::from_slice(alloc, succs)?;
-    let before = Vec::from_slice(alloc, preds)?;
-    prepare(outgoing, preds)?;
-    prepare(incoming, succs)?;
-    add_row(outgoing, preds, after);
-    add_row(incoming, succs, before);
+    let own = Node::new(alloc, preds, succs)?;
+    prepare(nodes, preds, succs)?;
+    add_node(nodes, preds, succs, own);
     Ok(())
 }
 
-/// Makes room for one row more, and for one more in each of the rows.
-fn prepare(rows: &mut Vec<Vec<u32>>, places: &[u32]) -> Result<(), AllocError>
-    requires { All (λ p. p < length rows.old.items) places.now }
-    ensures same { rows_of rows.new.items ≡ rows_of rows.old.items }
-    ensures long { length rows.new.items ≡ length rows.old.items }
-    ensures room { OnOk result (All (HasRoom rows.new.items) places.now) }
-    ensures more { OnOk result (vec_len rows.new < vec_capacity rows.new) }
+/// Makes room for one node more, for one neighbour more of each predecessor, and for two of each successor,
+/// which may be a predecessor too.
+fn prepare(nodes: &mut Vec<Node>, preds: &[u32], succs: &[u32]) -> Result<(), AllocError>
+    requires preds { All (λ p. p < length nodes.old.items) preds.now }
+    requires succs { All (λ s. s < length nodes.old.items) succs.now }
+    ensures outgoing { outgoing_of nodes.new.items ≡ outgoing_of nodes.old.items }
+    ensures incoming { incoming_of nodes.new.items ≡ incoming_of nodes.old.items }
+    ensures preds { OnOk result (All (HasRoom nodes.new.items 1) preds.now) }
+    ensures succs { OnOk result (All (HasRoom nodes.new.items 2) succs.now) }
+    ensures more { OnOk result (vec_len nodes.new < vec_capacity nodes.new) }
 {
-    reserve_one(rows)?;
-    make_room(rows, places)?;
+    reserve_one(nodes)?;
+    make_room(nodes, preds, 1)?;
+    make_room(nodes, succs, 2)?;
     Ok(())
 }
 
-/// Puts a new node at the end of the rows of `from`, and adds its own row. There is room.
-fn add_row(rows: &mut Vec<Vec<u32>>, from: &[u32], own: Vec<u32>)
-    requires placed { All (λ p. p < length rows.old.items) from.now }
-    requires within { All (λ row. All (λ a. a < length rows.old.items) row) (rows_of rows.old.items) }
-    requires small { length rows.old.items < 65536 }
-    requires room { All (HasRoom rows.old.items) from.now }
-    requires more { vec_len rows.old < vec_capacity rows.old }
-    ensures { IsGrown (rows_of rows.old.items) (rows_of rows.new.items) from.now own.items }
+/// Adds a node after its predecessors and before its successors. There is room.
+fn add_node(nodes: &mut Vec<Node>, preds: &[u32], succs: &[u32], own: Node)
+    requires mirror { IsMirror (outgoing_of nodes.old.items) (incoming_of nodes.old.items) }
+    requires placed { All (λ p. p < length nodes.old.items) preds.now }
+    requires ahead { All (λ s. s < length nodes.old.items) succs.now }
+    requires small { length nodes.old.items < 65536 }
+    requires preds { All (HasRoom nodes.old.items 1) preds.now }
+    requires succs { All (HasRoom nodes.old.items 2) succs.now }
+    requires more { vec_len nodes.old < vec_capacity nodes.old }
+    ensures outgoing { IsGrown (outgoing_of nodes.old.items) (outgoing_of nodes.new.items) preds.now own.outgoing }
+    ensures incoming { IsGrown (incoming_of nodes.old.items) (incoming_of nodes.new.items) succs.now own.incoming }
 {
-    let node = rows.len() as u32;
-    append_to_each(rows, from, node);
-    append(rows, own);
+    let node = nodes.len() as u32;
+    add_to_predecessors(nodes, preds, node);
+    add_to_successors(nodes, succs, node);
+    append(nodes, own);
 }
 
 /// Puts an item at the end, where there is room for it.
@@ -238,30 +237,49 @@ fn ends_in(row: &[u32], node: u32) -> bool
     }
 }
 
-/// Makes room for one more in each of the rows.
-fn make_room(rows: &mut [Vec<u32>], places: &[u32]) -> Result<(), AllocError>
-    requires { All (λ p. p < length rows.old) places.now }
-    ensures same { rows_of rows.new ≡ rows_of rows.old }
-    ensures room { OnOk result (All (HasRoom rows.new) places.now) }
+/// Makes room for so many neighbours more of each of the nodes.
+fn make_room(nodes: &mut [Node], places: &[u32], more: usize) -> Result<(), AllocError>
+    requires { All (λ p. p < length nodes.old) places.now }
+    ensures outgoing { outgoing_of nodes.new ≡ outgoing_of nodes.old }
+    ensures incoming { incoming_of nodes.new ≡ incoming_of nodes.old }
+    ensures kept { KeepsRoom nodes.old nodes.new }
+    ensures room { OnOk result (All (HasRoom nodes.new more) places.now) }
 {
     for place in places {
-        let row = &mut rows[*place as usize];
-        reserve_twice(row)?;
+        nodes[*place as usize].reserve(more)?;
     }
     Ok(())
 }
 
-/// Puts `node` at the end of each of the rows, once.
-fn append_to_each(rows: &mut [Vec<u32>], places: &[u32], node: u32)
-    requires placed { All (λ p. p < length rows.old) places.now }
-    requires room { All (HasRoom rows.old) places.now }
-    requires fresh { All (λ row. All (λ a. a < node) row) (rows_of rows.old) }
-    ensures { IsAppended (rows_of rows.old) (rows_of rows.new) places.now node }
+/// Puts `node` at the end of the successors of each of its predecessors, once.
+fn add_to_predecessors(nodes: &mut [Node], preds: &[u32], node: u32)
+    requires placed { All (λ p. p < length nodes.old) preds.now }
+    requires room { All (HasRoom nodes.old 1) preds.now }
+    requires fresh { All (λ row. All (λ a. a < node) row) (outgoing_of nodes.old) }
+    ensures outgoing { IsAppended (outgoing_of nodes.old) (outgoing_of nodes.new) preds.now node }
+    ensures incoming { incoming_of nodes.new ≡ incoming_of nodes.old }
+    ensures kept { KeepsRoom nodes.old nodes.new }
 {
-    for place in places {
-        let row = &mut rows[*place as usize];
-        if !ends_in(row, node) {
-            append(row, node);
+    for place in preds {
+        let pred = &mut nodes[*place as usize];
+        if !ends_in(pred.outgoing(), node) {
+            pred.append_outgoing(node);
+        }
+    }
+}
+
+/// Puts `node` at the end of the predecessors of each of its successors, once.
+fn add_to_successors(nodes: &mut [Node], succs: &[u32], node: u32)
+    requires placed { All (λ s. s < length nodes.old) succs.now }
+    requires room { All (HasRoom nodes.old 1) succs.now }
+    requires fresh { All (λ row. All (λ a. a < node) row) (incoming_of nodes.old) }
+    ensures incoming { IsAppended (incoming_of nodes.old) (incoming_of nodes.new) succs.now node }
+    ensures outgoing { outgoing_of nodes.new ≡ outgoing_of nodes.old }
+{
+    for place in succs {
+        let succ = &mut nodes[*place as usize];
+        if !ends_in(succ.incoming(), node) {
+            succ.append_incoming(node);
         }
     }
 }
@@ -276,18 +294,6 @@ pub fn reserve_one<T>(list: &mut Vec<T>) -> Result<(), AllocError>
 {
     if list.len() == list.capacity() {
         list.reserve_exact(list.len() / 4 + 1)?;
-    }
-    Ok(())
-}
-
-/// Makes room for one item more. A full row becomes twice as long, and an empty one has room for one.
-fn reserve_twice(row: &mut Vec<u32>) -> Result<(), AllocError>
-    ensures items { row.new.items ≡ row.old.items }
-    ensures room { OnOk result (vec_len row.new < vec_capacity row.new) }
-    ensures few { vec_capacity row.new ≤ max (vec_capacity row.old) (max 1 (2 * vec_len row.old)) }
-{
-    if row.len() == row.capacity() {
-        row.reserve_exact(row.len().max(1))?;
     }
     Ok(())
 }

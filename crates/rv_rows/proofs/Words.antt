@@ -1,13 +1,14 @@
 -- Numbers as bits of words.
-use Rattle.std.proofs.Common.{◌≡◌, ◌≢◌, ℕ, zero, suc, ◌+◌, ◌-◌, ◌*◌, ◌/◌, ◌%◌, ◌^◌, ◌<◌, ◌≤◌, min, max, Bool, true, false, not, ◌&&◌, ◌||◌, ◌==◌, List, length, get_or, set, replicate, ◌∙◌, ap, sym, refl, inl, inr, arith, ◌⊎◌, w64, eq-eqb}
+use Rattle.std.proofs.Common.{◌≡◌, ◌≢◌, ℕ, zero, suc, ◌+◌, ◌-◌, ◌*◌, ◌/◌, ◌%◌, ◌^◌, ◌<◌, ◌≤◌, min, max, Bool, true, false, not, ◌&&◌, ◌||◌, ◌==◌, List, length, get_or, set, take, drop, replicate, ◌∙◌, ap, sym, refl, inl, inr, arith, ◌⊎◌, w64, eq-eqb, length-take}
 use Rattle.std.proofs.lemmas.Bool.{cases_eq, cases_lt, ne_eqb}
-use Rattle.std.proofs.lemmas.List.{get_or-set_same, get_or-set_other, get_or-replicate, length-replicate, get_or_past}
+use Rattle.std.proofs.lemmas.List.{get_or-set_same, get_or-set_other, get_or-replicate, length-replicate, get_or_past, get_or_append_left, get_or-append_right, get_or-take, get_or-drop}
 use Rattle.std.proofs.lemmas.Nat.{leading_top, div-add-mod'}
 use Rattle.std.proofs.Math.Nat.{two-pow-succ, mod-lt, suc-mul}
 use Rattle.std.proofs.lemmas.Nat.Bits.{bit_at-lt, bit_at_or, bit_at_and, bit_at_not, bit_at-zero, bit_at_set_same, bit_at_set_other, bit_at_above}
 use Rattle.std.specs.Prelude.{bit_and, bit_or}
 use Rattle.std.specs.Int.{bit_at, bit_not, leading_zeros}
-use Rattle.rv_rows.specs.Bits.{has_bit, Has}
+use Rattle.rv_rows.specs.Bits.{has_bit, Has, IsBetween}
+use Rattle.rv_rows.specs.Flat.{shifted}
 
 or_is : (x y : ℕ) → x < 2 → y < 2 → (max x y == 1) ≡ ((x == 1) || (y == 1))
 or_is zero zero p q = refl
@@ -120,30 +121,110 @@ zero_words k = go (cases_lt k 64)
 pub past_bit : (words : List ℕ) (i : ℕ) → length words ≤ i / 64 → has_bit words i ≡ false
 past_bit words i high = ap (λ x. bit_at x (i % 64) == 1) (get_or_past words (i / 64) 0 high) ∙ ap (λ x. x == 1) (bit_at-zero (i % 64))
 
--- words that are joined one by one as far as they go
-pub joined : (n : ℕ) (new a b : List ℕ) → length new ≡ n → length a ≡ n → length b ≡ n → ((j : ℕ) → j < n → get_or new j 0 ≡ bit_or (get_or a j 0) (get_or b j 0)) → (i : ℕ) → has_bit new i ≡ (has_bit a i || has_bit b i)
-joined n new a b ln la lb each i = has-or new a b i (go (cases_lt (i / 64) n))
-  where
-    go : (i / 64 < n) ⊎ (n ≤ i / 64) → word new i ≡ bit_or (word a i) (word b i)
-    go (inl low) = each (i / 64) low
-    go (inr high) = rw (get_or_past new (i / 64) 0 (omega arith), get_or_past a (i / 64) 0 (omega arith), get_or_past b (i / 64) 0 (omega arith))
+-- an empty word has no number
+pub zero_bit : (words : List ℕ) (i : ℕ) → word words i ≡ 0 → has_bit words i ≡ false
+zero_bit words i none = ap (λ x. bit_at x (i % 64) == 1) none ∙ ap (λ x. x == 1) (bit_at-zero (i % 64))
 
--- words of which the first ones are joined with others
-pub joined_part : (new a part : List ℕ) → ((j : ℕ) → j < length part → get_or new j 0 ≡ bit_or (get_or a j 0) (get_or part j 0)) → ((j : ℕ) → length part ≤ j → get_or new j 0 ≡ get_or a j 0) → (i : ℕ) → has_bit new i ≡ (has_bit a i || has_bit part i)
-joined_part new a part each rest i = go (cases_lt (i / 64) (length part))
+-- the words before the place are empty
+pub shifted_before : (n : ℕ) (part : List ℕ) (k : ℕ) → k < n → get_or (shifted n part) k 0 ≡ 0
+shifted_before n part k low =
+    get_or_append_left (replicate n 0) part 0 k (omega (arith, length-replicate {A = ℕ} n 0)) ∙ get_or-replicate n k 0 0 low
+
+-- from the place on they are the part's
+pub shifted_from : (n : ℕ) (part : List ℕ) (k : ℕ) → n ≤ k → get_or (shifted n part) k 0 ≡ get_or part (k - n) 0
+shifted_from n part k high = get_or-append_right (replicate n 0) part n k 0 (length-replicate n 0) high
+
+-- behind the part they are empty
+pub shifted_after : (n : ℕ) (part : List ℕ) (k : ℕ) → n + length part ≤ k → get_or (shifted n part) k 0 ≡ 0
+shifted_after n part k high = shifted_from n part k (omega arith) ∙ get_or_past part (k - n) 0 (omega arith)
+
+-- words of which those from a place on are joined with others
+pub joined_part : (new a part : List ℕ) (n : ℕ)
+    → ((j : ℕ) → j < length part → get_or new (n + j) 0 ≡ bit_or (get_or a (n + j) 0) (get_or part j 0))
+    → ((k : ℕ) → k < n → get_or new k 0 ≡ get_or a k 0)
+    → ((k : ℕ) → n + length part ≤ k → get_or new k 0 ≡ get_or a k 0)
+    → (i : ℕ) → has_bit new i ≡ (has_bit a i || has_bit (shifted n part) i)
+joined_part new a part n each before after i = go (cases_lt (i / 64) n) (cases_lt (i / 64) (n + length part))
   where
-    go : (i / 64 < length part) ⊎ (length part ≤ i / 64) → has_bit new i ≡ (has_bit a i || has_bit part i)
-    go (inl low) = has-or new a part i (each (i / 64) low)
-    go (inr high) = ap (λ x. bit_at x (i % 64) == 1) (rest (i / 64) high) ∙ or_false (has_bit a i) ∙ ap (λ b. has_bit a i || b) (sym (past_bit part i high))
+    same : word new i ≡ word a i → word (shifted n part) i ≡ 0 → has_bit new i ≡ (has_bit a i || has_bit (shifted n part) i)
+    same e none =
+        ap (λ x. bit_at x (i % 64) == 1) e ∙ or_false (has_bit a i)
+        ∙ ap (λ b. has_bit a i || b) (sym (zero_bit (shifted n part) i none))
+
+    go : (i / 64 < n) ⊎ (n ≤ i / 64) → (i / 64 < n + length part) ⊎ (n + length part ≤ i / 64)
+        → has_bit new i ≡ (has_bit a i || has_bit (shifted n part) i)
+    go (inl low) _ = same (before (i / 64) low) (shifted_before n part (i / 64) low)
+    go (inr from) (inr high) = same (after (i / 64) high) (shifted_after n part (i / 64) high)
+    go (inr from) (inl below) =
+        let at : n + (i / 64 - n) ≡ i / 64 = omega arith in
+        has-or new a (shifted n part) i (ap (λ k. get_or new k 0) (sym at) ∙ each (i / 64 - n) (omega arith)
+        ∙ ap (λ k. bit_or (get_or a k 0) (get_or part (i / 64 - n) 0)) at
+        ∙ ap (λ x. bit_or (word a i) x) (sym (shifted_from n part (i / 64) from)))
 
 and_true : (b : Bool) → b ≡ (b && not false)
 and_true true = refl
 and_true false = refl
 
--- words from the first of which others are taken out
-pub cut_part : (new a part : List ℕ) → ((j : ℕ) → j < length part → (get_or new j 0 ≡ bit_and (get_or a j 0) (bit_not w64 (get_or part j 0))) × (get_or part j 0 < 2 ^ 64)) → ((j : ℕ) → length part ≤ j → get_or new j 0 ≡ get_or a j 0) → (i : ℕ) → has_bit new i ≡ (has_bit a i && not (has_bit part i))
-cut_part new a part each rest i = go (cases_lt (i / 64) (length part))
+-- words out of which others are taken, from one word to another; beyond these one side is empty
+pub cut_part : (new a part : List ℕ) (n from to : ℕ) → n ≤ from
+    → ((k : ℕ) → from ≤ k → k < to → (get_or new k 0 ≡ bit_and (get_or a k 0) (bit_not w64 (get_or part (k - n) 0))) × (get_or part (k - n) 0 < 2 ^ 64))
+    → ((k : ℕ) → (k < from) ⊎ (to ≤ k) → get_or new k 0 ≡ get_or a k 0)
+    → ((k : ℕ) → (k < from) ⊎ (to ≤ k) → (get_or a k 0 ≡ 0) ⊎ (get_or (shifted n part) k 0 ≡ 0))
+    → (i : ℕ) → has_bit new i ≡ (has_bit a i && not (has_bit (shifted n part) i))
+cut_part new a part n from to low each rest empty i = go (cases_lt (i / 64) from) (cases_lt (i / 64) to)
   where
-    go : (i / 64 < length part) ⊎ (length part ≤ i / 64) → has_bit new i ≡ (has_bit a i && not (has_bit part i))
-    go (inl low) = has-less new a part i (each (i / 64) low).1 (each (i / 64) low).0
-    go (inr high) = ap (λ x. bit_at x (i % 64) == 1) (rest (i / 64) high) ∙ and_true (has_bit a i) ∙ ap (λ b. has_bit a i && not b) (sym (past_bit part i high))
+    kept : (i / 64 < from) ⊎ (to ≤ i / 64) → has_bit new i ≡ has_bit a i
+    kept far = ap (λ x. bit_at x (i % 64) == 1) (rest (i / 64) far)
+
+    apart : has_bit new i ≡ has_bit a i → (word a i ≡ 0) ⊎ (word (shifted n part) i ≡ 0) → has_bit new i ≡ (has_bit a i && not (has_bit (shifted n part) i))
+    apart same (inl none) =
+        let bit = zero_bit a i none in
+        same ∙ bit ∙ ap (λ b. b && not (has_bit (shifted n part) i)) (sym bit)
+    apart same (inr none) =
+        same ∙ and_true (has_bit a i) ∙ ap (λ b. has_bit a i && not b) (sym (zero_bit (shifted n part) i none))
+
+    go : (i / 64 < from) ⊎ (from ≤ i / 64) → (i / 64 < to) ⊎ (to ≤ i / 64) → has_bit new i ≡ (has_bit a i && not (has_bit (shifted n part) i))
+    go (inl before) _ = apart (kept (inl before)) (empty (i / 64) (inl before))
+    go (inr here) (inr after) = apart (kept (inr after)) (empty (i / 64) (inr after))
+    go (inr here) (inl below) =
+        let at = shifted_from n part (i / 64) (omega arith) in
+        let one = each (i / 64) here below in
+        has-less new a (shifted n part) i (omega (arith, at, one.1)) (one.0 ∙ ap (λ x. bit_and (word a i) (bit_not w64 x)) (sym at))
+
+-- the words between the empty ones have the set's numbers
+pub used_bits : (words part : List ℕ) (low high first : ℕ) → IsBetween words low high → first ≡ min low high → part ≡ take (high - first) (drop first words)
+    → (i : ℕ) → has_bit (shifted first part) i ≡ has_bit words i
+used_bits words part low high first between least is i = ap (λ x. bit_at x (i % 64) == 1) (go (cases_lt (i / 64) first) (cases_lt (i / 64) high))
+  where
+    short : length part ≤ high - first
+    short = omega (arith, ap (λ (xs : List ℕ). length xs) is, length-take (high - first) (drop first words))
+
+    go : (i / 64 < first) ⊎ (first ≤ i / 64) → (i / 64 < high) ⊎ (high ≤ i / 64) → word (shifted first part) i ≡ word words i
+    go (inl below) _ = shifted_before first part (i / 64) below ∙ sym (between.before (i / 64) (omega arith))
+    go (inr from) (inr above) = shifted_after first part (i / 64) (omega (arith, short)) ∙ sym (between.after (i / 64) above)
+    go (inr from) (inl inside) =
+        let at : first + (i / 64 - first) ≡ i / 64 = omega arith in
+        shifted_from first part (i / 64) from
+        ∙ ap (λ (xs : List ℕ). get_or xs (i / 64 - first) 0) is
+        ∙ get_or-take (high - first) (drop first words) (i / 64 - first) 0 (omega arith)
+        ∙ get_or-drop first words (i / 64 - first) 0
+        ∙ ap (λ k. get_or words k 0) at
+
+-- where all numbers are below the limit, and the words from k up to the limit or the end are empty, none is in word k or later
+pub none_from : (words : List ℕ) (low high limit top start k : ℕ) → IsBetween words low high → limit ≤ top * 64 → start ≡ min top high → ((j : ℕ) → Has words j → j < limit)
+    → ((j : ℕ) → k ≤ j → j < start → get_or words j 0 ≡ 0) → (j : ℕ) → k ≤ j / 64 → has_bit words j ≡ false
+none_from words low high limit top start k between enough least below empty j from =
+    none_above words limit top k enough below (λ i here near. go i here (cases_lt i start) near) j from
+  where
+    go : (i : ℕ) → k ≤ i → (i < start) ⊎ (start ≤ i) → i < top → get_or words i 0 ≡ 0
+    go i here (inl inside) near = empty i here inside
+    go i here (inr past) near = between.after i (omega arith)
+
+-- where also those before word k are empty, there is none
+pub none_at_all : (words : List ℕ) (low high limit top start k : ℕ) → IsBetween words low high → limit ≤ top * 64 → start ≡ min top high → k ≤ low → ((j : ℕ) → Has words j → j < limit)
+    → ((j : ℕ) → k ≤ j → j < start → get_or words j 0 ≡ 0) → (j : ℕ) → has_bit words j ≡ false
+none_at_all words low high limit top start k between enough least first below empty j = go (cases_lt (j / 64) k)
+  where
+    go : (j / 64 < k) ⊎ (k ≤ j / 64) → has_bit words j ≡ false
+    go (inl before) = zero_bit words j (between.before (j / 64) (omega arith))
+    go (inr from) = none_from words low high limit top start k between enough least below empty j from

@@ -1,5 +1,5 @@
 -- Sets of numbers as bits of words.
-use Rattle.std.specs.Prelude.{ℕ, Bool, true, false, ◌≡◌, ◌<◌, ◌==◌, ◌/◌, ◌%◌, List, Option, Some, None, slice_index_or}
+use Rattle.std.specs.Prelude.{ℕ, Bool, true, false, ◌≡◌, ◌<◌, ◌≤◌, ◌==◌, ◌/◌, ◌%◌, List, Option, Some, None, slice_index_or}
 use Rattle.std.specs.Int.{bit_at}
 
 -- whether the words have the number
@@ -14,3 +14,9 @@ Has words j = has_bit words j ≡ true
 abbrev pub IsHighest : List ℕ → Option ℕ → Type 0
 IsHighest words (Some n) = (n < 4096) × (has_bit words n ≡ true) × ((j : ℕ) → n < j → has_bit words j ≡ false)
 IsHighest words None = (j : ℕ) → has_bit words j ≡ false
+
+-- there are at most 64 words, and those before the first and from the end on are empty
+pub record IsBetween (words : List ℕ) (first end : ℕ) : Type 0 where
+  pub few : end ≤ 64
+  pub before : (k : ℕ) → k < first → slice_index_or words k 0 ≡ 0
+  pub after : (k : ℕ) → end ≤ k → slice_index_or words k 0 ≡ 0

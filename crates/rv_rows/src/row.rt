@@ -1,23 +1,30 @@
 //! A set of numbers below 4,096.
-ghost use Rattle.std.specs.Prelude.{ℕ, not, ◌≡◌, ◌<◌, ◌≤◌, ◌==◌, ◌&&◌, ◌||◌, false, length, take};
+ghost use Rattle.std.specs.Prelude.{ℕ, not, ◌≡◌, ◌+◌, ◌<◌, ◌≤◌, ◌==◌, ◌&&◌, ◌||◌, false, length};
 ghost use Rattle.rv_rows.specs.Bits.{Has, has_bit, IsHighest};
+ghost use Rattle.rv_rows.specs.Flat.{shifted};
 
 use std::marker::Model;
 
-/// A set of numbers below 4,096. It takes 512 bytes and no memory of the allocator.
+/// A set of numbers below 4,096. It takes 528 bytes and no memory of the allocator.
 ///
-/// Contracts see it as its words, and read it with `has_bit`.
+/// Contracts see it as its words, and read it with `has_bit`. Its type keeps that the words before `low` and those from
+/// `high` on are 0, so that a small set costs few steps.
 #[derive(Drop)]
 pub struct Row {
     words: [u64; 64],
+    low: usize,
+    high: usize,
 }
 
 impl Model for Row {
     ghost use Rattle.std.specs.Prelude.{List, ℕ};
+    ghost use Rattle.rv_rows.specs.Bits.{IsBetween};
 
     ghost Value = { List ℕ };
 
     ghost view = { λ r. r.words };
+
+    ghost invariant = { λ r. IsBetween r.words r.low r.high };
 }
 
 impl Row {
@@ -25,7 +32,11 @@ impl Row {
     pub fn new() -> Row
         ensures { (i : ℕ) → has_bit result i ≡ false }
     {
-        Row { words: [0; 64] }
+        Row {
+            words: [0; 64],
+            low: 64,
+            high: 0,
+        }
     }
 
     /// Whether the set has the number.
@@ -42,45 +53,54 @@ impl Row {
         ensures { (j : ℕ) → has_bit self.new j ≡ (has_bit self.old j || (i == j)) }
     {
         self.words[i / 64] |= 1u64 << (i % 64);
+        self.low = self.low.min(i / 64);
+        self.high = self.high.max(i / 64 + 1);
     }
 
-    /// Puts in all that the other set has.
+    /// Puts in all that the other set has. It costs a step for each word of the other set from its first number to its
+    /// last.
     pub fn join(&mut self, other: &Row)
         ensures { (j : ℕ) → has_bit self.new j ≡ (has_bit self.old j || has_bit other.now j) }
     {
-        'words: for k in 0..64 {
-            self.words[k] |= other.words[k];
-        }
+        let (first, words) = other.used();
+        self.join_words(first, words);
     }
 
-    /// Puts in the numbers that the words have.
-    pub(crate) fn join_words(&mut self, words: &[u64])
-        requires { length words.now ≤ 64 }
-        ensures { (j : ℕ) → has_bit self.new j ≡ (has_bit self.old j || has_bit words.now j) }
+    /// Puts in the numbers that the words have, the first of which stands at the given place.
+    pub(crate) fn join_words(&mut self, first: usize, words: &[u64])
+        requires { first + length words.now ≤ 64 }
+        ensures { (j : ℕ) → has_bit self.new j ≡ (has_bit self.old j || has_bit (shifted first words.now) j) }
     {
-        'words: for k in 0..words.len() {
-            self.words[k] |= words[k];
+        if words.is_empty() {
+            return;
         }
+        'words: for k in 0..words.len() {
+            self.words[first + k] |= words[k];
+        }
+        self.low = self.low.min(first);
+        self.high = self.high.max(first + words.len());
     }
 
-    /// Takes out the numbers that the words have.
-    pub(crate) fn subtract_words(&mut self, words: &[u64])
-        requires { length words.now ≤ 64 }
-        ensures { (j : ℕ) → has_bit self.new j ≡ (has_bit self.old j && not (has_bit words.now j)) }
+    /// Takes out the numbers that the words have, the first of which stands at the given place.
+    pub(crate) fn subtract_words(&mut self, first: usize, words: &[u64])
+        requires { first + length words.now ≤ 64 }
+        ensures { (j : ℕ) → has_bit self.new j ≡ (has_bit self.old j && not (has_bit (shifted first words.now) j)) }
     {
-        'words: for k in 0..words.len() {
-            let theirs = words[k];
+        let from = first.max(self.low);
+        let to = (first + words.len()).min(self.high);
+        'words: for k in from..to {
+            let theirs = words[k - first];
             self.words[k] &= !theirs;
         }
     }
 
-    /// The first words: they have the numbers below 64 times their count.
-    pub(crate) fn lowest_words(&self, count: usize) -> &[u64]
-        requires { count ≤ 64 }
-        ensures words { result.now ≡ take count self.now }
-        ensures all { length self.now ≡ 64 }
+    /// The words that have the set's numbers, and the place of the first of them; none of an empty set.
+    pub(crate) fn used(&self) -> (usize, &[u64])
+        ensures within { result.0 + length result.1.now ≤ 64 }
+        ensures same { (j : ℕ) → has_bit (shifted result.0 result.1.now) j ≡ has_bit self.now j }
     {
-        &self.words[..count]
+        let first = self.low.min(self.high);
+        (first, &self.words[first..self.high])
     }
 
     /// The highest number of a set whose numbers are all below `limit`, and `None` where it is empty. The search begins
@@ -90,8 +110,8 @@ impl Row {
         requires below { (j : ℕ) → Has self.now j → j < limit }
         ensures { IsHighest self.now result }
     {
-        let mut k = limit.div_ceil(64);
-        'words: while k > 0 {
+        let mut k = limit.div_ceil(64).min(self.high);
+        'words: while k > self.low {
             k -= 1;
             let word = self.words[k];
             if word != 0 {

@@ -1,30 +1,42 @@
-//! Rows, each only as long as its number asks for.
+//! Rows, each only as long as what it has asks for.
 ghost use Rattle.std.specs.Prelude.{ℕ, ◌≡◌, ◌<◌, ◌≤◌, ◌++◌, ◌∷◌, ◌&&◌, ◌||◌, not, [], List, length, slice_index_or, OnOk, OnErr};
 ghost use Rattle.rv_rows.specs.Bits.{Has, has_bit};
-ghost use Rattle.rv_rows.specs.Flat.{start, IsPushed};
+ghost use Rattle.rv_rows.specs.Flat.{IsWithin, part_at, IsPushed};
 
 use crate::row::Row;
 use std::alloc::{AllocError, Global};
 use std::marker::Model;
 
-/// Rows that grow at their end. Row n has numbers up to n alone, and takes n / 64 + 1 words of 8 bytes.
+/// Where a row lies.
+#[derive(Clone, Copy)]
+pub struct Place {
+    /// Where its first word stands among the words of all rows.
+    pub start: usize,
+    /// How many words of the row are before its first one: they are 0, and are not kept.
+    pub first: u8,
+    /// How many words it has.
+    pub count: u8,
+}
+
+/// Rows that grow at their end. Row n has numbers up to n alone, and takes 16 bytes, and 8 for each word from the first
+/// to the last of those that are not 0.
 ///
 /// Contracts see the list of the rows, each as its words, and read it with `RowHas`.
 #[derive(Drop)]
 pub struct Rows {
     words: Vec<u64>,
-    count: usize,
+    places: Vec<Place>,
 }
 
 impl Model for Rows {
     ghost use Rattle.std.specs.Prelude.{List, ℕ};
-    ghost use Rattle.rv_rows.specs.Flat.{rows_of, IsFlat};
+    ghost use Rattle.rv_rows.specs.Flat.{rows_of, AreLaid};
 
     ghost Value = { List (List ℕ) };
 
-    ghost view = { λ r. rows_of r.words.items r.count };
+    ghost view = { λ r. rows_of r.words.items r.places.items };
 
-    ghost invariant = { λ r. IsFlat r.words.items r.count };
+    ghost invariant = { λ r. AreLaid r.words.items r.places.items };
 }
 
 impl Rows {
@@ -34,7 +46,7 @@ impl Rows {
     {
         Rows {
             words: Vec::new(alloc),
-            count: 0,
+            places: Vec::new(alloc),
         }
     }
 
@@ -42,7 +54,7 @@ impl Rows {
     pub fn len(&self) -> usize
         ensures { result ≡ length self.now }
     {
-        self.count
+        self.places.len()
     }
 
     /// Adds a row with what the set has.
@@ -55,9 +67,15 @@ impl Rows {
         ensures pushed { OnOk result (IsPushed self.old row.now self.new) }
         ensures unchanged { OnErr result (self.new ≡ self.old) }
     {
-        self.words
-            .extend_from_slice(row.lowest_words(self.count / 64 + 1))?;
-        self.count += 1;
+        let (first, words) = row.used();
+        let place = Place {
+            start: self.words.len(),
+            first: first as u8,
+            count: words.len() as u8,
+        };
+        self.places.reserve(1)?;
+        self.words.extend_from_slice(words)?;
+        self.places.push_reserved(place);
         Ok(())
     }
 
@@ -66,8 +84,9 @@ impl Rows {
         requires { 0 < length self.old }
         ensures { (front : List (List ℕ)) (last : List ℕ) → self.old ≡ front ++ last ∷ [] → self.new ≡ front }
     {
-        self.count -= 1;
-        self.words.truncate(start_of(self.count));
+        if let Some(place) = self.places.pop() {
+            self.words.truncate(place.start);
+        }
     }
 
     /// Puts into the set what the row has.
@@ -75,7 +94,8 @@ impl Rows {
         requires { number < length self.now }
         ensures { (j : ℕ) → has_bit row.new j ≡ (has_bit row.old j || has_bit (slice_index_or self.now number []) j) }
     {
-        row.join_words(self.words_of(number));
+        let place = self.places[number];
+        row.join_words(place.first as usize, words_at(self.words.as_slice(), place));
     }
 
     /// Takes out of the set what the row has.
@@ -83,26 +103,15 @@ impl Rows {
         requires { number < length self.now }
         ensures { (j : ℕ) → has_bit row.new j ≡ (has_bit row.old j && not (has_bit (slice_index_or self.now number []) j)) }
     {
-        row.subtract_words(self.words_of(number));
-    }
-
-    /// The words of the row.
-    fn words_of(&self, number: usize) -> &[u64]
-        requires { number < length self.now }
-        ensures words { result.now ≡ slice_index_or self.now number [] }
-        ensures few { length result.now ≤ 64 }
-    {
-        let words = self.words.as_slice();
-        let first = start_of(number);
-        &words[first..first + (number / 64 + 1)]
+        let place = self.places[number];
+        row.subtract_words(place.first as usize, words_at(self.words.as_slice(), place));
     }
 }
 
-/// The place of the first word of the row. Of 64 rows in a row each has as many words as the next.
-fn start_of(number: usize) -> usize
-    requires { number ≤ 4096 }
-    ensures { result ≡ start number }
+/// The words of the row that lies at the place.
+fn words_at(words: &[u64], place: Place) -> &[u64]
+    requires { IsWithin words.now place }
+    ensures { result.now ≡ part_at words.now place }
 {
-    let block = number / 64;
-    (32 * block + number % 64) * (block + 1)
+    &words[place.start..place.start + place.count as usize]
 }

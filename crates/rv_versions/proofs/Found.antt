@@ -11,7 +11,7 @@ use Rattle.rv_event.specs.declared.event.Id.{Id}
 use Rattle.rv_versions.specs.Accesses.{access, IsOf}
 use Rattle.rv_versions.specs.Indexes.{pair_of, IsPair, beside, AreIndexes}
 use Rattle.rv_versions.specs.declared.accesses.Access.{Access}
-use Rattle.rv_versions.specs.declared.indexes.Indexes.{Indexes}
+use Rattle.rv_versions.specs.declared.accesses.Accesses.{Accesses}
 use Rattle.rv_versions.specs.declared.reservation.Reservation.{Reservation}
 use Rattle.rv_versions.proofs.Beside.{beside_left, beside_of}
 use Rattle.rv_versions.specs.Accesses.{id_of}
@@ -50,7 +50,7 @@ if-some : (b : Bool) (y x : Access) → cond b (Some y) None ≡ Some x → (b �
 if-some true y x e = (refl, sym (same_Some y x e))
 if-some false y x e = absurd (none-some x e)
 
-module _ (log : List Event) (rs : List (Option Reservation)) (ix : Indexes) (known : AreIndexes log rs ix) where
+module _ (log : List Event) (rs : List (Option Reservation)) (ix : Accesses) (known : AreIndexes log rs ix) where
   pub indexed : Indexed log
   indexed = indexed_from_events log known.well_formed
 

@@ -1,7 +1,5 @@
 -- What the indexes have after an event joined a log, and after the last one left it.
-use Rattle.std.proofs.Common.{◌≡◌, ◌≢◌, ◌+◌, Bool, true, false, cond, List, [], ◌∷◌, ◌++◌, length, Contains, Option, Some, None, Result, Ok, Err, OnOk, OnErr, inl, inr, refl, sym, ap, ◌∙◌, arith, subst, append_assoc, length-append}
-use Rattle.std.specs.Result.{is_err}
-use Rattle.std.proofs.lemmas.Bool.{false≢true}
+use Rattle.std.proofs.Common.{◌≡◌, ◌≢◌, ◌+◌, Bool, true, false, cond, List, [], ◌∷◌, ◌++◌, length, Contains, Option, Some, None, inl, inr, refl, sym, ap, ◌∙◌, arith, subst, append_assoc, length-append}
 use Rattle.std.proofs.lemmas.Option.{same_Some, none-some}
 use Rattle.std.proofs.lemmas.List.Elements.{Contains-append_left, Contains-push, Contains-push_cases}
 use Rattle.rv_cover.proofs.Indexing.{indexed_from_events}
@@ -15,39 +13,12 @@ use Rattle.rv_versions.specs.Accesses.{access}
 use Rattle.rv_versions.specs.Reserved.{IsReserved}
 use Rattle.rv_versions.specs.Indexes.{store_of, load_of, pair_of, postings_of, IsInserted, IsRemoved, IsSame, AreInserted, AreRemoved, AreSame, AreAbsent, IsIndex, IsReservation, beside, AreIndexes}
 use Rattle.rv_versions.specs.declared.accesses.Access.{Access}
-use Rattle.rv_versions.specs.declared.indexes.Indexes.{Indexes}
+use Rattle.rv_versions.specs.declared.accesses.Accesses.{Accesses}
 use Rattle.rv_versions.specs.declared.reservation.Reservation.{Reservation}
 use Rattle.rv_versions.proofs.Beside.{beside-push, beside_left}
 use Rattle.rv_versions.specs.Accesses.{id_of}
 use Rattle.rv_versions.proofs.Paired.{is_new, reservation_grows, reservation_settled, reservation_new}
 use Rattle.rv_versions.proofs.Members.{Contains-none}
-
-pub failed : {X E : Type 0} (r : Result X E) (P : Type 0) → is_err r ≡ true → OnErr r P → P
-failed (Ok x) P e h = absurd (false≢true e)
-failed (Err x) P e h = h
-
-pub went : {X E : Type 0} (r : Result X E) (P : Type 0) → is_err r ≡ false → OnOk r P → P
-went (Ok x) P e h = h
-went (Err x) P e h = absurd (false≢true (sym e))
-
-pub same_itself : (xs ys : List Access) → ys ≡ xs → IsSame xs ys
-same_itself xs ys e x = (
-  λ c. subst (λ (zs : List Access). Contains zs x) e c,
-  λ c. subst (λ
-      (zs : List Access). Contains zs x) (sym e) c,
-)
-
--- what was put in and taken out again
-pub same_again :
-    (xs ys zs : List Access) (o : Option Access) → ((x : Access) → o ≡ Some x → Contains xs x → ⊥) →
-    IsInserted xs o ys → IsRemoved ys o zs → IsSame xs zs
-same_again xs ys zs o absent put taken x = (to, from)
-  where
-    to : Contains zs x → Contains xs x
-    to c = let h = (taken x).0 c in elim ((put x).0 h.0) [ inl old ↦ old | inr e ↦ absurd (h.1 e) ]
-
-    from : Contains xs x → Contains zs x
-    from c = (taken x).1 ((put x).1 (inl c), λ e. absent x e c)
 
 module _ {X : Type 0} (post : X → Option Access) (items : List X) (i : X) (xs ys : List Access) where
   pub index_push : IsIndex post items xs → IsInserted xs (post i) ys → IsIndex post (items ++ i ∷ []) ys
@@ -133,7 +104,7 @@ indexes-nil = record {
   pairs = λ x. (λ c. absurd (Contains-none x c), λ h. absurd (Contains-none h.0 h.1));
 }
 
-module _ (log : List Event) (rs : List (Option Reservation)) (ix : Indexes) (e : Event) (r : Option Reservation)
+module _ (log : List Event) (rs : List (Option Reservation)) (ix : Accesses) (e : Event) (r : Option Reservation)
     (known : AreIndexes log rs ix) (sound : event_fault log e ≡ None) where
   old : Indexed log
   old = indexed_from_events log known.well_formed
@@ -149,7 +120,7 @@ module _ (log : List Event) (rs : List (Option Reservation)) (ix : Indexes) (e :
         (pair_id h.0.0 h.0.1 x h.2) ∙ pair_id e r x p);
   }
 
-  pub indexes_push : (new : Indexes) → IsReserved log e r → AreInserted ix (postings_of e r) new →
+  pub indexes_push : (new : Accesses) → IsReserved log e r → AreInserted ix (postings_of e r) new →
       AreIndexes (log ++ e ∷ []) (rs ++ r ∷ []) new
   indexes_push new is put = record {
     well_formed = well_formed-push log e known.well_formed sound;
@@ -173,7 +144,7 @@ module _ (log : List Event) (rs : List (Option Reservation)) (ix : Indexes) (e :
       pushed : beside (log ++ e ∷ []) (rs ++ r ∷ []) ≡ beside log rs ++ (e, r) ∷ []
       pushed = beside-push log rs e r known.as_long
 
-  pub indexes_same : (new : Indexes) → AreSame ix (postings_of e r) new → AreIndexes log rs new
+  pub indexes_same : (new : Accesses) → AreSame ix (postings_of e r) new → AreIndexes log rs new
   indexes_same new same = record {
     well_formed = known.well_formed;
     as_long = known.as_long;
@@ -183,7 +154,7 @@ module _ (log : List Event) (rs : List (Option Reservation)) (ix : Indexes) (e :
     pairs = index_same (λ p. pair_of p.0 p.1) (beside log rs) ix.pairs new.pairs known.pairs same.pairs;
   }
 
-module _ (log : List Event) (rs : List (Option Reservation)) (ix new : Indexes) (e : Event) (r : Option Reservation)
+module _ (log : List Event) (rs : List (Option Reservation)) (ix new : Accesses) (e : Event) (r : Option Reservation)
     (known : AreIndexes (log ++ e ∷ []) (rs ++ r ∷ []) ix) (taken : AreRemoved ix (postings_of e r) new) where
   front : WellFormedEvents log
   front = well_formed-front log (e ∷ []) known.well_formed

@@ -13,5 +13,6 @@ pub mod Nearest
 pub mod Owning
 pub mod Paired
 pub mod Placed
+pub mod Posted
 pub mod Stored
 pub mod Versioned

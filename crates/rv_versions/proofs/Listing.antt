@@ -196,6 +196,36 @@ module _ (log : List Event) (known : Indexed log) where
           same_version log known s t f.of_log foreign.of_log f.store foreign.store (f'.same ∙
           sym foreign.same) (omega arith)
 
+-- ---- none was found
+
+module _ (log : List Event) (e : Event) (old : List Link) where
+  pub no_coherence_before : IsLowerStore log e.word e.wrote None → IsExtended old old (CoherenceBefore log e)
+  no_coherence_before none = extended_none old (CoherenceBefore log e) (λ l p.
+      let high : e.wrote ≤ p.next.wrote = none p.next p.is_next.of_log p.is_next.store p.is_next.same in
+      let low : p.next.wrote < e.wrote = p.is_next.below in
+      omega arith)
+
+  pub no_coherence_after : IsHigherStore log e.word e.wrote None → IsExtended old old (CoherenceAfter log e)
+  no_coherence_after none = extended_none old (CoherenceAfter log e) (λ l p.
+      let low : p.next.wrote ≤ e.wrote = none p.next p.is_next.of_log p.is_next.store p.is_next.same in
+      let high : e.wrote < p.next.wrote = p.is_next.above in
+      omega arith)
+
+  pub no_from_read_after : IsHigherStore log e.word e.read None → IsExtended old old (FromReadAfter log e)
+  no_from_read_after none = extended_none old (FromReadAfter log e) (λ l p.
+      let low : p.next.wrote ≤ e.read = none p.next p.is_next.of_log p.is_next.store p.is_next.same in
+      let high : e.read < p.next.wrote = p.is_next.above in
+      omega arith)
+
+  pub no_atomic_out_after : (reserved : Option Reservation) (r : Reservation) → reserved ≡ Some r →
+      IsForeignHigher log r.word r.version e.id.hart None → IsExtended old old (AtomicOutAfter log e reserved)
+  no_atomic_out_after reserved r some none = extended_none old (AtomicOutAfter log e reserved) (λ l p.
+      let same : r ≡ p.reservation = same_Some r p.reservation (sym some ∙ p.is_reserved) in
+      let low : p.store.wrote ≤ p.reservation.version = subst (λ
+      (q : Reservation). IsForeignHigher log q.word q.version e.id.hart None) same none p.store p.foreign in
+      let high : p.reservation.version < p.store.wrote = p.above in
+      omega arith)
+
 -- ---- below which version no SC needs a link
 
 module _ (log : List Event) (e : Event) where

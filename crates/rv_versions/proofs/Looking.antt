@@ -10,20 +10,19 @@ use Rattle.rv_versions.specs.Accesses.{access, IsOf, IsLower, IsFirstFrom, IsFor
 use Rattle.rv_versions.specs.Indexes.{AreIndexes}
 use Rattle.rv_versions.specs.Lookups.{IsLowerStore, IsHigherStore, IsForeign, IsForeignLower, IsForeignHigher, IsLoadBetween, IsPairBetween}
 use Rattle.rv_versions.specs.declared.accesses.Access.{Access}
-use Rattle.rv_versions.specs.declared.indexes.Indexes.{Indexes}
+use Rattle.rv_versions.specs.declared.accesses.Accesses.{Accesses}
 use Rattle.rv_versions.specs.declared.reservation.Reservation.{Reservation}
 use Rattle.rv_versions.proofs.Found.{store_access, store_found, store_listed, load_found, load_listed, pair_found, pair_listed}
 use Rattle.rv_versions.specs.Accesses.{id_of}
 use Rattle.rv_versions.proofs.Nearing.{same_version}
 
-module _ (log now : List Event) (rs : List (Option Reservation)) (ix : Indexes) (known : AreIndexes log rs ix)
-    (is : log ≡ now) where
+module _ (log : List Event) (rs : List (Option Reservation)) (ix : Accesses) (known : AreIndexes log rs ix) where
   of_word : (w : ℕ) (a : Event) → Contains log a → IsStore a → a.word ≡ w → IsOf ix.stores w (store_access a)
   of_word w a c s e = record { known = store_listed log rs ix known a c s; same = e }
 
-  lower : (w v : ℕ) (o : Option Access) → IsLower ix.stores w v o → IsLowerStore log w v o
-  lower w v None h = λ a c s e. h (store_access a) (of_word w a c s e)
-  lower w v (Some x) h =
+  pub lower_store_of : (w v : ℕ) (o : Option Access) → IsLower ix.stores w v o → IsLowerStore log w v o
+  lower_store_of w v None h = λ a c s e. h (store_access a) (of_word w a c s e)
+  lower_store_of w v (Some x) h =
       let f = store_found log rs ix known x h.0.known in
       let word : x.word ≡ f.store.word = ap (λ (y : Access). y.word) f.same in
       let version : x.version ≡ f.store.wrote = ap (λ (y : Access). y.version) f.same in
@@ -39,9 +38,6 @@ module _ (log now : List Event) (rs : List (Option Reservation)) (ix : Indexes) 
         },
         f.same,
       )
-
-  pub lower_store_of : (w v : ℕ) (o : Option Access) → IsLower ix.stores w v o → IsLowerStore now w v o
-  lower_store_of w v o h = subst (λ (l : List Event). IsLowerStore l w v o) is (lower w v o h)
 
   higher : (w v : ℕ) (o : Option Access) → IsFirstFrom ix.stores w (v + 1) o → IsHigherStore log w v o
   higher w v None h = λ a c s e. let n : a.wrote < v + 1 = h (store_access a) (of_word w a c s e) in omega arith
@@ -63,10 +59,8 @@ module _ (log now : List Event) (rs : List (Option Reservation)) (ix : Indexes) 
       )
 
   pub higher_store_of : (w v m : ℕ) (o : Option Access) → m ≡ v → IsFirstFrom ix.stores w (m + 1) o →
-      IsHigherStore now w v o
-  higher_store_of w v m o same h =
-      subst (λ (l : List Event). IsHigherStore l w v o) is (higher w v o (subst (λ (n : ℕ). IsFirstFrom ix.stores w
-      (n + 1) o) same h))
+      IsHigherStore log w v o
+  higher_store_of w v m o same h = higher w v o (subst (λ (n : ℕ). IsFirstFrom ix.stores w (n + 1) o) same h)
 
   foreign_higher : (w v hart : ℕ) (o : Option Access) → IsForeignFrom ix.stores w (v + 1) hart o →
       IsForeignHigher log w v hart o
@@ -93,10 +87,9 @@ module _ (log now : List Event) (rs : List (Option Reservation)) (ix : Indexes) 
       )
 
   pub foreign_higher_of : (w v m hart : ℕ) (o : Option Access) → m ≡ v → IsForeignFrom ix.stores w (m + 1) hart o →
-      IsForeignHigher now w v hart o
+      IsForeignHigher log w v hart o
   foreign_higher_of w v m hart o same h =
-      subst (λ (l : List Event). IsForeignHigher l w v hart o) is (foreign_higher w v hart o (subst (λ
-      (n : ℕ). IsForeignFrom ix.stores w (n + 1) hart o) same h))
+      foreign_higher w v hart o (subst (λ (n : ℕ). IsForeignFrom ix.stores w (n + 1) hart o) same h)
 
   load_between : (w from to : ℕ) (i : Id) → IsBetween ix.loads w from to i → IsLoadBetween log w from to i
   load_between w from to i b =
@@ -125,8 +118,8 @@ module _ (log now : List Event) (rs : List (Option Reservation)) (ix : Indexes) 
   }
 
   pub loads_of : (w from to : ℕ) (ids : List Id) → ((i : Id) → Contains ids i ↔ IsBetween ix.loads w from to i) →
-      (i : Id) → Contains ids i ↔ IsLoadBetween now w from to i
-  loads_of w from to ids h i = subst (λ (l : List Event). Contains ids i ↔ IsLoadBetween l w from to i) is
+      (i : Id) → Contains ids i ↔ IsLoadBetween log w from to i
+  loads_of w from to ids h i =
       (λ c. load_between w from to i ((h i).0 c), λ b. (h i).1 (between_load w from to i b))
 
   pair_between : (w from to : ℕ) (i : Id) → IsBetween ix.pairs w from to i → IsPairBetween log w from to i
@@ -157,19 +150,19 @@ module _ (log now : List Event) (rs : List (Option Reservation)) (ix : Indexes) 
   }
 
   pub pairs_of : (w from to : ℕ) (ids : List Id) → ((i : Id) → Contains ids i ↔ IsBetween ix.pairs w from to i) →
-      (i : Id) → Contains ids i ↔ IsPairBetween now w from to i
-  pairs_of w from to ids h i = subst (λ (l : List Event). Contains ids i ↔ IsPairBetween l w from to i) is
+      (i : Id) → Contains ids i ↔ IsPairBetween log w from to i
+  pairs_of w from to ids h i =
       (λ c. pair_between w from to i ((h i).0 c), λ b. (h i).1 (between_pair w from to i b))
 
   -- a pair of a lower version, by the pair of the highest
-  no_pair_of : (w to : ℕ) → IsLower ix.pairs w to None → (i : Id) → IsPairBetween now w 0 to i → ⊥
+  no_pair_of : (w to : ℕ) → IsLower ix.pairs w to None → (i : Id) → IsPairBetween log w 0 to i → ⊥
   no_pair_of w to none i p =
-      let b = between_pair w 0 to i (subst (λ (l : List Event). IsPairBetween l w 0 to i) (sym is) p) in
+      let b = between_pair w 0 to i p in
       let high = none (access w b.version i) (record { known = b.known; same = refl }) in
       let low = b.below in
       omega arith
 
-  some_pair_of : (w to : ℕ) (x : Access) → IsLower ix.pairs w to (Some x) → IsPairBetween now w 0 to (id_of x)
+  some_pair_of : (w to : ℕ) (x : Access) → IsLower ix.pairs w to (Some x) → IsPairBetween log w 0 to (id_of x)
   some_pair_of w to x h =
       let same : x ≡ access w x.version (id_of x) = λ j. record {
         word = h.0.same j;
@@ -177,13 +170,17 @@ module _ (log now : List Event) (rs : List (Option Reservation)) (ix : Indexes) 
         hart = x.hart;
         seq = x.seq;
       } in
-      subst (λ (l : List Event). IsPairBetween l w 0 to (id_of x)) is
-      (pair_between w 0 to (id_of x)
-      (record { version = x.version; at_least = omega arith; below = h.1; known = subst (Contains ix.pairs) same h.0.known }))
+      pair_between w 0 to (id_of x)
+      (record {
+        version = x.version;
+        at_least = omega arith;
+        below = h.1;
+        known = subst (Contains ix.pairs) same h.0.known;
+      })
 
   pub pair_below_of :
       (w to : ℕ) (o : Option Access) → IsLower ix.pairs w to o →
-      (is_some o ≡ true) ↔ ((i : Id) × IsPairBetween now w 0 to i)
+      (is_some o ≡ true) ↔ ((i : Id) × IsPairBetween log w 0 to i)
   pair_below_of w to None h = (λ e. absurd (false≢true e), λ p. absurd (no_pair_of w to h p.0 p.1))
   pair_below_of w to (Some x) h = (λ e. (id_of x, some_pair_of w to x h), λ p. refl)
 

@@ -1,67 +1,93 @@
--- Lists of accesses, one for each word.
+-- The accesses of each word in its place.
 use Rattle.std.proofs.Common.{◌≡◌, ◌≢◌, ℕ, zero, suc, ◌+◌, ◌<◌, ◌≤◌, ◌↔◌, List, [], ◌∷◌, ◌++◌, map, length, get_or, set, flat_map, Contains, Option, Some, None, ◌⊎◌, inl, inr, refl, sym, ap, ◌∙◌, arith, subst, length-append}
 use Rattle.std.proofs.lemmas.Bool.{cases_eq}
 use Rattle.std.proofs.lemmas.List.{length-set, get_or-set_same, get_or-set_other}
 use Rattle.std.proofs.lemmas.List.Elements.{at_read}
 use Rattle.std.proofs.lemmas.Option.{same_Some, none-some}
 use Rattle.rv_event.specs.declared.event.Id.{Id}
-use Rattle.rv_versions.specs.Accesses.{access, id_of, IsOf, AreAllOf, AreInPlace, IsBetween}
-use Rattle.rv_versions.specs.Indexes.{IsInserted, IsRemoved}
+use Rattle.rv_versions.specs.Accesses.{access, id_of, IsOf, AreAllOf, IsBetween}
+use Rattle.rv_versions.specs.Indexes.{ArePostingsTo, IsInserted, IsRemoved, ByEach, AreInserted, AreRemoved, AreSame, AreAbsent}
+use Rattle.rv_versions.specs.Words.{no_accesses, together, AreNumbers, StandInPlace, AreInPlace, AreThoseTo}
 use Rattle.rv_versions.specs.declared.accesses.Access.{Access}
+use Rattle.rv_versions.specs.declared.accesses.Accesses.{Accesses}
+use Rattle.rv_versions.specs.declared.accesses.Postings.{Postings}
 use Rattle.rv_versions.proofs.Members.{Contains-none, Contains-map, Contains-mapped, Contains-flat, Contains-in_flat}
-
-abbrev pub flat : List (List Access) → List Access
-flat lists = flat_map (λ l. l) lists
+use Rattle.rv_versions.proofs.Posted.{put_none, none_put}
 
 -- what stands at a place, by the answer of an index
 pub here_is : {X : Type 0} (xs : List X) (k : ℕ) (x d : X) → k < length xs → x ≡ get_or xs k x → get_or xs k d ≡ x
 here_is xs k x d l e = at_read xs (λ y. y ≡ x) k x l e refl d
 
--- ---- a new, empty list
+-- ---- a new word, with no accesses
 
-still : (lists : List (List Access)) (k : ℕ) → get_or (lists ++ [] ∷ []) k [] ≡ get_or lists k []
+still : (words : List Accesses) (k : ℕ) →
+    get_or (words ++ no_accesses ∷ []) k no_accesses ≡ get_or words k no_accesses
 still [] zero = refl
 still [] (suc k) = refl
-still (l ∷ lists) zero = refl
-still (l ∷ lists) (suc k) = still lists k
+still (w ∷ words) zero = refl
+still (w ∷ words) (suc k) = still words k
 
-longer : (lists : List (List Access)) → length (lists ++ [] ∷ []) ≡ length lists + 1
-longer lists = length-append lists ([] ∷ [])
+longer : (words : List Accesses) → length (words ++ no_accesses ∷ []) ≡ length words + 1
+longer words = length-append words (no_accesses ∷ [])
 
-module _ (place_of place_of' : ℕ → Option ℕ) (lists lists' : List (List Access)) (in_place : AreInPlace place_of lists)
-    (more : lists' ≡ lists ++ [] ∷ []) where
-  pub padded : ((word : ℕ) → place_of' word ≡ place_of word) → AreInPlace place_of' lists'
-  padded same = subst (AreInPlace place_of') (sym more) (record {
-    known = λ word k e.
-        let l : k < length lists = in_place.known word k (sym (same word) ∙ e) in
-        omega (arith, longer lists);
-    apart = λ word other k p q. in_place.apart word other k (sym (same word) ∙ p) (sym (same other) ∙ q);
-    placed = λ k x c. same x.word ∙ in_place.placed k x (subst (λ (l : List Access). Contains l x) (still lists k) c);
+flat_same : (these : Accesses → List Access) → these no_accesses ≡ [] → (words : List Accesses) →
+    flat_map these (words ++ no_accesses ∷ []) ≡ flat_map these words
+flat_same these none [] = ap (λ (xs : List Access). xs ++ []) none
+flat_same these none (w ∷ words) = ap (λ (xs : List Access). these w ++ xs) (flat_same these none words)
+
+pub together-more : (words words' : List Accesses) → words' ≡ words ++ no_accesses ∷ [] →
+    together words' ≡ together words
+together-more words words' more = ap together more ∙ (λ i. record {
+  stores = flat_same (λ w. w.stores) refl words i;
+  loads = flat_same (λ w. w.loads) refl words i;
+  pairs = flat_same (λ w. w.pairs) refl words i;
+})
+
+module _ (place_of place_of' : ℕ → Option ℕ) (words words' : List Accesses) (in_place : AreInPlace place_of words)
+    (more : words' ≡ words ++ no_accesses ∷ []) where
+  abbrev longer_by_one : List Accesses
+  longer_by_one = words ++ no_accesses ∷ []
+
+  -- no access comes in, and each word that has some keeps its number
+  moved : AreNumbers place_of' (length longer_by_one) →
+      ((word k : ℕ) → place_of word ≡ Some k → place_of' word ≡ Some k) → AreInPlace place_of' words'
+  moved numbers keeps = subst (AreInPlace place_of') (sym more) (record {
+    numbers = numbers;
+    stores = λ k x c. keeps x.word k (in_place.stores k x (subst (λ
+        (w : Accesses). Contains w.stores x) (still words k) c));
+    loads = λ k x c. keeps x.word k (in_place.loads k x (subst (λ
+        (w : Accesses). Contains w.loads x) (still words k) c));
+    pairs = λ k x c. keeps x.word k (in_place.pairs k x (subst (λ
+        (w : Accesses). Contains w.pairs x) (still words k) c));
   })
+
+  pub padded : ((word : ℕ) → place_of' word ≡ place_of word) → AreInPlace place_of' words'
+  padded same = moved
+      (record {
+        known = λ word k e.
+            let l : k < length words = in_place.numbers.known word k (sym (same word) ∙ e) in
+            omega (arith, longer words);
+        apart = λ word other k p q. in_place.numbers.apart word other k (sym (same word) ∙ p) (sym (same other) ∙ q);
+      })
+      (λ word k e. same word ∙ e)
 
   pub numbered :
-      (new : ℕ) → place_of new ≡ None → place_of' new ≡ Some (length lists) →
-      ((word : ℕ) → new ≢ word → place_of' word ≡ place_of word) → AreInPlace place_of' lists'
-  numbered new none here others = subst (AreInPlace place_of') (sym more) (record {
-    known = known;
-    apart = apart;
-    placed = λ k x c.
-        let old : place_of x.word ≡ Some k = in_place.placed k x (subst (λ
-        (l : List Access). Contains l x) (still lists k) c) in
-        others x.word (λ e. none-some k (sym none ∙ ap place_of e ∙ old)) ∙ old;
-  })
+      (new : ℕ) → place_of new ≡ None → place_of' new ≡ Some (length words) →
+      ((word : ℕ) → new ≢ word → place_of' word ≡ place_of word) → AreInPlace place_of' words'
+  numbered new none here others = moved (record { known = known; apart = apart })
+      (λ word k old. others word (λ e. none-some k (sym none ∙ ap place_of e ∙ old)) ∙ old)
     where
       -- the number of the new word, and that of another one
-      is_last : (word k : ℕ) → new ≡ word → place_of' word ≡ Some k → k ≡ length lists
-      is_last word k e p = sym (same_Some (length lists) k (sym here ∙ ap place_of' e ∙ p))
+      is_last : (word k : ℕ) → new ≡ word → place_of' word ≡ Some k → k ≡ length words
+      is_last word k e p = sym (same_Some (length words) k (sym here ∙ ap place_of' e ∙ p))
 
       is_old : (word k : ℕ) → new ≢ word → place_of' word ≡ Some k → place_of word ≡ Some k
       is_old word k ne p = sym (others word ne) ∙ p
 
-      known : (word k : ℕ) → place_of' word ≡ Some k → k < length (lists ++ [] ∷ [])
+      known : (word k : ℕ) → place_of' word ≡ Some k → k < length (words ++ no_accesses ∷ [])
       known word k p = elim (cases_eq new word) [
-        | inl e ↦ (let last = is_last word k e p in omega (arith, longer lists))
-        | inr ne ↦ (let low = in_place.known word k (is_old word k ne p) in omega (arith, longer lists))
+        | inl e ↦ (let last = is_last word k e p in omega (arith, longer words))
+        | inr ne ↦ (let low = in_place.numbers.known word k (is_old word k ne p) in omega (arith, longer words))
       ]
 
       apart : (word other k : ℕ) → place_of' word ≡ Some k → place_of' other ≡ Some k → word ≡ other
@@ -70,143 +96,263 @@ module _ (place_of place_of' : ℕ → Option ℕ) (lists lists' : List (List Ac
           | inl f ↦ sym e ∙ f
           | inr nf ↦
               (let last = is_last word k e p in
-              let low = in_place.known other k (is_old other k nf q) in
+              let low = in_place.numbers.known other k (is_old other k nf q) in
               absurd (omega arith))
         ]
         | inr ne ↦ elim (cases_eq new other) [
           | inl f ↦
               (let last = is_last other k f q in
-              let low = in_place.known word k (is_old word k ne p) in
+              let low = in_place.numbers.known word k (is_old word k ne p) in
               absurd (omega arith))
-          | inr nf ↦ in_place.apart word other k (is_old word k ne p) (is_old other k nf q)
+          | inr nf ↦ in_place.numbers.apart word other k (is_old word k ne p) (is_old other k nf q)
         ]
       ]
 
--- ---- the list of a word
+-- ---- of these accesses those to a word
 
-module _ (place_of : ℕ → Option ℕ) (lists : List (List Access)) (in_place : AreInPlace place_of lists) where
-  pub all_of : (word k : ℕ) → place_of word ≡ Some k → AreAllOf (flat lists) word (get_or lists k [])
+module _ (place_of : ℕ → Option ℕ) (words : List Accesses) (numbers : AreNumbers place_of (length words))
+    (these : Accesses → List Access) (placed : StandInPlace place_of these words) where
+  all_of : (word k : ℕ) → place_of word ≡ Some k →
+      AreAllOf (flat_map these words) word (these (get_or words k no_accesses))
   all_of word k p x = (to, from)
     where
-      to : Contains (get_or lists k []) x → IsOf (flat lists) word x
+      to : Contains (these (get_or words k no_accesses)) x → IsOf (flat_map these words) word x
       to c = record {
-        known = Contains-in_flat (λ l. l) [] lists x k (in_place.known word k p) c;
-        same = in_place.apart x.word word k (in_place.placed k x c) p;
+        known = Contains-in_flat these no_accesses words x k (numbers.known word k p) c;
+        same = numbers.apart x.word word k (placed k x c) p;
       }
 
-      from : IsOf (flat lists) word x → Contains (get_or lists k []) x
+      from : IsOf (flat_map these words) word x → Contains (these (get_or words k no_accesses)) x
       from of =
-          let f = Contains-flat (λ l. l) [] lists x of.known in
-          let same : f.0 ≡ k = same_Some f.0 k (sym (in_place.placed f.0 x f.2) ∙ ap place_of of.same ∙ p) in
-          subst (λ (j : ℕ). Contains (get_or lists j []) x) same f.2
+          let f = Contains-flat these no_accesses words x of.known in
+          let same : f.0 ≡ k = same_Some f.0 k (sym (placed f.0 x f.2) ∙ ap place_of of.same ∙ p) in
+          subst (λ (j : ℕ). Contains (these (get_or words j no_accesses)) x) same f.2
 
-  pub none_of : (word : ℕ) → place_of word ≡ None → (x : Access) → IsOf (flat lists) word x → ⊥
+  none_of : (word : ℕ) → place_of word ≡ None → (x : Access) → IsOf (flat_map these words) word x → ⊥
   none_of word p x of =
-      let f = Contains-flat (λ l. l) [] lists x of.known in
-      none-some f.0 (sym p ∙ ap place_of (sym of.same) ∙ in_place.placed f.0 x f.2)
+      let f = Contains-flat these no_accesses words x of.known in
+      none-some f.0 (sym p ∙ ap place_of (sym of.same) ∙ placed f.0 x f.2)
 
-  -- ---- where the list of a word changes
-  module _ (k : ℕ) (a : Access) (list : List Access) (fits : k < length lists) (place : place_of a.word ≡ Some k) where
-    at : (x : Access) → Contains (get_or (set lists k list) k []) x → Contains list x
-    at x c = subst (λ (l : List Access). Contains l x) (get_or-set_same lists k list [] fits) c
+  -- a word with no number has none of them
+  none_to : (word : ℕ) → place_of word ≡ None → AreAllOf (flat_map these words) word []
+  none_to word p x = (λ c. absurd (Contains-none x c), λ of. absurd (none_of word p x of))
 
-    into : (x : Access) → Contains list x → Contains (flat (set lists k list)) x
-    into x c = Contains-in_flat (λ l. l) [] (set lists k list) x k (omega (arith, length-set lists k list))
-        (subst (λ (l : List Access). Contains l x) (sym (get_or-set_same lists k list [] fits)) c)
+  -- nor has it any to take out
+  none_out : (word : ℕ) (o : Option Access) → ((x : Access) → o ≡ Some x → x.word ≡ word) → place_of word ≡ None →
+      IsRemoved (flat_map these words) o (flat_map these words)
+  none_out word o to p x = (
+    λ c. (c, λ e. none_of word p x (record { known = c; same = to x e })),
+    λ h. h.0,
+  )
 
-    stays : (j : ℕ) (x : Access) → j ≢ k → j < length lists → Contains (get_or lists j []) x →
-        Contains (flat (set lists k list)) x
-    stays j x ne l c = Contains-in_flat (λ m. m) [] (set lists k list) x j (omega (arith, length-set lists k list))
-        (subst (λ (m : List Access). Contains m x) (sym (get_or-set_other lists k j list [] ne)) c)
+  -- ---- where those to one word change
+  module _ (k : ℕ) (o : Option Access) (w : Accesses) (fits : k < length words)
+      (place : (x : Access) → o ≡ Some x → place_of x.word ≡ Some k) where
+    at : (x : Access) → Contains (these (get_or (set words k w) k no_accesses)) x → Contains (these w) x
+    at x c = subst (λ (v : Accesses). Contains (these v) x) (get_or-set_same words k w no_accesses fits) c
 
-    pub still_in_place :
-        ((x : Access) → Contains list x → Contains (get_or lists k []) x ⊎ (Some a ≡ Some x)) →
-        AreInPlace place_of (set lists k list)
-    still_in_place were = record {
-      known = λ word j e. let l = in_place.known word j e in omega (arith, length-set lists k list);
-      apart = in_place.apart;
-      placed = λ j x c. elim (cases_eq j k) [
-        | inl same ↦ elim (were x (at x (subst (λ (n : ℕ). Contains (get_or (set lists k list) n []) x) same c))) [
-          | inl was ↦ in_place.placed k x was ∙ ap Some (sym same)
-          | inr new ↦ ap (λ (y : Access). place_of y.word) (sym (same_Some a x new)) ∙ place ∙ ap Some (sym same)
-        ]
-        | inr ne ↦ in_place.placed j x (subst (λ
-            (m : List Access). Contains m x) (get_or-set_other lists k j list [] ne) c)
-      ];
-    }
+    into : (x : Access) → Contains (these w) x → Contains (flat_map these (set words k w)) x
+    into x c = Contains-in_flat these no_accesses (set words k w) x k (omega (arith, length-set words k w))
+        (subst (λ (v : Accesses). Contains (these v) x) (sym (get_or-set_same words k w no_accesses fits)) c)
 
-    pub inserted_at : IsInserted (get_or lists k []) (Some a) list → IsInserted (flat lists) (Some a) (flat (set lists k list))
+    stays : (j : ℕ) (x : Access) → j ≢ k → j < length words → Contains (these (get_or words j no_accesses)) x →
+        Contains (flat_map these (set words k w)) x
+    stays j x ne l c = Contains-in_flat these no_accesses (set words k w) x j (omega (arith, length-set words k w))
+        (subst (λ (v : Accesses). Contains (these v) x) (sym (get_or-set_other words k j w no_accesses ne)) c)
+
+    -- at another place nothing changed
+    was : (j : ℕ) (x : Access) → j ≢ k → Contains (these (get_or (set words k w) j no_accesses)) x →
+        Contains (these (get_or words j no_accesses)) x
+    was j x ne c = subst (λ (v : Accesses). Contains (these v) x) (get_or-set_other words k j w no_accesses ne) c
+
+    now_at : (j : ℕ) (x : Access) → j ≡ k → Contains (these (get_or (set words k w) j no_accesses)) x →
+        Contains (these w) x
+    now_at j x same c = at x (subst (λ (n : ℕ). Contains (these (get_or (set words k w) n no_accesses)) x) same c)
+
+    then_at : (j : ℕ) (x : Access) → j ≡ k → Contains (these (get_or words j no_accesses)) x →
+        Contains (these (get_or words k no_accesses)) x
+    then_at j x same c = subst (λ (n : ℕ). Contains (these (get_or words n no_accesses)) x) same c
+
+    still_placed :
+        ((x : Access) → Contains (these w) x → Contains (these (get_or words k no_accesses)) x ⊎ (o ≡ Some x)) →
+        StandInPlace place_of these (set words k w)
+    still_placed were j x c = elim (cases_eq j k) [
+      | inl same ↦ elim (were x (now_at j x same c)) [
+        | inl old ↦ placed k x old ∙ ap Some (sym same)
+        | inr new ↦ place x new ∙ ap Some (sym same)
+      ]
+      | inr ne ↦ placed j x (was j x ne c)
+    ]
+
+    inserted_at : IsInserted (these (get_or words k no_accesses)) o (these w) →
+        IsInserted (flat_map these words) o (flat_map these (set words k w))
     inserted_at put x = (to, from)
       where
-        to : Contains (flat (set lists k list)) x → Contains (flat lists) x ⊎ (Some a ≡ Some x)
+        to : Contains (flat_map these (set words k w)) x → Contains (flat_map these words) x ⊎ (o ≡ Some x)
         to c =
-            let f = Contains-flat (λ l. l) [] (set lists k list) x c in
-            let size = length-set lists k list in
+            let f = Contains-flat these no_accesses (set words k w) x c in
+            let size = length-set words k w in
             let long = f.1 in
             elim (cases_eq f.0 k) [
-              | inl same ↦ elim ((put x).0 (at x (subst (λ
-                  (n : ℕ). Contains (get_or (set lists k list) n []) x) same f.2))) [
-                    | inl was ↦ inl (Contains-in_flat (λ l. l) [] lists x k fits was)
-                    | inr new ↦ inr new
-                  ]
-              | inr ne ↦ inl (Contains-in_flat (λ l. l) [] lists x f.0 (omega arith) (subst (λ
-                  (m : List Access). Contains m x) (get_or-set_other lists k f.0 list [] ne) f.2))
+              | inl same ↦ elim ((put x).0 (now_at f.0 x same f.2)) [
+                | inl old ↦ inl (Contains-in_flat these no_accesses words x k fits old)
+                | inr new ↦ inr new
+              ]
+              | inr ne ↦ inl (Contains-in_flat these no_accesses words x f.0 (omega arith) (was f.0 x ne f.2))
             ]
 
-        from : Contains (flat lists) x ⊎ (Some a ≡ Some x) → Contains (flat (set lists k list)) x
+        from : Contains (flat_map these words) x ⊎ (o ≡ Some x) → Contains (flat_map these (set words k w)) x
         from (inr new) = into x ((put x).1 (inr new))
         from (inl c) =
-            let f = Contains-flat (λ l. l) [] lists x c in
+            let f = Contains-flat these no_accesses words x c in
             elim (cases_eq f.0 k) [
-              | inl same ↦ into x ((put x).1 (inl (subst (λ (n : ℕ). Contains (get_or lists n []) x) same f.2)))
+              | inl same ↦ into x ((put x).1 (inl (then_at f.0 x same f.2)))
               | inr ne ↦ stays f.0 x ne f.1 f.2
             ]
 
-    pub removed_at : IsRemoved (get_or lists k []) (Some a) list → IsRemoved (flat lists) (Some a) (flat (set lists k list))
+    removed_at : IsRemoved (these (get_or words k no_accesses)) o (these w) →
+        IsRemoved (flat_map these words) o (flat_map these (set words k w))
     removed_at taken x = (to, from)
       where
-        to : Contains (flat (set lists k list)) x → Contains (flat lists) x × (Some a ≢ Some x)
+        to : Contains (flat_map these (set words k w)) x → Contains (flat_map these words) x × (o ≢ Some x)
         to c =
-            let f = Contains-flat (λ l. l) [] (set lists k list) x c in
-            let size = length-set lists k list in
+            let f = Contains-flat these no_accesses (set words k w) x c in
+            let size = length-set words k w in
             let long = f.1 in
             elim (cases_eq f.0 k) [
               | inl same ↦
-                  (let h = (taken x).0 (at x (subst (λ
-                  (n : ℕ). Contains (get_or (set lists k list) n []) x) same f.2)) in
-                  (Contains-in_flat (λ l. l) [] lists x k fits h.0, h.1))
+                  (let h = (taken x).0 (now_at f.0 x same f.2) in
+                  (Contains-in_flat these no_accesses words x k fits h.0, h.1))
               | inr ne ↦
-                  (let was : Contains (get_or lists f.0 []) x = subst (λ
-                  (m : List Access). Contains m x) (get_or-set_other lists k f.0 list [] ne) f.2 in (
-                    Contains-in_flat (λ l. l) [] lists x f.0 (omega arith) was,
-                    λ e. ne (same_Some f.0 k (sym (in_place.placed f.0 x was) ∙ ap (λ
-                        (y : Access). place_of y.word) (sym (same_Some a x e)) ∙ place)),
+                  (let old : Contains (these (get_or words f.0 no_accesses)) x = was f.0 x ne f.2 in (
+                    Contains-in_flat these no_accesses words x f.0 (omega arith) old,
+                    λ e. ne (same_Some f.0 k (sym (placed f.0 x old) ∙ place x e)),
                   ))
             ]
 
-        from : Contains (flat lists) x × (Some a ≢ Some x) → Contains (flat (set lists k list)) x
+        from : Contains (flat_map these words) x × (o ≢ Some x) → Contains (flat_map these (set words k w)) x
         from h =
-            let f = Contains-flat (λ l. l) [] lists x h.0 in
+            let f = Contains-flat these no_accesses words x h.0 in
             elim (cases_eq f.0 k) [
-              | inl same ↦
-                  into x ((taken x).1 (subst (λ (n : ℕ). Contains (get_or lists n []) x) same f.2, h.1))
+              | inl same ↦ into x ((taken x).1 (then_at f.0 x same f.2, h.1))
               | inr ne ↦ stays f.0 x ne f.1 f.2
             ]
 
--- what is no place has no access to take out
-pub none_removed :
-    (place_of : ℕ → Option ℕ) (lists : List (List Access)) (a : Access) → AreInPlace place_of lists → place_of a.word ≡ None →
-    IsRemoved (flat lists) (Some a) (flat lists)
-none_removed place_of lists a in_place none x = (
-  λ c. (
-    c,
-    λ e. none_of place_of lists in_place a.word none x (record {
-      known = c;
-      same = ap (λ (y : Access). y.word) (sym (same_Some a x e));
-    }),
-  ),
-  λ h. h.0,
-)
+-- ---- stores, loads and pairs
+
+-- nothing but the postings came in
+abbrev pub AreFrom : Accesses → Postings → Accesses → Type 0
+AreFrom old p new = ByEach (λ xs o ys. (x : Access) → Contains ys x → Contains xs x ⊎ (o ≡ Some x)) old p new
+
+pub from_inserted : (old new : Accesses) (p : Postings) → AreInserted old p new → AreFrom old p new
+from_inserted old new p put = record {
+  stores = λ x. (put.stores x).0;
+  loads = λ x. (put.loads x).0;
+  pairs = λ x. (put.pairs x).0;
+}
+
+pub from_removed : (old new : Accesses) (p : Postings) → AreRemoved old p new → AreFrom old p new
+from_removed old new p taken = record {
+  stores = λ x c. inl ((taken.stores x).0 c).0;
+  loads = λ x c. inl ((taken.loads x).0 c).0;
+  pairs = λ x c. inl ((taken.pairs x).0 c).0;
+}
+
+pub from_same : (old new : Accesses) (p : Postings) → AreSame old p new → AreFrom old p new
+from_same old new p same = record {
+  stores = λ x c. inl ((same.stores x).0 c);
+  loads = λ x c. inl ((same.loads x).0 c);
+  pairs = λ x c. inl ((same.pairs x).0 c);
+}
+
+module _ (place_of : ℕ → Option ℕ) (words : List Accesses) (in_place : AreInPlace place_of words) (word : ℕ) where
+  pub are_to_word : (k : ℕ) → place_of word ≡ Some k → AreThoseTo (together words) word (get_or words k no_accesses)
+  are_to_word k p = record {
+    stores = all_of place_of words in_place.numbers (λ w. w.stores) in_place.stores word k p;
+    loads = all_of place_of words in_place.numbers (λ w. w.loads) in_place.loads word k p;
+    pairs = all_of place_of words in_place.numbers (λ w. w.pairs) in_place.pairs word k p;
+  }
+
+  pub none_to_word : place_of word ≡ None → AreThoseTo (together words) word no_accesses
+  none_to_word p = record {
+    stores = none_to place_of words in_place.numbers (λ w. w.stores) in_place.stores word p;
+    loads = none_to place_of words in_place.numbers (λ w. w.loads) in_place.loads word p;
+    pairs = none_to place_of words in_place.numbers (λ w. w.pairs) in_place.pairs word p;
+  }
+
+  pub none_removed : (p : Postings) → ArePostingsTo word p → place_of word ≡ None →
+      AreRemoved (together words) p (together words)
+  none_removed p to none = record {
+    stores = none_out place_of words in_place.numbers (λ w. w.stores) in_place.stores word p.store to.store none;
+    loads = none_out place_of words in_place.numbers (λ w. w.loads) in_place.loads word p.load to.load none;
+    pairs = none_out place_of words in_place.numbers (λ w. w.pairs) in_place.pairs word p.pair to.pair none;
+  }
+
+  -- what is absent from all is absent from those to the word
+  pub absent_here : (k : ℕ) → place_of word ≡ Some k → (p : Postings) → AreAbsent (together words) p →
+      AreAbsent (get_or words k no_accesses) p
+  absent_here k number p absent =
+      let fits : k < length words = in_place.numbers.known word k number in
+      record {
+        stores = λ x e c. absent.stores x e (Contains-in_flat (λ v. v.stores) no_accesses words x k fits c);
+        loads = λ x e c. absent.loads x e (Contains-in_flat (λ v. v.loads) no_accesses words x k fits c);
+        pairs = λ x e c. absent.pairs x e (Contains-in_flat (λ v. v.pairs) no_accesses words x k fits c);
+      }
+
+  module _ (k : ℕ) (p : Postings) (w : Accesses) (number : place_of word ≡ Some k) (to : ArePostingsTo word p) where
+    fits : k < length words
+    fits = in_place.numbers.known word k number
+
+    abbrev old : Accesses
+    old = get_or words k no_accesses
+
+    place : (o : Option Access) → ((x : Access) → o ≡ Some x → x.word ≡ word) → (x : Access) → o ≡ Some x →
+        place_of x.word ≡ Some k
+    place o same x e = ap place_of (same x e) ∙ number
+
+    pub still_in_place : AreFrom old p w → AreInPlace place_of (set words k w)
+    still_in_place from = record {
+      numbers = record {
+        known = λ other j e. let l = in_place.numbers.known other j e in omega (arith, length-set words k w);
+        apart = in_place.numbers.apart;
+      };
+      stores = still_placed place_of words in_place.numbers (λ v. v.stores) in_place.stores k p.store w fits
+          (place p.store to.store) from.stores;
+      loads = still_placed place_of words in_place.numbers (λ v. v.loads) in_place.loads k p.load w fits
+          (place p.load to.load) from.loads;
+      pairs = still_placed place_of words in_place.numbers (λ v. v.pairs) in_place.pairs k p.pair w fits
+          (place p.pair to.pair) from.pairs;
+    }
+
+    pub are_inserted : AreInserted old p w → AreInserted (together words) p (together (set words k w))
+    are_inserted put = record {
+      stores = inserted_at place_of words in_place.numbers (λ v. v.stores) in_place.stores k p.store w fits
+          (place p.store to.store) put.stores;
+      loads = inserted_at place_of words in_place.numbers (λ v. v.loads) in_place.loads k p.load w fits
+          (place p.load to.load) put.loads;
+      pairs = inserted_at place_of words in_place.numbers (λ v. v.pairs) in_place.pairs k p.pair w fits
+          (place p.pair to.pair) put.pairs;
+    }
+
+    pub are_removed : AreRemoved old p w → AreRemoved (together words) p (together (set words k w))
+    are_removed taken = record {
+      stores = removed_at place_of words in_place.numbers (λ v. v.stores) in_place.stores k p.store w fits
+          (place p.store to.store) taken.stores;
+      loads = removed_at place_of words in_place.numbers (λ v. v.loads) in_place.loads k p.load w fits
+          (place p.load to.load) taken.loads;
+      pairs = removed_at place_of words in_place.numbers (λ v. v.pairs) in_place.pairs k p.pair w fits
+          (place p.pair to.pair) taken.pairs;
+    }
+
+    pub are_same : AreSame old p w → AreSame (together words) p (together (set words k w))
+    are_same same = record {
+      stores = put_none _ _ (inserted_at place_of words in_place.numbers (λ v. v.stores) in_place.stores k None w fits
+          (λ x e. absurd (none-some x e)) (none_put _ _ same.stores));
+      loads = put_none _ _ (inserted_at place_of words in_place.numbers (λ v. v.loads) in_place.loads k None w fits
+          (λ x e. absurd (none-some x e)) (none_put _ _ same.loads));
+      pairs = put_none _ _ (inserted_at place_of words in_place.numbers (λ v. v.pairs) in_place.pairs k None w fits
+          (λ x e. absurd (none-some x e)) (none_put _ _ same.pairs));
+    }
 
 -- ---- ids
 
@@ -214,8 +360,9 @@ module _ (accesses : List Access) (word from to : ℕ) where
   of_between : (i : Id) (b : IsBetween accesses word from to i) → IsOf accesses word (access word b.version i)
   of_between i b = record { known = b.known; same = refl }
 
-  pub ids_of : (list part : List Access) → AreAllOf accesses word list → ((x : Access) → Contains part x ↔ (Contains list x ×
-      (from ≤ x.version) × (x.version < to))) → (i : Id) → Contains (map id_of part) i ↔ IsBetween accesses word from to i
+  pub ids_of : (list part : List Access) → AreAllOf accesses word list →
+      ((x : Access) → Contains part x ↔ (Contains list x × (from ≤ x.version) × (x.version < to))) → (i : Id) →
+      Contains (map id_of part) i ↔ IsBetween accesses word from to i
   ids_of list part all is i = (there, here)
     where
       there : Contains (map id_of part) i → IsBetween accesses word from to i
@@ -236,6 +383,3 @@ module _ (accesses : List Access) (word from to : ℕ) where
       here b =
           let x : Access = access word b.version i in
           Contains-mapped id_of part x ((is x).1 ((all x).1 (of_between i b), b.at_least, b.below))
-
-  pub no_ids : ((x : Access) → IsOf accesses word x → ⊥) → (i : Id) → Contains (map id_of []) i ↔ IsBetween accesses word from to i
-  no_ids none i = (λ c. absurd (Contains-none i c), λ b. absurd (none (access word b.version i) (of_between i b)))

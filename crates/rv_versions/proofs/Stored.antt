@@ -7,13 +7,12 @@ use Rattle.rv_event.specs.declared.event.Entry.{Entry}
 use Rattle.rv_event.specs.declared.event.Event.{Event}
 use Rattle.rv_versions.specs.Indexes.{postings_of, AreInserted, AreRemoved, AreIndexes}
 use Rattle.rv_versions.specs.Reserved.{IsReserved}
-use Rattle.rv_versions.specs.declared.indexes.Indexes.{Indexes}
-use Rattle.rv_versions.specs.declared.indexes.Postings.{Postings}
+use Rattle.rv_versions.specs.declared.accesses.Accesses.{Accesses}
 use Rattle.rv_versions.specs.declared.reservation.Reservation.{Reservation}
 use Rattle.rv_versions.proofs.Indexing.{indexes_push, indexes_pop}
 
 pub indexes_are :
-    (log log' : List Event) (rs rs' : List (Option Reservation)) (ix : Indexes) → log ≡ log' → rs ≡ rs' →
+    (log log' : List Event) (rs rs' : List (Option Reservation)) (ix : Accesses) → log ≡ log' → rs ≡ rs' →
     AreIndexes log rs ix → AreIndexes log' rs' ix
 indexes_are log log' rs rs' ix p q known = subst (λ l. AreIndexes l rs' ix) p (subst (λ r. AreIndexes log r ix) q known)
 
@@ -23,7 +22,7 @@ events-push xs ys x e is same = ap events is ∙ map-append (λ (y : Entry). y.e
     ap (λ (a : Event). events xs ++ a ∷ []) same
 
 pub pushed :
-    (xs ys : List Entry) (rs qs : List (Option Reservation)) (ix new : Indexes) (x : Entry) (e : Event)
+    (xs ys : List Entry) (rs qs : List (Option Reservation)) (ix new : Accesses) (x : Entry) (e : Event)
     (r : Option Reservation) →
     AreIndexes (events xs) rs ix → event_fault (events xs) e ≡ None → IsReserved (events xs) e r →
     AreInserted ix (postings_of e r) new →
@@ -34,12 +33,12 @@ pushed xs ys rs qs ix new x e r known sound is put entries same reserved =
     (indexes_push (events xs) rs ix e r known sound new is put)
 
 pub popped :
-    (xs ys : List Entry) (rs qs : List (Option Reservation)) (ix new : Indexes) (p : Postings) (x : Entry)
+    (xs ys : List Entry) (rs qs : List (Option Reservation)) (ix new : Accesses) (x : Entry)
     (r : Option Reservation) →
-    AreIndexes (events xs) rs ix → xs ≡ ys ++ x ∷ [] → rs ≡ qs ++ r ∷ [] → AreRemoved ix p new →
-    p ≡ postings_of x.event r → AreIndexes (events ys) qs new
-popped xs ys rs qs ix new p x r known entries reserved taken is =
+    AreIndexes (events xs) rs ix → xs ≡ ys ++ x ∷ [] → rs ≡ qs ++ r ∷ [] → AreRemoved ix (postings_of x.event r) new →
+    AreIndexes (events ys) qs new
+popped xs ys rs qs ix new x r known entries reserved taken =
     indexes_pop (events ys) qs ix new x.event r
     (indexes_are (events xs) (events ys ++ x.event ∷ []) rs (qs ++ r ∷ []) ix (ap events entries ∙
     map-append (λ (y : Entry). y.event) ys (x ∷ [])) reserved known)
-    (subst (λ (q : Postings). AreRemoved ix q new) is taken)
+    taken

@@ -1,5 +1,5 @@
 -- Accesses to words, by word and version.
-use Rattle.std.specs.Prelude.{ℕ, ◌≡◌, ◌≢◌, ◌<◌, ◌≤◌, ◌↔◌, List, [], length, Contains, AllPairs, Option, Some, None, slice_index_or}
+use Rattle.std.specs.Prelude.{ℕ, ◌≡◌, ◌≢◌, ◌<◌, ◌≤◌, ◌↔◌, List, Contains, AllPairs, Option, Some, None}
 use Rattle.std.specs.List.Sorted.{IsPartitionPoint}
 use Rattle.rv_event.specs.declared.event.Id.{Id}
 use Rattle.rv_versions.specs.declared.accesses.Access.{Access}
@@ -33,12 +33,6 @@ AreByVersion accesses = AllPairs StandsBefore accesses
 abbrev pub IsStart : List Access → ℕ → ℕ → Type 0
 IsStart accesses version place =
     IsPartitionPoint (λ x. x.version < version) (λ x. version ≤ x.version) accesses place
-
--- a word's number is that of a list, no other word has it, and each access stands in the list of its word
-pub record AreInPlace (place_of : ℕ → Option ℕ) (lists : List (List Access)) : Type 0 where
-  pub known : (word place : ℕ) → place_of word ≡ Some place → place < length lists
-  pub apart : (word other place : ℕ) → place_of word ≡ Some place → place_of other ≡ Some place → word ≡ other
-  pub placed : (place : ℕ) (x : Access) → Contains (slice_index_or lists place []) x → place_of x.word ≡ Some place
 
 -- the access of the highest version of the word below this one
 abbrev pub IsLower : List Access → ℕ → ℕ → Option Access → Type 0

@@ -5,3 +5,4 @@ pub mod Lookups
 pub mod Own
 pub mod Reserved
 pub mod VersionLinks
+pub mod Words

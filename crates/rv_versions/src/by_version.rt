@@ -2,7 +2,7 @@
 //!
 //! Where events come in commit order, an access goes to the end, and what is asked is nearly always answered by the
 //! last accesses. So each function looks at these first, and searches only where they do not answer.
-ghost use Rattle.std.specs.Prelude.{ℕ, ◌≡◌, ◌+◌, ◌<◌, ◌≤◌, ◌↔◌, [], List, length, Contains, Some, OnOk, OnErr, MatchOption};
+ghost use Rattle.std.specs.Prelude.{ℕ, ◌≡◌, ◌+◌, ◌<◌, ◌≤◌, ◌↔◌, [], List, length, Contains, Some, OnOk, OnErr, IfSome, MatchOption};
 ghost use Rattle.std.specs.List.{HoldsAt, AllWithin};
 ghost use Rattle.rv_versions.specs.Accesses.{AreAllOf, IsStart, IsLower, IsFirstFrom, IsForeignFrom};
 ghost use Rattle.rv_versions.specs.Indexes.{IsInserted, IsRemoved};
@@ -45,37 +45,39 @@ impl ByVersion {
         }
     }
 
-    /// Puts an access in that is not there, behind all of its version or a lower one.
+    /// Puts the access in, where there is one. It is not there yet.
     ///
     /// It costs a step where no version is higher, and else a search and the moving of what stands behind it.
     ///
     /// # Errors
     /// `NoMemory`; the accesses are then as they were.
-    pub fn insert(&mut self, access: Access) -> Result<(), NoMemory>
-        requires { Contains self.old access → ⊥ }
-        ensures inserted { OnOk result (IsInserted self.old (Some access) self.new) }
+    pub fn insert_posting(&mut self, posting: Option<Access>) -> Result<(), NoMemory>
+        requires { (x : Access) → posting ≡ Some x → Contains self.old x → ⊥ }
+        ensures inserted { OnOk result (IsInserted self.old posting self.new) }
         ensures unchanged { OnErr result (self.new ≡ self.old) }
     {
-        let place = self.start(u64::from(access.version) + 1);
-        self.accesses.insert(place, access)?;
+        if let Some(access) = posting {
+            self.insert(access)?;
+        }
         Ok(())
     }
 
-    /// Takes an access out, where it is there. It takes no memory.
+    /// Takes the access out, where there is one and it is there. It takes no memory.
     ///
     /// It costs a step for each of its version that came later, and the moving of what stands behind it.
-    pub fn remove(&mut self, access: Access)
-        ensures { IsRemoved self.old (Some access) self.new }
+    pub fn remove_posting(&mut self, posting: Option<Access>)
+        ensures { IsRemoved self.old posting self.new }
     {
-        if let Some(place) = self.place_of(access) {
-            self.accesses.remove(place);
+        if let Some(access) = posting {
+            self.remove(access);
         }
     }
 
     /// The access of the highest version below this one.
     pub fn lower(&self, version: u32) -> Option<Access>
-        ensures { (accesses : List Access) (word : ℕ) → AreAllOf accesses word self.now →
+        ensures found { (accesses : List Access) (word : ℕ) → AreAllOf accesses word self.now →
             IsLower accesses word version result }
+        ensures below { IfSome result (λ x. x.version < version) }
     {
         let end = self.start(u64::from(version));
         if end == 0 {
@@ -126,6 +128,29 @@ impl ByVersion {
     {
         let end = self.start(to);
         &self.accesses[self.start_back(from, end)..end]
+    }
+
+    /// Puts an access in that is not there, behind all of its version or a lower one.
+    ///
+    /// # Errors
+    /// `NoMemory`; the accesses are then as they were.
+    fn insert(&mut self, access: Access) -> Result<(), NoMemory>
+        requires { Contains self.old access → ⊥ }
+        ensures inserted { OnOk result (IsInserted self.old (Some access) self.new) }
+        ensures unchanged { OnErr result (self.new ≡ self.old) }
+    {
+        let place = self.start(u64::from(access.version) + 1);
+        self.accesses.insert(place, access)?;
+        Ok(())
+    }
+
+    /// Takes an access out, where it is there. It takes no memory.
+    fn remove(&mut self, access: Access)
+        ensures { IsRemoved self.old (Some access) self.new }
+    {
+        if let Some(place) = self.place_of(access) {
+            self.accesses.remove(place);
+        }
     }
 
     /// How many accesses are of a version below this one.

@@ -9,17 +9,18 @@ ghost use Rattle.rv_event.specs.Edges.{IsEdge};
 ghost use Rattle.rv_event.specs.declared.reason.Link.{Link};
 ghost use Rattle.rv_event.specs.declared.reason.Reason.{Reason};
 ghost use Rattle.rv_event.specs.declared.memory_model.MemoryModel.{MemoryModel};
+ghost use Rattle.rv_versions.specs.Indexes.{AreOfWord};
 ghost use Rattle.rv_versions.specs.Reserved.{IsReserved};
 ghost use Rattle.rv_versions.specs.VersionLinks.{AreVersionLinks};
 
 mod after;
 mod before;
 mod links;
-mod lookups;
 mod own;
 
 use self::own::returns_own;
-use crate::indexes::{Indexes, postings_of};
+use crate::accesses::Accesses;
+use crate::indexes::Indexes;
 use crate::reservation::Reservation;
 use rv_event::{Entry, Event, Id, Link, NoMemory};
 use std::alloc::Global;
@@ -87,9 +88,9 @@ impl Versions {
     /// reads-from, from-read, atomic-in and atomic-out (Unprivileged ISA, section 14.1, "Memory Model Axioms"). Each
     /// edge for such a reason is linked, or another event splits it.
     ///
-    /// It costs a few look-ups of words and a step for each link. Where the event comes in commit order, each look-up
-    /// takes a few steps; else it searches the accesses to its word, in logarithmic time. For atomic-out it takes a
-    /// step more for each store that it passes on the way to another hart's.
+    /// It costs a look-up of its word, and two of its LR's where that is another one. Where the event comes in commit
+    /// order, a few steps answer each question then; else it searches the accesses to the word, in logarithmic time. It
+    /// takes a step more for each link, and for atomic-out for each store that it passes on the way to another hart's.
     ///
     /// # Errors
     /// `NoMemory` where a list could not be had or grow; nothing changes, but the given links are gone.
@@ -104,8 +105,9 @@ impl Versions {
         ensures { IfOk result (λ w. (others : List Link) × (w.before.items ≡ before.items ++ others)
             × ((model : MemoryModel) → AreVersionLinks model self.now event.now others w.after.items)) }
     {
-        let links = self.links_before(event, reserved, before)?;
-        let after = self.links_after(event, reserved)?;
+        let accesses = self.of_word(event.word);
+        let links = self.links_before(accesses, event, reserved, before)?;
+        let after = self.links_after(accesses, event, reserved)?;
         Ok(VersionLinks {
             before: links,
             after,
@@ -129,24 +131,44 @@ impl Versions {
 
     /// The store that wrote this version of the word. Version 0, the initial value, has none.
     ///
-    /// It takes no memory. It costs a few steps for a word's highest version, and else a search among the word's
-    /// stores.
+    /// It takes no memory. It costs a look-up of the word, and a few steps for its highest version, or else a search
+    /// among its stores.
     pub fn writer(&self, word: u32, version: u32) -> Option<Id>
         ensures { result ≡ option_map (λ w. w.id) (writer self.now word version) }
     {
-        let Some(store) = self.indexes.stores.first_from(word, u64::from(version)) else {
-            return None;
-        };
-        if store.version != version {
-            return None;
+        self.of_word(word).writer(version)
+    }
+
+    /// The accesses of the log to the word.
+    fn of_word(&self, word: u32) -> &Accesses
+        ensures { AreOfWord self.now word result.now }
+    {
+        self.indexes.of_word(word)
+    }
+
+    /// The accesses of the log to the word of the event's LR, where those to the event's own word are at hand. Mostly
+    /// it is the same word, and then it costs no look-up.
+    fn of_reserved<'a>(
+        &'a self,
+        accesses: &'a Accesses,
+        event: &Event,
+        reservation: Reservation,
+    ) -> &'a Accesses
+        requires { AreOfWord self.now event.now.word accesses.now }
+        ensures { AreOfWord self.now reservation.word result.now }
+    {
+        if reservation.word == event.word {
+            accesses
+        } else {
+            self.of_word(reservation.word)
         }
-        Some(store.id())
     }
 
     /// Adds the event, which has no fault over the log, with what its LR returned.
     ///
-    /// It costs at most three insertions, of a few steps each where no version of the word is higher. Else each costs a
-    /// search among the word's accesses, and the moving of those of a higher version.
+    /// It costs a look-up of its word, one of its LR's, and at most three insertions, of a few steps each where no
+    /// version of the word is higher. Else each costs a search among the word's accesses, and the moving of those of a
+    /// higher version.
     ///
     /// # Errors
     /// `NoMemory` where the event could not be kept; the log stays as it is.
@@ -159,7 +181,7 @@ impl Versions {
         let event = event.copy(self.alloc)?;
         self.entries.reserve(1)?;
         self.reserved.reserve(1)?;
-        self.indexes.insert(postings_of(&event, reserved))?;
+        self.indexes.insert(&event, reserved)?;
         self.entries.push_reserved(Entry { source: 0, event });
         self.reserved.push_reserved(reserved);
         Ok(())
@@ -167,7 +189,7 @@ impl Versions {
 
     /// Takes the last event off; there is one. It takes no memory.
     ///
-    /// It costs at most three removals, each as an insertion.
+    /// It costs the look-ups of an addition, and at most three removals, each as an insertion.
     pub fn pop(&mut self)
         requires { self.old ≢ [] }
         ensures { (front : List Event) (e : Event) → self.old ≡ front ++ e ∷ [] → self.new ≡ front }
@@ -175,7 +197,7 @@ impl Versions {
         if let Some(entry) = self.entries.pop()
             && let Some(reserved) = self.reserved.pop()
         {
-            self.indexes.remove(postings_of(&entry.event, reserved));
+            self.indexes.remove(&entry.event, reserved);
         }
     }
 }

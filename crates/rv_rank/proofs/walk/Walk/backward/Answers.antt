@@ -5,20 +5,12 @@ use Rattle.rv_rank.proofs.walk.Walk.backward.Goals as goal
 
 pub returns : goal.returns
 returns c =
-    let incoming = c.self.inside.incoming.items in
-    let outgoing = c.self.inside.outgoing.items in
+    let nodes = c.self.inside.nodes.items in
     let placed = rw (← c.self.view_is) at c.requires.placed in
-    let within : c.args.node < length incoming =
-    omega (
-      arith,
-      placed,
-      c.self.invariant.long,
-      length-map incoming (λ v. v.items),
-      length-map outgoing (λ v. v.items),
-    ) in
-    let row : c.as_slice.result.now ≡ get_or (map (λ v. v.items) incoming) c.args.node [] =
-    c.as_slice.ensures.value ∙ ap (λ v. v.items) c.index.ensures ∙
-    sym (get_or-map (λ v. v.items) incoming c.args.node c.index.result.now [] within) in
+    let within : c.args.node < length nodes = omega (arith, placed, length-map nodes (λ n. n.outgoing)) in
+    let row : c.incoming.result.now ≡ get_or (map (λ n. n.incoming) nodes) c.args.node [] =
+    c.incoming.ensures ∙ ap (λ n. n.incoming) c.index.ensures ∙
+    sym (get_or-map (λ n. n.incoming) nodes c.args.node c.index.result.now [] within) in
     let pushed : c.push.new.self.items ≡ c.self.inside.visits.items ++ c.args.node ∷ [] =
     grind (arith, common_steps) in
     rw (← c.self.view_is) (

@@ -1,12 +1,8 @@
-use Rattle.std.proofs.Common.{List, ℕ, length, sym, ap, ◌∙◌, arith}
-use Rattle.rv_rows.proofs.Laying.{start-zero, rows_of-zero}
+use Rattle.std.proofs.Common.{List, ◌∙◌, map, ap}
+use Rattle.rv_rows.specs.Flat.{row_at}
+use Rattle.rv_rows.specs.declared.rows.Place.{Place}
+use Rattle.rv_rows.proofs.Laying.{rows_are}
 use Rattle.rv_rows.proofs.rows.Rows.new.Goals as goal
 
-pub invariant_of-result : goal.invariant_of-result
-invariant_of-result c = record {
-  few = omega arith;
-  ends = ap (λ (xs : List ℕ). length xs) c.new.ensures.items ∙ sym start-zero;
-}
-
 pub returns : goal.returns
-returns c = rows_of-zero c.new.result.items
+returns c = rows_are c.new.result.items c.new-2.result.items ∙ ap (λ (ps : List Place). map (row_at c.new.result.items) ps) c.new-2.ensures.items

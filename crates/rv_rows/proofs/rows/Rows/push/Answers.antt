@@ -1,40 +1,45 @@
-use Rattle.std.proofs.Common.{◌≡◌, ◌<◌, ◌+◌, ◌/◌, ◌++◌, ◌∷◌, [], List, ℕ, suc, length, sym, ap, ◌∙◌, arith, subst, add-one, length-take-le}
-use Rattle.rv_rows.specs.Flat.{rows_of, IsFlat}
-use Rattle.rv_rows.proofs.Laying.{rows_count, rows_more, flat_more, part_bits}
+use Rattle.std.proofs.Common.{◌≡◌, ◌<◌, ◌++◌, ◌∷◌, [], List, ℕ, length, sym, refl, ap, ◌∙◌, arith, subst}
+use Rattle.rv_rows.specs.Flat.{rows_of, shifted, AreLaid}
+use Rattle.rv_rows.specs.declared.rows.Place.{Place}
+use Rattle.rv_rows.proofs.Laying.{rows_count, rows_more, laid_more}
 use Rattle.rv_rows.proofs.rows.Rows.push.Goals as goal
 
-pub lowest_words-requires : goal.lowest_words-requires
-lowest_words-requires c =
-    let count : length c.args.self.now ≡ c.self.inside.count =
-    ap (λ (rs : List (List ℕ)). length rs) (sym c.self.view_is) ∙ rows_count c.self.inside.words.items c.self.inside.count in
-    let few = c.requires.few in
-    omega arith
+module _ (c : goal.After-push_reserved) where
+  abbrev words : List ℕ
+  words = c.self.inside.words.items
+
+  abbrev places : List Place
+  places = c.self.inside.places.items
+
+  abbrev part : List ℕ
+  part = c.used-first.result.1.now
+
+  abbrev place : Place
+  place = record { start = c.len.result; first = c.used-first.result.0; count = length c.used-first.result.1.now }
+
+  longer : c.extend_from_slice.new.self.items ≡ words ++ part
+  longer = c.in_ok-extend_from_slice.ensures.items
+
+  more : c.push_reserved.new.self.items ≡ places ++ place ∷ []
+  more = c.push_reserved.ensures.items ∙ ap (λ (ps : List Place). ps ++ place ∷ []) c.in_ok-reserve.ensures.items
+
+  begins : place.start ≡ length words
+  begins = c.len.ensures ∙ c.self.inside.words.ok.0
+
+  few : length places < 4096
+  few = let below = c.requires.few in omega (arith, rows_count words places, ap (λ (rs : List (List ℕ)). length rs) c.self.view_is)
 
 pub invariant_of-self-2 : goal.invariant_of-self-2
 invariant_of-self-2 c =
-    let n : ℕ = c.self.inside.count in
-    let words : List ℕ = c.self.inside.words.items in
-    let part : List ℕ = c.lowest_words.result.now in
-    let count : length c.args.self.now ≡ n = ap (λ (rs : List (List ℕ)). length rs) (sym c.self.view_is) ∙ rows_count words n in
-    let few = c.requires.few in
-    let low : n < 4096 = omega arith in
-    let wide : length part ≡ n / 64 + 1 = ap (λ (xs : List ℕ). length xs) c.lowest_words.ensures.words ∙ length-take-le (n / 64 + 1) c.args.row.now (omega (arith, c.lowest_words.ensures.all)) in
-    let more : IsFlat c.extend_from_slice.new.self.items (suc n) = flat_more words part c.extend_from_slice.new.self.items n c.self.invariant low wide c.in_ok-extend_from_slice.ensures.items in
-    subst (λ (k : ℕ). IsFlat c.extend_from_slice.new.self.items k) (sym (add-one n)) more
+    subst (λ (ws : List ℕ). AreLaid ws c.push_reserved.new.self.items) (sym (longer c)) (
+    subst (AreLaid (words c ++ part c)) (sym (more c))
+    (laid_more (words c) (part c) (places c) (place c) c.self.invariant (few c) (begins c) refl c.used-first.ensures.within))
 
 pub returns-clause-pushed : goal.returns-clause-pushed
-returns-clause-pushed c =
-    let n : ℕ = c.self.inside.count in
-    let words : List ℕ = c.self.inside.words.items in
-    let part : List ℕ = c.lowest_words.result.now in
-    let row : List ℕ = c.args.row.now in
-    let count : length c.args.self.now ≡ n = ap (λ (rs : List (List ℕ)). length rs) (sym c.self.view_is) ∙ rows_count words n in
-    let few = c.requires.few in
-    let wide : length part ≡ n / 64 + 1 = ap (λ (xs : List ℕ). length xs) c.lowest_words.ensures.words ∙ length-take-le (n / 64 + 1) row (omega (arith, c.lowest_words.ensures.all)) in
-    let here : rows_of c.extend_from_slice.new.self.items (n + 1) ≡ rows_of words n ++ part ∷ [] =
-    ap (λ (xs : List ℕ). rows_of xs (n + 1)) c.in_ok-extend_from_slice.ensures.items ∙ ap (λ (k : ℕ). rows_of (words ++ part) k) (add-one n) ∙ rows_more words part n c.self.invariant.ends wide in
-    record {
-      last = part;
-      is_last = here ∙ ap (λ (rs : List (List ℕ)). rs ++ part ∷ []) c.self.view_is;
-      same = part_bits row part n (n / 64 + 1) c.lowest_words.ensures.words (omega arith) (λ j x. (let low = c.requires.below j x in omega arith));
-    }
+returns-clause-pushed c = record {
+  last = shifted (place c).first (part c);
+  is_last =
+      (λ i. rows_of (longer c i) (more c i)) ∙ rows_more (words c) (part c) (places c) (place c) c.self.invariant (begins c) refl
+      ∙ ap (λ (rs : List (List ℕ)). rs ++ shifted (place c).first (part c) ∷ []) c.self.view_is;
+  same = c.used-first.ensures.same;
+}

@@ -1,20 +1,31 @@
-use Rattle.std.proofs.Common.{◌-◌, ◌∙◌, List, ℕ, get_or, ap, subst, arith}
+use Rattle.std.proofs.Common.{◌≡◌, ◌<◌, ◌-◌, ◌∙◌, List, ℕ, get_or, ap, sym, subst, arith}
 use Rattle.rv_versions.specs.Accesses.{AreByVersion, IsStart}
 use Rattle.rv_versions.specs.declared.accesses.Access.{Access}
 use Rattle.rv_versions.proofs.Versioned.{lower_some, lower_none}
 use Rattle.rv_versions.proofs.by_version.ByVersion.lower.Goals as goal
 
-pub returns-then-end-eq0 : goal.returns-then-end-eq0
-returns-then-end-eq0 c accesses word all =
+pub returns-then-end-eq0-clause-found : goal.returns-then-end-eq0-clause-found
+returns-then-end-eq0-clause-found c accesses word all =
     lower_none c.args.self.now accesses word all c.args.version c.start-end.result
     (subst (λ (v : ℕ). IsStart c.args.self.now v c.start-end.result) c.from.ensures c.start-end.ensures.parted)
     c.if-end-eq0.true
 
-pub returns : goal.returns
-returns c accesses word all =
+pub returns-clause-found : goal.returns-clause-found
+returns-clause-found c accesses word all =
     let n = c.start-end.result in
     let a = c.index.result.now in
     lower_some c.args.self.now accesses word all c.args.version n
     (subst (λ (v : ℕ). IsStart c.args.self.now v n) c.from.ensures c.start-end.ensures.parted)
     (subst AreByVersion c.self.view_is c.self.invariant) (n - 1) a (omega arith) c.start-end.ensures.bound
     (c.index.ensures ∙ ap (λ (xs : List Access). get_or xs (n - 1) a) c.self.view_is)
+
+pub returns-clause-below : goal.returns-clause-below
+returns-clause-below c =
+    let n = c.start-end.result in
+    let a = c.index.result.now in
+    let xs = c.args.self.now in
+    let is : get_or xs (n - 1) a ≡ a = sym
+    (c.index.ensures ∙ ap (λ (ys : List Access). get_or ys (n - 1) a) c.self.view_is) in
+    let low : (get_or xs (n - 1) a).version < c.args.version = (subst (λ (v : ℕ). IsStart xs v n) c.from.ensures
+    c.start-end.ensures.parted).0 (n - 1) a (omega arith) (omega arith) in
+    subst (λ (x : Access). x.version < c.args.version) is low

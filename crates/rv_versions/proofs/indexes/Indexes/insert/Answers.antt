@@ -1,31 +1,45 @@
-use Rattle.std.proofs.Common.{sym, ◌∙◌, refl}
-use Rattle.rv_versions.proofs.Indexing.{failed, went, same_itself, same_again}
+use Rattle.std.proofs.Common.{◌∙◌, Option, Some, sym, subst}
+use Rattle.rv_versions.specs.Indexes.{own_postings, postings_of, AreInserted, AreRemoved, AreSame, AreAbsent}
+use Rattle.rv_versions.specs.declared.accesses.Postings.{Postings}
+use Rattle.rv_versions.specs.declared.reservation.Reservation.{Reservation}
+use Rattle.rv_versions.proofs.Posted.{failed, went, absent_pair, both_inserted, undone}
+use Rattle.rv_versions.proofs.indexes.Indexes.insert.Goals.{In-Some}
 use Rattle.rv_versions.proofs.indexes.Indexes.insert.Goals as goal
 
-pub returns-then-is_err-clause-unchanged : goal.returns-then-is_err-clause-unchanged
-returns-then-is_err-clause-unchanged c = record {
-  stores = same_again c.args.self.now.stores c.insert.new.self c.remove.new.self c.args.postings.store
-      c.requires.stores c.in_ok-insert.ensures.inserted c.remove.ensures;
-  loads = same_itself _ _ (failed c.insert-2.result _ (sym c.is_err.ensures.value ∙
-      c.if-is_err.true) c.insert-2.ensures.unchanged);
-  pairs = same_itself _ _ refl;
-}
+put : (c : In-Some) → AreInserted c.args.self.now (own_postings c.args.event.now) c.insert_to.new.self
+put c = subst (λ (p : Postings). AreInserted c.args.self.now p c.insert_to.new.self) c.own_postings-own.ensures
+    c.in_ok-insert_to.ensures.inserted
 
-pub returns-then-is_err-2-clause-unchanged : goal.returns-then-is_err-2-clause-unchanged
-returns-then-is_err-2-clause-unchanged c = record {
-  stores = same_again c.args.self.now.stores c.insert.new.self c.remove-then-is_err-2-2.new.self
-      c.args.postings.store c.requires.stores c.in_ok-insert.ensures.inserted c.remove-then-is_err-2-2.ensures;
-  loads = same_again c.args.self.now.loads c.insert-2.new.self c.remove-then-is_err-2.new.self c.args.postings.load
-      c.requires.loads
-      (went c.insert-2.result _ (sym c.is_err.ensures.value ∙
-      c.if-is_err.false) c.insert-2.ensures.inserted) c.remove-then-is_err-2.ensures;
-  pairs = same_itself _ _ (failed c.insert-3.result _ (sym c.is_err-2.ensures.value ∙
-      c.if-is_err-2.true) c.insert-3.ensures.unchanged);
-}
+absent : (c : In-Some) → AreAbsent c.args.self.now (postings_of c.args.event.now (Some c.in-Some.reservation))
+absent c = subst (λ (o : Option Reservation). AreAbsent c.args.self.now (postings_of c.args.event.now o)) c.in-Some.is
+    c.requires
+
+pub insert_to-requires-2-clause-absent : goal.insert_to-requires-2-clause-absent
+insert_to-requires-2-clause-absent c =
+    let r = (goal.at.insert_to-requires-2-clause-absent c).In-Some in
+    subst (AreAbsent c.insert_to.new.self) (sym c.pair_postings-pair.ensures)
+    (absent_pair c.args.event.now c.in-Some.reservation c.args.self.now c.insert_to.new.self (put r) (absent r))
+
+pub returns-then-is_err-clause-unchanged : goal.returns-then-is_err-clause-unchanged
+returns-then-is_err-clause-unchanged c =
+    let r = (goal.at.returns-then-is_err-clause-unchanged c).In-Some in
+    let old = c.args.self.now in
+    let mid = c.insert_to.new.self in
+    let back = c.insert_to-2.new.self in
+    let new = c.remove_from.new.self in
+    subst (λ (o : Option Reservation). AreSame old (postings_of c.args.event.now o) new) (sym c.in-Some.is)
+    (undone c.args.event.now c.in-Some.reservation old mid (put r) (absent r) back new
+    (subst (λ (p : Postings). AreSame mid p back) c.pair_postings-pair.ensures
+    (failed c.insert_to-2.result _ (sym c.is_err.ensures.value ∙ c.if-is_err.true) c.insert_to-2.ensures.unchanged))
+    (subst (λ (p : Postings). AreRemoved back p new) c.own_postings-own.ensures c.remove_from.ensures))
 
 pub returns-clause-inserted : goal.returns-clause-inserted
-returns-clause-inserted c = record {
-  stores = c.in_ok-insert.ensures.inserted;
-  loads = went c.insert-2.result _ (sym c.is_err.ensures.value ∙ c.if-is_err.false) c.insert-2.ensures.inserted;
-  pairs = went c.insert-3.result _ (sym c.is_err-2.ensures.value ∙ c.if-is_err-2.false) c.insert-3.ensures.inserted;
-}
+returns-clause-inserted c =
+    let r = (goal.at.returns-clause-inserted c).In-Some in
+    let old = c.args.self.now in
+    let mid = c.insert_to.new.self in
+    let new = c.insert_to-2.new.self in
+    subst (λ (o : Option Reservation). AreInserted old (postings_of c.args.event.now o) new) (sym c.in-Some.is)
+    (both_inserted c.args.event.now c.in-Some.reservation old mid (put r) (absent r) new
+    (subst (λ (p : Postings). AreInserted mid p new) c.pair_postings-pair.ensures
+    (went c.insert_to-2.result _ (sym c.is_err.ensures.value ∙ c.if-is_err.false) c.insert_to-2.ensures.inserted)))

@@ -10,11 +10,11 @@ pub returns : goal.returns
 returns c =
     let log = c.args.self.now in
     let e = c.args.event.now in
-    let known : Indexed log = indexed_from_events log c.links_before.ensures.well_formed in
+    let known : Indexed log = indexed_from_events log c.of_word-accesses.ensures.known.well_formed in
     let sound : Sound log e = sound_of log e c.requires.sound in
     let is = c.requires.reserved in
     let r = c.args.reserved in
-    let listed = c.in_ok-links.ensures.listed in
+    let listed = c.in_ok-links.ensures in
     let others = listed.0 in
     let b = listed.2 in
     let a = c.in_ok-after.ensures in (

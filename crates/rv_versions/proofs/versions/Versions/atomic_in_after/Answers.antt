@@ -12,5 +12,5 @@ returns c =
     on_ok _ _ (atomic_in_after_of c.args.self.now e c.args.links.now.items c.append_links.new.links.items ids e.wrote
     (c.is_store.ensures.0 c.if-not-is_store.false) refl
     (subst (λ (n : ℕ). (i : Id) → Contains ids i ↔ IsPairBetween c.args.self.now e.word e.wrote (n + 1) i)
-    c.from.ensures c.pairs_between-scs.ensures))
+    c.from.ensures (c.pairs_between-scs.ensures c.args.self.now e.word c.requires)))
     c.append_links.result c.append_links.ensures

@@ -12,7 +12,7 @@ returns c =
     on_ok _ _ (atomic_outs_before_of c.args.self.now e c.args.links.now.items c.append_foreign.new.links.items
     (map id_of c.pairs_between-scs.result.now) c.unparted_from-low.result c.from.result
     (c.is_store.ensures.0 c.if-not-is_store.false) c.from.ensures c.unparted_from-low.ensures.parted
-    c.pairs_between-scs.ensures)
+    (c.pairs_between-scs.ensures c.args.self.now e.word c.requires))
     c.append_foreign.result c.append_foreign.ensures
 
 pub returns-then-not-is_store : goal.returns-then-not-is_store
@@ -33,5 +33,6 @@ returns-then-not-is_store c =
             below = a.below;
             named = refl;
           } in
-          false≢true (sym w.if-not-has_pair_below.true ∙ w.has_pair_below.ensures.1 (sc.id, pair))
+          false≢true
+          (sym w.if-not-has_pair_below.true ∙ (w.has_pair_below.ensures log e.word c.requires).1 (sc.id, pair))
     ])

@@ -1,15 +1,27 @@
-use Rattle.std.proofs.Common.{[], ◌∷◌, ◌++◌, ap, ◌∙◌}
+use Rattle.std.proofs.Common.{◌≡◌, ◌∷◌, ◌++◌, ◌∙◌, [], None, ap, subst, rules}
 use Rattle.rv_cover.proofs.Indexing.{indexed_from_events}
 use Rattle.rv_event.specs.declared.event.Id.{Id}
 use Rattle.rv_event.specs.declared.reason.Reason.TheVariants.{FromRead}
 use Rattle.rv_versions.specs.Listed.{link}
-use Rattle.rv_versions.proofs.Listing.{from_read_after_of}
+use Rattle.rv_versions.specs.Lookups.{IsHigherStore}
+use Rattle.rv_versions.proofs.Listing.{no_from_read_after, from_read_after_of}
 use Rattle.rv_versions.proofs.versions.Versions.from_read_after.Goals as goal
+use Rattle.rv_versions.proofs.versions.Versions.from_read_after.Goals.{else-is_load-via-else-is_load, else-is_load-via-then-is_load+in-None-1}
 
 pub returns-in_ok-push : goal.returns-in_ok-push
 returns-in_ok-push c =
     from_read_after_of c.args.self.now
-    (indexed_from_events c.args.self.now c.higher_store.ensures.well_formed) c.args.event.now
+    (indexed_from_events c.args.self.now c.requires.known.well_formed) c.args.event.now
     c.args.links.now.items c.push.new.self.items c.in-Some.store
-    (c.is_load.ensures.0 c.if-is_load.true) c.in-Some.ensures.found
+    (c.is_load.ensures.0 c.if-is_load.true) (c.in-Some.ensures c.args.self.now c.args.event.now.word c.requires)
     (c.in_ok-push.ensures.items ∙ ap (λ (i : Id). c.args.links.now.items ++ link i FromRead ∷ []) c.id.ensures)
+
+pub returns-else-is_load : goal.returns-else-is_load
+returns-else-is_load c = elim c.else-is_load.branch [
+  | else-is_load-via-else-is_load w ↦ search rules
+  | else-is_load-via-then-is_load+in-None-1 w ↦
+      let none : w.higher_store.result ≡ None = search rules in
+      no_from_read_after c.args.self.now c.args.event.now c.args.links.now.items
+      (subst (IsHigherStore c.args.self.now c.args.event.now.word c.args.event.now.read) none
+      (w.higher_store.ensures c.args.self.now c.args.event.now.word c.requires))
+]

@@ -1,8 +1,8 @@
 use Rattle.rv_versions.proofs.Gathered.{before, are_behind, are_before}
 use Rattle.rv_versions.proofs.versions.Versions.links_before.Goals as goal
 
-pub returns-clause-listed : goal.returns-clause-listed
-returns-clause-listed c =
+pub returns : goal.returns
+returns c =
     let log = c.args.self.now in
     let e = c.args.event.now in
     let l0 = c.args.before.items in

@@ -6,5 +6,5 @@ pub invariant_of-self-2 : goal.invariant_of-self-2
 invariant_of-self-2 c =
     popped c.self.inside.entries.items c.pop.new.self.items c.self.inside.reserved.items c.pop-2.new.self.items
     c.self.inside.indexes c.remove.new.self
-    c.postings_of.result c.in-Some.entry c.in-Some-pop.reserved c.self.invariant c.in-Some.ensures.items
-    c.in-Some-pop.ensures.items c.remove.ensures c.postings_of.ensures
+    c.in-Some.entry c.in-Some-pop.reserved c.self.invariant c.in-Some.ensures.items
+    c.in-Some-pop.ensures.items c.remove.ensures

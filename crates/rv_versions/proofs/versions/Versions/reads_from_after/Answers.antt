@@ -12,5 +12,5 @@ returns c =
     on_ok _ _ (reads_from_after_of c.args.self.now e c.args.links.now.items c.append_links.new.links.items ids e.wrote
     (c.is_store.ensures.0 c.if-not-is_store.false) refl
     (subst (λ (n : ℕ). (i : Id) → Contains ids i ↔ IsLoadBetween c.args.self.now e.word e.wrote (n + 1) i)
-    c.from.ensures c.loads_between-loads.ensures))
+    c.from.ensures (c.loads_between-loads.ensures c.args.self.now e.word c.requires)))
     c.append_links.result c.append_links.ensures

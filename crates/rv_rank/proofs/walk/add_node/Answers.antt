@@ -1,0 +1,68 @@
+use Rattle.std.proofs.Common.{arith, map, [], length, ◌<◌, ◌≡◌, ◌∙◌, ap, ◌++◌, ◌∷◌, get_or, ℕ, List}
+use Rattle.std.proofs.lemmas.List.{take_at, map_push, length-map}
+use Rattle.std.proofs.lemmas.Grind.{common_steps}
+use Rattle.std.specs.List.{All}
+use Rattle.rv_rank.specs.Rows.{Neighbours, IsAppended}
+use Rattle.rv_rank.proofs.Growth.{grown}
+use Rattle.rv_rank.proofs.Mirror.{rows_within, mirror_flip}
+use Rattle.rv_rank.proofs.RowTables.{HasRoom-less}
+use Rattle.rv_rank.proofs.walk.add_node.Goals as goal
+
+pub add_to_predecessors-requires-clause-fresh : goal.add_to_predecessors-requires-clause-fresh
+add_to_predecessors-requires-clause-fresh c =
+    let old = c.args.nodes.now.items in
+    let same : c.deref_mut.result.now ≡ old = grind (arith, common_steps) in
+    let count : c.len-node.result ≡ length (map (λ n. n.outgoing) old) = grind (arith, common_steps) in
+    rw (same, count) (rows_within (map (λ n. n.outgoing) old) (map (λ n. n.incoming) old) c.requires.mirror)
+
+pub add_to_successors-requires-clause-room : goal.add_to_successors-requires-clause-room
+add_to_successors-requires-clause-room c =
+    let old = c.args.nodes.now.items in
+    let mid = c.add_to_predecessors.new.nodes in
+    let first : c.deref_mut.result.now ≡ old = grind (arith, common_steps) in
+    let second : c.deref_mut-2.result.now ≡ mid = grind (arith, common_steps) in
+    let h = rw first at c.add_to_predecessors.ensures in
+    rw second (λ k d l. HasRoom-less old mid c.args.preds.now c.len-node.result (get_or c.args.succs.now k d)
+    h.outgoing h.incoming (h.kept (get_or c.args.succs.now k d)) (c.requires.ahead k d l)
+    (c.requires.succs k d l))
+
+pub add_to_successors-requires-clause-fresh : goal.add_to_successors-requires-clause-fresh
+add_to_successors-requires-clause-fresh c =
+    let old = c.args.nodes.now.items in
+    let first : c.deref_mut.result.now ≡ old = grind (arith, common_steps) in
+    let second : c.deref_mut-2.result.now ≡ c.add_to_predecessors.new.nodes = grind (arith, common_steps) in
+    let count : c.len-node.result ≡ length (map (λ n. n.incoming) old) = grind (arith, common_steps) in
+    let h = rw first at c.add_to_predecessors.ensures.incoming in
+    rw (second, h, count) (rows_within (map (λ n. n.incoming) old) (map (λ n. n.outgoing) old)
+    (mirror_flip (map (λ n. n.outgoing) old) (map (λ n. n.incoming) old) c.requires.mirror))
+
+pub returns : goal.returns
+returns c =
+    let old = c.args.nodes.now.items in
+    let f : Neighbours → List ℕ = λ n. n.outgoing in
+    let g : Neighbours → List ℕ = λ n. n.incoming in
+    let mid = c.add_to_predecessors.new.nodes in
+    let new = c.add_to_successors.new.nodes in
+    let own = c.args.own in
+    let first : c.deref_mut.result.now ≡ old = grind (arith, common_steps) in
+    let second : c.deref_mut-2.result.now ≡ mid = grind (arith, common_steps) in
+    let out_long = length-map old f in
+    let in_long = length-map old g in
+    let out_count : c.len-node.result ≡ length (map f old) = grind (arith, common_steps) in
+    let in_count : c.len-node.result ≡ length (map g old) = grind (arith, common_steps) in
+    let items : c.append.new.list.items ≡ new ++ own ∷ [] = c.append.ensures ∙
+    ap (λ x. x ++ own ∷ []) (take_at new _ c.args.nodes.now.len (omega arith)) in
+    let h = rw first at c.add_to_predecessors.ensures in
+    let i = rw second at c.add_to_successors.ensures in
+    let out : IsAppended (map f old) (map f new) c.args.preds.now (length (map f old)) =
+    rw (i.outgoing, ← out_count) h.outgoing in
+    let in_ : IsAppended (map g old) (map g new) c.args.succs.now (length (map g old)) =
+    rw (← in_count, ← h.incoming) i.incoming in
+    let placed : All (λ p. p < length (map f old)) c.args.preds.now = rw out_long c.requires.placed in
+    let ahead : All (λ s. s < length (map g old)) c.args.succs.now = rw in_long c.requires.ahead in
+    record {
+      outgoing = rw (items, map_push f new own)
+          (grown (map f old) (map f new) c.args.preds.now own.outgoing placed out);
+      incoming = rw (items, map_push g new own)
+          (grown (map g old) (map g new) c.args.succs.now own.incoming ahead in_);
+    }

@@ -1,9 +1,0 @@
-use Rattle.std.proofs.Common.{◌≡◌, ℕ, ◌<◌, ◌≤◌, length, get_or}
-use Rattle.std.specs.Prelude.{bit_or}
-use Rattle.rv_rows.proofs.row.Row.join.Given as goal
-
-abbrev pub invariant-words : goal.invariant-words
-invariant-words l =
-    (length l.self-inside.words ≡ 64)
-    × ((j : ℕ) → j < l.k → get_or l.self-inside.words j 0 ≡ bit_or (get_or l.initial.self-inside.words j 0) (get_or l.initial.other-inside.words j 0))
-    × ((j : ℕ) → l.k ≤ j → get_or l.self-inside.words j 0 ≡ get_or l.initial.self-inside.words j 0)

@@ -1,0 +1,133 @@
+-- What was put in and taken out, one after another.
+use Rattle.std.proofs.Common.{◌≡◌, true, false, List, Contains, Option, Some, None, Result, Ok, Err, OnOk, OnErr, inl, inr, sym, ap, subst}
+use Rattle.std.specs.Result.{is_err}
+use Rattle.std.proofs.lemmas.Bool.{false≢true}
+use Rattle.std.proofs.lemmas.Option.{none-some}
+use Rattle.rv_event.specs.declared.event.Event.{Event}
+use Rattle.rv_versions.specs.Indexes.{postings_of, own_postings, pair_postings, IsInserted, IsRemoved, IsSame, AreInserted, AreRemoved, AreSame, AreAbsent}
+use Rattle.rv_versions.specs.declared.accesses.Access.{Access}
+use Rattle.rv_versions.specs.declared.accesses.Accesses.{Accesses}
+use Rattle.rv_versions.specs.declared.accesses.Postings.{Postings}
+use Rattle.rv_versions.specs.declared.reservation.Reservation.{Reservation}
+
+pub failed : {X E : Type 0} (r : Result X E) (P : Type 0) → is_err r ≡ true → OnErr r P → P
+failed (Ok x) P e h = absurd (false≢true e)
+failed (Err x) P e h = h
+
+pub went : {X E : Type 0} (r : Result X E) (P : Type 0) → is_err r ≡ false → OnOk r P → P
+went (Ok x) P e h = h
+went (Err x) P e h = absurd (false≢true (sym e))
+
+pub same_itself : (xs ys : List Access) → ys ≡ xs → IsSame xs ys
+same_itself xs ys e x = (
+  λ c. subst (λ (zs : List Access). Contains zs x) e c,
+  λ c. subst (λ
+      (zs : List Access). Contains zs x) (sym e) c,
+)
+
+-- what was put in and taken out again
+pub same_again :
+    (xs ys zs : List Access) (o : Option Access) → ((x : Access) → o ≡ Some x → Contains xs x → ⊥) →
+    IsInserted xs o ys → IsRemoved ys o zs → IsSame xs zs
+same_again xs ys zs o absent put taken x = (to, from)
+  where
+    to : Contains zs x → Contains xs x
+    to c = let h = (taken x).0 c in elim ((put x).0 h.0) [ inl old ↦ old | inr e ↦ absurd (h.1 e) ]
+
+    from : Contains xs x → Contains zs x
+    from c = (taken x).1 ((put x).1 (inl c), λ e. absent x e c)
+
+pub on_err : {X E : Type 0} (r : Result X E) (P : Type 0) → P → OnErr r P
+on_err (Ok x) P h = tt
+on_err (Err x) P h = h
+
+-- ---- one list
+
+-- with no posting the accesses stay the same
+pub put_none : (xs ys : List Access) → IsInserted xs None ys → IsSame xs ys
+put_none xs ys put x = (
+  λ c. elim ((put x).0 c) [ inl d ↦ d | inr e ↦ absurd (none-some x e) ],
+  λ c. (put x).1 (inl c),
+)
+
+pub none_put : (xs ys : List Access) → IsSame xs ys → IsInserted xs None ys
+none_put xs ys same x = (
+  λ c. inl ((same x).0 c),
+  λ h. elim h [ inl c ↦ (same x).1 c | inr e ↦ absurd (none-some x e) ],
+)
+
+taken_none : (xs ys : List Access) → IsRemoved xs None ys → IsSame xs ys
+taken_none xs ys taken x = (λ c. ((taken x).0 c).0, λ c. (taken x).1 (c, λ e. none-some x e))
+
+put_then : (xs ys zs : List Access) (o : Option Access) → IsInserted xs o ys → IsSame ys zs → IsInserted xs o zs
+put_then xs ys zs o put same x = (λ c. (put x).0 ((same x).0 c), λ h. (same x).1 ((put x).1 h))
+
+then_put : (xs ys zs : List Access) (o : Option Access) → IsSame xs ys → IsInserted ys o zs → IsInserted xs o zs
+then_put xs ys zs o same put x = (
+  λ c. elim ((put x).0 c) [ inl d ↦ inl ((same x).0 d) | inr e ↦ inr e ],
+  λ h. (put x).1 (elim h [ inl d ↦ inl ((same x).1 d) | inr e ↦ inr e ]),
+)
+
+taken_then : (xs ys zs : List Access) (o : Option Access) → IsRemoved xs o ys → IsSame ys zs → IsRemoved xs o zs
+taken_then xs ys zs o taken same x = (λ c. (taken x).0 ((same x).0 c), λ h. (same x).1 ((taken x).1 h))
+
+then_taken : (xs ys zs : List Access) (o : Option Access) → IsSame xs ys → IsRemoved ys o zs → IsRemoved xs o zs
+then_taken xs ys zs o same taken x = (
+  λ c. (let h = (taken x).0 c in ((same x).0 h.0, h.1)),
+  λ h. (taken x).1 ((same x).1 h.0, h.1),
+)
+
+-- ---- stores, loads and pairs
+
+pub all_same : (old new : Accesses) (p : Postings) → new ≡ old → AreSame old p new
+all_same old new p e = record {
+  stores = same_itself _ _ (ap (λ (a : Accesses). a.stores) e);
+  loads = same_itself _ _ (ap (λ (a : Accesses). a.loads) e);
+  pairs = same_itself _ _ (ap (λ (a : Accesses). a.pairs) e);
+}
+
+-- the event's own accesses went in, and then what its LR returned
+module _ (e : Event) (r : Reservation) (old mid : Accesses) (put : AreInserted old (own_postings e) mid)
+    (absent : AreAbsent old (postings_of e (Some r))) where
+  pub absent_pair : AreAbsent mid (pair_postings e.id r)
+  absent_pair = record {
+    stores = λ x q. absurd (none-some x q);
+    loads = λ x q. absurd (none-some x q);
+    pairs = λ x q c. absent.pairs x q ((put_none old.pairs mid.pairs put.pairs x).0 c);
+  }
+
+  pub both_inserted : (new : Accesses) → AreInserted mid (pair_postings e.id r) new →
+      AreInserted old (postings_of e (Some r)) new
+  both_inserted new more = record {
+    stores = put_then old.stores mid.stores new.stores (own_postings e).store put.stores
+        (put_none mid.stores new.stores more.stores);
+    loads = put_then old.loads mid.loads new.loads (own_postings e).load put.loads
+        (put_none mid.loads new.loads more.loads);
+    pairs = then_put old.pairs mid.pairs new.pairs (pair_postings e.id r).pair
+        (put_none old.pairs mid.pairs put.pairs) more.pairs;
+  }
+
+  -- its own went in and out again, since what its LR returned did not go in
+  pub undone :
+      (back new : Accesses) → AreSame mid (pair_postings e.id r) back → AreRemoved back (own_postings e) new →
+      AreSame old (postings_of e (Some r)) new
+  undone back new same taken = record {
+    stores = same_again old.stores back.stores new.stores (own_postings e).store absent.stores
+        (put_then old.stores mid.stores back.stores (own_postings e).store put.stores same.stores) taken.stores;
+    loads = same_again old.loads back.loads new.loads (own_postings e).load absent.loads
+        (put_then old.loads mid.loads back.loads (own_postings e).load put.loads same.loads) taken.loads;
+    pairs = same_again old.pairs back.pairs new.pairs None (λ x q. absurd (none-some x q))
+        (put_then old.pairs mid.pairs back.pairs None put.pairs same.pairs) taken.pairs;
+  }
+
+pub both_removed :
+    (e : Event) (r : Reservation) (old mid new : Accesses) → AreRemoved old (own_postings e) mid →
+    AreRemoved mid (pair_postings e.id r) new → AreRemoved old (postings_of e (Some r)) new
+both_removed e r old mid new taken more = record {
+  stores = taken_then old.stores mid.stores new.stores (own_postings e).store taken.stores
+      (taken_none mid.stores new.stores more.stores);
+  loads = taken_then old.loads mid.loads new.loads (own_postings e).load taken.loads
+      (taken_none mid.loads new.loads more.loads);
+  pairs = then_taken old.pairs mid.pairs new.pairs (pair_postings e.id r).pair
+      (taken_none old.pairs mid.pairs taken.pairs) more.pairs;
+}

@@ -1,0 +1,16 @@
+use Rattle.std.proofs.Common.{Option, sym, subst}
+use Rattle.rv_versions.specs.Indexes.{postings_of, AreRemoved}
+use Rattle.rv_versions.specs.declared.accesses.Postings.{Postings}
+use Rattle.rv_versions.specs.declared.reservation.Reservation.{Reservation}
+use Rattle.rv_versions.proofs.Posted.{both_removed}
+use Rattle.rv_versions.proofs.indexes.Indexes.remove.Goals as goal
+
+pub returns : goal.returns
+returns c =
+    let old = c.args.self.now in
+    let mid = c.remove_from.new.self in
+    let new = c.remove_from-2.new.self in
+    subst (λ (o : Option Reservation). AreRemoved old (postings_of c.args.event.now o) new) (sym c.in-Some.is)
+    (both_removed c.args.event.now c.in-Some.reservation old mid new
+    (subst (λ (p : Postings). AreRemoved old p mid) c.own_postings.ensures c.remove_from.ensures)
+    (subst (λ (p : Postings). AreRemoved mid p new) c.pair_postings.ensures c.remove_from-2.ensures))

@@ -1,0 +1,48 @@
+use Rattle.std.proofs.Common.{◌≡◌, Some, get_or, set, nat_eq, sym, subst}
+use Rattle.std.specs.HashMap.{get}
+use Rattle.rv_versions.specs.Indexes.{AreRemoved}
+use Rattle.rv_versions.specs.Words.{no_accesses, together}
+use Rattle.rv_versions.specs.declared.accesses.Accesses.{Accesses}
+use Rattle.rv_versions.proofs.Placed.{here_is, from_removed, still_in_place, are_removed, none_removed}
+use Rattle.rv_versions.proofs.indexes.Indexes.remove_from.Goals.{After-remove}
+use Rattle.rv_versions.proofs.indexes.Indexes.remove_from.Goals as goal
+
+number : (c : After-remove) → get nat_eq c.self.inside.places c.args.word ≡ Some c.in-Some.place.now
+number c = sym c.in-Some.ensures.value
+
+-- from those to the word
+taken : (c : After-remove) →
+    AreRemoved (get_or c.self.inside.words.items c.in-Some.place.now no_accesses) c.args.postings c.remove.new.self
+taken c =
+    let words = c.self.inside.words.items in
+    let k = c.in-Some.place.now in
+    subst (λ (old : Accesses). AreRemoved old c.args.postings c.remove.new.self)
+    (sym (here_is words k c.index_mut-accesses.result.now no_accesses
+    (c.self.invariant.0.numbers.known c.args.word k (number c)) c.index_mut-accesses.ensures.value)) c.remove.ensures
+
+pub returns-in_default : goal.returns-in_default
+returns-in_default c =
+    subst (λ (all : Accesses). AreRemoved all c.args.postings all) c.self.view_is
+    (none_removed (get nat_eq c.self.inside.places) c.self.inside.words.items c.self.invariant.0 c.args.word
+    c.args.postings c.requires (sym c.in_default.ensures.value))
+
+pub invariant_of-self : goal.invariant_of-self
+invariant_of-self c =
+    let r = (goal.at.invariant_of-self c).After-remove in
+    let words = c.self.inside.words.items in
+    let k = c.in-Some.place.now in (
+      still_in_place (get nat_eq c.self.inside.places) words c.self.invariant.0 c.args.word k c.args.postings
+          c.remove.new.self (number r) c.requires
+          (from_removed (get_or words k no_accesses) c.remove.new.self c.args.postings (taken r)),
+      c.self.invariant.1,
+    )
+
+pub returns : goal.returns
+returns c =
+    let r = (goal.at.returns c).After-remove in
+    let words = c.self.inside.words.items in
+    let k = c.in-Some.place.now in
+    let w = c.remove.new.self in
+    subst (λ (all : Accesses). AreRemoved all c.args.postings (together (set words k w))) c.self.view_is
+    (are_removed (get nat_eq c.self.inside.places) words c.self.invariant.0 c.args.word k c.args.postings w (number r)
+    c.requires (taken r))
