@@ -36,32 +36,86 @@ fn check_order(rt: &impl Abort, ranks: &Ranks, want: &[u32]) {
     assert_eq!(rt; nodes.as_slice(), want);
 }
 
+/// A placement, and what it comes to.
+struct Worked {
+    preds: &'static [u32],
+    succs: &'static [u32],
+    /// The new node, how many nodes move, and how many are visited; nothing of it where the node is refused.
+    placed: [u32; 3],
+    /// The path that refuses the node; none where it is placed.
+    circle: &'static [u32],
+    /// The nodes by rank after it.
+    order: &'static [u32],
+}
+
+/// Placements one after another, after four nodes without edges.
+const WORKED: [Worked; 5] = [
+    Worked {
+        preds: &[3],
+        succs: &[1],
+        placed: [4, 2, 2],
+        circle: &[],
+        order: &[0, 3, 2, 4, 1],
+    },
+    Worked {
+        preds: &[1],
+        succs: &[3],
+        placed: [0, 0, 0],
+        circle: &[3, 4, 1],
+        order: &[0, 3, 2, 4, 1],
+    },
+    Worked {
+        preds: &[0],
+        succs: &[2],
+        placed: [5, 1, 1],
+        circle: &[],
+        order: &[0, 3, 5, 4, 1, 2],
+    },
+    Worked {
+        preds: &[0],
+        succs: &[0],
+        placed: [0, 0, 0],
+        circle: &[0],
+        order: &[0, 3, 5, 4, 1, 2],
+    },
+    Worked {
+        preds: &[2],
+        succs: &[],
+        placed: [6, 0, 0],
+        circle: &[],
+        order: &[0, 3, 5, 4, 1, 2, 6],
+    },
+];
+
+/// The placements.
+fn placements() -> &'static [Worked] {
+    &WORKED
+}
+
+/// Places a node, and looks at the answer and the order.
+fn check_worked(rt: &impl Abort, ranks: &mut Ranks, want: &Worked) {
+    match place(rt, ranks, want.preds, want.succs) {
+        Ok(placed) => {
+            assert_eq!(rt; [placed.node, placed.moved, placed.visited], want.placed);
+            assert!(rt; want.circle.is_empty());
+        }
+        Err(Refused::Circle(path)) => assert_eq!(rt; path.as_slice(), want.circle),
+        Err(Refused::NoMemory) => assert!(rt; false),
+    }
+    check_order(rt, ranks, want.order);
+}
+
 #[test]
-fn worked_rows(rt: HostRuntime) {
+fn worked_placements(rt: HostRuntime) {
     let mut ranks = Ranks::new(rt.alloc());
     assert!(rt; ranks.is_empty());
     for node in 0..4 {
         let placed = place(&rt, &mut ranks, &[], &[]).expect(&rt, "placed");
-        assert_eq!(rt; (placed.node, placed.moved, placed.visited), (node, 0, 0));
+        assert_eq!(rt; [placed.node, placed.moved, placed.visited], [node, 0, 0]);
     }
     check_order(&rt, &ranks, &[0, 1, 2, 3]);
-    let rows: [(&[u32], &[u32], (u32, u32, u32), &[u32], &[u32]); 5] = [
-        (&[3], &[1], (4, 2, 2), &[], &[0, 3, 2, 4, 1]),
-        (&[1], &[3], (0, 0, 0), &[3, 4, 1], &[0, 3, 2, 4, 1]),
-        (&[0], &[2], (5, 1, 1), &[], &[0, 3, 5, 4, 1, 2]),
-        (&[0], &[0], (0, 0, 0), &[0], &[0, 3, 5, 4, 1, 2]),
-        (&[2], &[], (6, 0, 0), &[], &[0, 3, 5, 4, 1, 2, 6]),
-    ];
-    for (preds, succs, counts, circle, order) in rows {
-        match place(&rt, &mut ranks, preds, succs) {
-            Ok(placed) => {
-                assert_eq!(rt; (placed.node, placed.moved, placed.visited), counts);
-                assert!(rt; circle.is_empty());
-            }
-            Err(Refused::Circle(path)) => assert_eq!(rt; path.as_slice(), circle),
-            Err(Refused::NoMemory) => assert!(rt; false),
-        }
-        check_order(&rt, &ranks, order);
+    for one in placements() {
+        check_worked(&rt, &mut ranks, one);
     }
     assert_eq!(rt; ranks.len(), 7);
     assert!(rt; 5 < ranks.len());
@@ -163,38 +217,66 @@ fn check_circle(rt: &impl Abort, edges: &[(u32, u32)], preds: &[u32], succs: &[u
     }
 }
 
-/// Places a fifth node in a graph, and compares the answer and the order with brute force.
-fn check_placement(rt: &impl Abort, alloc: Global, graph: &Graph, preds: &[u32], succs: &[u32]) {
+/// The nodes from the first successor on, by rank.
+fn from_successors(rt: &impl Abort, alloc: Global, order: &[u32], succs: &[u32]) -> Vec<u32> {
+    let mut high = Vec::new(alloc);
+    for node in order.iter().skip_while(|node| !succs.contains(node)) {
+        high.push(*node).expect(rt, "memory");
+    }
+    high
+}
+
+/// At how many places the two orders differ.
+fn count_moved(before: &[u32], after: &[u32]) -> usize {
+    before
+        .iter()
+        .zip(after)
+        .filter(|(one, two)| one != two)
+        .count()
+}
+
+/// Compares the order after a placement, and what it tells of itself, with brute force.
+fn check_placed(
+    rt: &impl Abort,
+    alloc: Global,
+    ranks: &Ranks,
+    placed: &Placed,
+    before: &[u32],
+    behind: &[u32],
+    ahead: &[u32],
+) {
+    let want = mended(rt, alloc, before, behind, ahead);
+    check_order(rt, ranks, &want);
+    assert_eq!(rt; placed.node, 4);
+    assert_eq!(rt; placed.moved as usize, count_moved(before, &want));
+    assert_eq!(rt; placed.visited as usize, behind.len() + ahead.len());
+}
+
+/// The graph in an order keeper.
+fn keeper_of(rt: &impl Abort, alloc: Global, graph: &Graph) -> Ranks {
     let mut ranks = Ranks::new(alloc);
     for (preds, succs) in graph {
         assert!(rt; place(rt, &mut ranks, preds, succs).is_ok());
     }
+    ranks
+}
+
+/// Places a fifth node in a graph, and compares the answer and the order with brute force.
+fn check_placement(rt: &impl Abort, alloc: Global, graph: &Graph, preds: &[u32], succs: &[u32]) {
+    let mut ranks = keeper_of(rt, alloc, graph);
     let before = ranks.order().expect(rt, "memory");
     let edges = edges_of(rt, alloc, graph);
     let ahead = reached(rt, alloc, &edges, succs);
+    let is_circle = preds.iter().any(|pred| ahead.contains(pred));
     match place(rt, &mut ranks, preds, succs) {
         Ok(placed) => {
-            assert!(rt; !preds.iter().any(|pred| ahead.contains(pred)));
-            let mut high = Vec::new(alloc);
-            for node in before.iter().skip_while(|node| !succs.contains(node)) {
-                high.push(*node).expect(rt, "memory");
-            }
+            assert!(rt; !is_circle);
+            let high = from_successors(rt, alloc, &before, succs);
             let behind = reaching(rt, alloc, &edges, preds, &high);
-            let want = mended(rt, alloc, &before, &behind, &ahead);
-            check_order(rt, &ranks, &want);
-            let moved = before
-                .iter()
-                .zip(&want)
-                .filter(|(one, two)| one != two)
-                .count();
-            assert_eq!(rt; (placed.node, placed.moved as usize), (4, moved));
-            assert_eq!(rt;
-                placed.visited as usize,
-                behind.iter().chain(&ahead).count()
-            );
+            check_placed(rt, alloc, &ranks, &placed, &before, &behind, &ahead);
         }
         Err(Refused::Circle(path)) => {
-            assert!(rt; preds.iter().any(|pred| ahead.contains(pred)));
+            assert!(rt; is_circle);
             check_circle(rt, &edges, preds, succs, &path);
             check_order(rt, &ranks, &before);
         }
