@@ -117,10 +117,6 @@ zero_words k = go (cases_lt k 64)
     go (inl low) = get_or-replicate 64 k 0 0 low
     go (inr high) = get_or_past zeros k 0 (omega (arith, length-replicate {A = ℕ} 64 0))
 
--- past the words no number is
-pub past_bit : (words : List ℕ) (i : ℕ) → length words ≤ i / 64 → has_bit words i ≡ false
-past_bit words i high = ap (λ x. bit_at x (i % 64) == 1) (get_or_past words (i / 64) 0 high) ∙ ap (λ x. x == 1) (bit_at-zero (i % 64))
-
 -- an empty word has no number
 pub zero_bit : (words : List ℕ) (i : ℕ) → word words i ≡ 0 → has_bit words i ≡ false
 zero_bit words i none = ap (λ x. bit_at x (i % 64) == 1) none ∙ ap (λ x. x == 1) (bit_at-zero (i % 64))
