@@ -7,7 +7,7 @@ use Rattle.std.proofs.Math.Nat.{two-pow-succ, mod-lt, suc-mul}
 use Rattle.std.proofs.lemmas.Nat.Bits.{bit_at-lt, bit_at_or, bit_at_and, bit_at_not, bit_at-zero, bit_at_set_same, bit_at_set_other, bit_at_above}
 use Rattle.std.specs.Prelude.{bit_and, bit_or}
 use Rattle.std.specs.Int.{bit_at, bit_not, leading_zeros}
-use Rattle.rv_rows.specs.Bits.{has_bit, Has, IsBetween}
+use Rattle.rv_rows.specs.Bits.{has_bit, Has, IsBetween, AreEnds}
 use Rattle.rv_rows.specs.Flat.{shifted}
 
 or_is : (x y : ℕ) → x < 2 → y < 2 → (max x y == 1) ≡ ((x == 1) || (y == 1))
@@ -224,3 +224,7 @@ none_at_all words low high limit top start k between enough least first below em
     go : (j / 64 < k) ⊎ (k ≤ j / 64) → has_bit words j ≡ false
     go (inl before) = zero_bit words j (between.before (j / 64) (omega arith))
     go (inr from) = none_from words low high limit top start k between enough least below empty j from
+
+-- all words in use lie between the ends
+pub between : (words : List ℕ) (first end : ℕ) → AreEnds words first end → IsBetween words first end
+between words first end ends = record { few = ends.is_end.few; before = ends.is_first.before; after = ends.is_end.after }

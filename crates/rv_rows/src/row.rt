@@ -1,14 +1,14 @@
 //! A set of numbers below 4,096.
 ghost use Rattle.std.specs.Prelude.{ℕ, not, ◌≡◌, ◌+◌, ◌<◌, ◌≤◌, ◌==◌, ◌&&◌, ◌||◌, false, length};
-ghost use Rattle.rv_rows.specs.Bits.{Has, has_bit, IsHighest};
+ghost use Rattle.rv_rows.specs.Bits.{AreEnds, Has, has_bit, IsBetween, IsEnd, IsFirst, IsHighest};
 ghost use Rattle.rv_rows.specs.Flat.{shifted};
 
 use std::marker::Model;
 
 /// A set of numbers below 4,096. It takes 528 bytes and no memory of the allocator.
 ///
-/// Contracts see it as its words, and read it with `has_bit`. Its type keeps that the words before `low` and those from
-/// `high` on are 0, so that a small set costs few steps.
+/// Contracts see it as its words, and read it with `has_bit`. Its type keeps that `low` is the place of the first word that
+/// is not 0, and that `high` is the place behind the last one, so that a small set costs few steps.
 #[derive(Drop)]
 pub struct Row {
     words: [u64; 64],
@@ -18,13 +18,13 @@ pub struct Row {
 
 impl Model for Row {
     ghost use Rattle.std.specs.Prelude.{List, ℕ};
-    ghost use Rattle.rv_rows.specs.Bits.{IsBetween};
+    ghost use Rattle.rv_rows.specs.Bits.{AreEnds};
 
     ghost Value = { List ℕ };
 
     ghost view = { λ r. r.words };
 
-    ghost invariant = { λ r. IsBetween r.words r.low r.high };
+    ghost invariant = { λ r. AreEnds r.words r.low r.high };
 }
 
 impl Row {
@@ -53,8 +53,9 @@ impl Row {
         ensures { (j : ℕ) → has_bit self.new j ≡ (has_bit self.old j || (i == j)) }
     {
         self.words[i / 64] |= 1u64 << (i % 64);
-        self.low = self.low.min(i / 64);
-        self.high = self.high.max(i / 64 + 1);
+        let (low, high) = ends(&self.words, self.low.min(i / 64), self.high.max(i / 64 + 1));
+        self.low = low;
+        self.high = high;
     }
 
     /// Puts in all that the other set has. It costs a step for each word of the other set from its first number to its
@@ -77,8 +78,13 @@ impl Row {
         'words: for k in 0..words.len() {
             self.words[first + k] |= words[k];
         }
-        self.low = self.low.min(first);
-        self.high = self.high.max(first + words.len());
+        let (low, high) = ends(
+            &self.words,
+            self.low.min(first),
+            self.high.max(first + words.len()),
+        );
+        self.low = low;
+        self.high = high;
     }
 
     /// Takes out the numbers that the words have, the first of which stands at the given place.
@@ -92,6 +98,9 @@ impl Row {
             let theirs = words[k - first];
             self.words[k] &= !theirs;
         }
+        let (low, high) = ends(&self.words, self.low, self.high);
+        self.low = low;
+        self.high = high;
     }
 
     /// The words that have the set's numbers, and the place of the first of them; none of an empty set.
@@ -120,4 +129,41 @@ impl Row {
         }
         None
     }
+}
+
+/// The place of the first word that is not 0, 64 where there is none, and the place behind the last one, 0 where there is
+/// none. The search begins at the given places, outside of which all words are 0.
+fn ends(words: &[u64; 64], from: usize, to: usize) -> (usize, usize)
+    requires { IsBetween words.now from to }
+    ensures { AreEnds words.now result.0 result.1 }
+{
+    (first_used(words, from, to), end_used(words, from, to))
+}
+
+/// The place of the first word that is not 0, 64 where there is none.
+fn first_used(words: &[u64; 64], from: usize, to: usize) -> usize
+    requires { IsBetween words.now from to }
+    ensures { IsFirst words.now result }
+{
+    'words: for k in from..to {
+        if words[k] != 0 {
+            return k;
+        }
+    }
+    64
+}
+
+/// The place behind the last word that is not 0, 0 where there is none.
+fn end_used(words: &[u64; 64], from: usize, to: usize) -> usize
+    requires { IsBetween words.now from to }
+    ensures { IsEnd words.now result }
+{
+    let mut k = to;
+    'words: while k > from {
+        if words[k - 1] != 0 {
+            return k;
+        }
+        k -= 1;
+    }
+    0
 }

@@ -2,15 +2,15 @@ use Rattle.std.proofs.Common.{arith, sym, ◌∙◌}
 use Rattle.rv_rows.proofs.Words.{joined_part}
 use Rattle.rv_rows.proofs.row.Row.join_words.Goals as goal
 
-pub invariant_of-self : goal.invariant_of-self
-invariant_of-self c =
+pub ends-low-requires : goal.ends-low-requires
+ends-low-requires c =
     let low = c.words.invariant.4 in
     let high = c.words.invariant.5 in
-    let within = c.self.invariant.few in
+    let within = c.self.invariant.is_end.few in
     record {
       few = omega (arith, c.requires);
-      before = λ k less. c.words.invariant.2 k (omega arith) ∙ c.self.invariant.before k (omega arith);
-      after = λ k more. c.words.invariant.3 k (omega arith) ∙ c.self.invariant.after k (omega arith);
+      before = λ k less. c.words.invariant.2 k (omega arith) ∙ c.self.invariant.is_first.before k (omega arith);
+      after = λ k more. c.words.invariant.3 k (omega arith) ∙ c.self.invariant.is_end.after k (omega arith);
     }
 
 pub returns : goal.returns

@@ -6,9 +6,8 @@ use Rattle.rv_rows.proofs.row.Row.new.Goals as goal
 
 pub invariant_of-result : goal.invariant_of-result
 invariant_of-result c = record {
-  few = omega arith;
-  before = λ k low. zero_words k;
-  after = λ k high. zero_words k;
+  is_first = record { before = λ k low. zero_words k; used = λ below. absurd (omega arith) };
+  is_end = record { few = omega arith; after = λ k high. zero_words k; used = λ above. absurd (omega arith) };
 }
 
 pub returns : goal.returns

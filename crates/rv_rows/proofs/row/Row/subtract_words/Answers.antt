@@ -4,15 +4,15 @@ use Rattle.rv_rows.proofs.Words.{cut_part, shifted_before, shifted_after}
 use Rattle.rv_rows.specs.Flat.{shifted}
 use Rattle.rv_rows.proofs.row.Row.subtract_words.Goals as goal
 
-pub invariant_of-self : goal.invariant_of-self
-invariant_of-self c =
+pub ends-low-requires : goal.ends-low-requires
+ends-low-requires c =
     let low = c.words.invariant.5 in
     let high = c.words.invariant.6 in
-    let within = c.self.invariant.few in
+    let within = c.self.invariant.is_end.few in
     record {
       few = omega arith;
-      before = λ k less. c.words.invariant.2 k (omega arith) ∙ c.self.invariant.before k (omega arith);
-      after = λ k more. unchanged k (cases_lt k c.max-from.result) (omega arith) ∙ c.self.invariant.after k (omega arith);
+      before = λ k less. c.words.invariant.2 k (omega arith) ∙ c.self.invariant.is_first.before k (omega arith);
+      after = λ k more. unchanged k (cases_lt k c.max-from.result) (omega arith) ∙ c.self.invariant.is_end.after k (omega arith);
     }
   where
     unchanged : (k : ℕ) → (k < c.max-from.result) ⊎ (c.max-from.result ≤ k) → c.self.inside.high ≤ k → get_or c.words.self-inside.words k 0 ≡ get_or c.self.inside.words k 0
@@ -30,11 +30,11 @@ returns c j =
 
     first : (k : ℕ) → (k < c.args.first) ⊎ (c.args.first ≤ k) → k < c.max-from.result → (get_or c.self.inside.words k 0 ≡ 0) ⊎ (get_or (shifted c.args.first c.args.words.now) k 0 ≡ 0)
     first k (inl before) _ = inr (shifted_before c.args.first c.args.words.now k before)
-    first k (inr here) low = inl (c.self.invariant.before k (omega arith))
+    first k (inr here) low = inl (c.self.invariant.is_first.before k (omega arith))
 
     last : (k : ℕ) → (k < c.self.inside.high) ⊎ (c.self.inside.high ≤ k) → c.words.k ≤ k → (get_or c.self.inside.words k 0 ≡ 0) ⊎ (get_or (shifted c.args.first c.args.words.now) k 0 ≡ 0)
     last k (inl before) high = inr (shifted_after c.args.first c.args.words.now k (omega arith))
-    last k (inr after) _ = inl (c.self.invariant.after k after)
+    last k (inr after) _ = inl (c.self.invariant.is_end.after k after)
 
     empty : (k : ℕ) → (k < c.max-from.result) ⊎ (c.words.k ≤ k) → (get_or c.self.inside.words k 0 ≡ 0) ⊎ (get_or (shifted c.args.first c.args.words.now) k 0 ≡ 0)
     empty k (inl before) = first k (cases_lt k c.args.first) before
