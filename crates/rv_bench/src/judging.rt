@@ -24,6 +24,8 @@ enum Shape {
     EightWords,
     /// Loads and stores of 4,096 words.
     ManyWords,
+    /// Loads and stores of words at random, so many that each has sixteen events.
+    SixteenEach,
     /// Each hart loads one word again and again.
     Spinning,
     /// Each hart loads words in turn.
@@ -38,6 +40,7 @@ impl Shape {
         match name {
             "8-words" => Some(Shape::EightWords),
             "4096-words" => Some(Shape::ManyWords),
+            "sixteen-each" => Some(Shape::SixteenEach),
             "spinning" => Some(Shape::Spinning),
             "roaming" => Some(Shape::Roaming),
             "fenced" => Some(Shape::Fenced),
@@ -46,10 +49,11 @@ impl Shape {
     }
 
     /// The word of an event, by the event's number and some number.
-    fn word(self, hart: u32, seq: u32, some: u32) -> u32 {
+    fn word(self, hart: u32, seq: u32, some: u32, count: u32) -> u32 {
         match self {
             Shape::EightWords | Shape::Fenced => some % 8,
             Shape::ManyWords => some % 4096,
+            Shape::SixteenEach => some % (count / 16).max(1),
             Shape::Spinning => hart,
             Shape::Roaming => seq % 4096,
         }
@@ -58,7 +62,9 @@ impl Shape {
     /// Whether the event is a store.
     fn is_store(self, some: u32) -> bool {
         match self {
-            Shape::EightWords | Shape::ManyWords | Shape::Fenced => some / 4096 % 2 == 0,
+            Shape::EightWords | Shape::ManyWords | Shape::SixteenEach | Shape::Fenced => some / 4096
+                % 2
+                == 0,
             Shape::Spinning | Shape::Roaming => false,
         }
     }
@@ -87,7 +93,7 @@ fn text_of(alloc: Global, shape: Shape, count: u32) -> Result<String, AllocError
         state = next(state);
         let some = (state >> 33) as u32;
         let (hart, seq) = (i % HARTS, i / HARTS);
-        let word = shape.word(hart, seq, some) % 4096;
+        let word = shape.word(hart, seq, some, count) % 4096;
         let version = versions[word as usize];
         let row = if shape.is_fence(seq) {
             format!(in alloc; "{hart},{seq},F,,,,rw-rw,\n")?

@@ -7,8 +7,8 @@
 //! - `stepping`: sources in threads, in step and not.
 //!
 //! `rt run` in this folder builds it; `out/rv_bench reading placing stepping` then prints each cost as the least of many runs,
-//! and `out/rv_bench 8-words:65536` what judging such a trace once costs; `4096-words`, `spinning`, `roaming` and `fenced` are
-//! the other shapes. `docs/BENCHMARKS.md` and `docs/SPEED.md` have what was seen.
+//! and `out/rv_bench 8-words:65536` what judging such a trace once costs; `4096-words`, `sixteen-each`, `spinning`, `roaming` and
+//! `fenced` are the other shapes. `docs/BENCHMARKS.md` and `docs/SPEED.md` have what was seen.
 #![tactic(auto)]
 
 mod judging;

@@ -4,8 +4,8 @@ use crate::circles::{WorkedCircle, circles, total_store_circles};
 use crate::refused::{STALE, TAKEN};
 use crate::rows::{Row, event_of, id};
 use rv_book::{Book, Offer};
-use rv_cert::{Certificate, Verdict, check};
-use rv_event::{Entry, Fault, Id, MemoryModel};
+use rv_cert::{Certificate, Forbidden, Verdict, check};
+use rv_event::{Entry, Fault, Id, MemoryModel, Reason};
 use std::alloc::Global;
 use std::process::Abort;
 
@@ -81,11 +81,19 @@ fn allowed_executions_are_accepted_in_other_orders_too(rt: HostRuntime) {
     }
 }
 
-/// Whether the entry is refused as forbidden by a circle of just these steps, which the checker takes.
-fn is_forbidden_by(offer: &Offer, steps: &[(Id, rv_event::Reason)]) -> bool {
-    let Offer::Forbidden(Verdict::Forbidden(forbidden)) = offer else {
-        return false;
-    };
+/// How an entry is refused.
+#[derive(Clone, Copy)]
+enum Refusal {
+    /// As forbidden, by a circle of just these steps.
+    Circle(&'static [(Id, Reason)]),
+    /// As forbidden, as the load read below the store.
+    Stale { load: Id, store: Id },
+    /// As malformed, with this fault.
+    Malformed(Fault),
+}
+
+/// Whether the verdict is about a circle of just these steps, and the checker takes it.
+fn is_by_circle(forbidden: &Forbidden, steps: &[(Id, Reason)]) -> bool {
     let Certificate::Circle(circle) = forbidden.certificate() else {
         return false;
     };
@@ -97,72 +105,83 @@ fn is_forbidden_by(offer: &Offer, steps: &[(Id, rv_event::Reason)]) -> bool {
         )
 }
 
-/// Whether the load is refused, as it read below the store.
-fn is_stale(offer: &Offer, load: Id, store: Id) -> bool {
-    let Offer::Forbidden(Verdict::Forbidden(forbidden)) = offer else {
+/// Whether the verdict is that the load read below the store.
+fn is_stale(forbidden: &Forbidden, above: Id, below: Id) -> bool {
+    let Certificate::Stale { load, store } = forbidden.certificate() else {
         return false;
     };
-    let Certificate::Stale {
-        load: above,
-        store: below,
-    } = forbidden.certificate()
-    else {
-        return false;
-    };
-    *above == load && *below == store && forbidden.refused() == load
+    *load == above && *store == below && forbidden.refused() == above
 }
 
-/// Whether the entry is refused as malformed, with this fault.
-fn is_malformed(offer: &Offer, fault: Fault) -> bool {
-    let Offer::Malformed(Verdict::Malformed(malformed)) = offer else {
-        return false;
-    };
-    malformed.fault() == fault
+/// Whether the offer refuses its entry so.
+fn is_refused_as(offer: &Offer, refusal: Refusal) -> bool {
+    match (offer, refusal) {
+        (Offer::Forbidden(Verdict::Forbidden(forbidden)), Refusal::Circle(steps)) => {
+            is_by_circle(forbidden, steps)
+        }
+        (Offer::Forbidden(Verdict::Forbidden(forbidden)), Refusal::Stale { load, store }) => {
+            is_stale(forbidden, load, store)
+        }
+        (Offer::Malformed(Verdict::Malformed(malformed)), Refusal::Malformed(fault)) => {
+            malformed.fault() == fault
+        }
+        _ => false,
+    }
 }
 
-/// Whether the book refuses the entry by a circle of just these steps, and is stopped from then on.
-fn refuses(book: &mut Book, entry: &Entry, steps: &[(Id, rv_event::Reason)]) -> bool {
+/// Whether the book refuses the entry so, and is stopped from then on.
+fn refuses(book: &mut Book, entry: &Entry, refusal: Refusal) -> bool {
     let offer = book.offer(entry);
     let again = book.offer(entry);
-    is_forbidden_by(&offer, steps) && book.stopped() && matches!(again, Offer::Stopped)
+    is_refused_as(&offer, refusal) && book.stopped() && matches!(again, Offer::Stopped)
 }
 
-/// The book accepts all rows but the last, refuses that one, and is stopped from then on.
-fn assert_refused(rt: &impl Abort, alloc: Global, circle: &WorkedCircle) {
-    let [before @ .., last] = circle.rows else {
-        return;
-    };
-    let mut book = book_of(rt, alloc, circle.model, before);
+/// The book accepts all rows but the last, refuses that one so, and is stopped from then on.
+fn assert_refused(
+    rt: &impl Abort,
+    alloc: Global,
+    name: &str,
+    (model, rows): (MemoryModel, &[Row]),
+    refusal: Refusal,
+) {
+    let (last, before) = rows.split_last().expect(rt, "a row");
+    let mut book = book_of(rt, alloc, model, before);
     let entry = entry_of(rt, alloc, last);
-    assert!(rt; refuses(&mut book, &entry, circle.edges), "{}", circle.name);
-    assert!(rt; book.accepted() == before.len(), "{}", circle.name);
+    assert!(rt; refuses(&mut book, &entry, refusal), "{name}");
+    assert!(rt; book.accepted() == before.len(), "{name}");
+}
+
+/// The last row of the execution is refused by its circle.
+fn assert_circle(rt: &impl Abort, alloc: Global, circle: &WorkedCircle) {
+    let refusal = Refusal::Circle(circle.edges);
+    assert_refused(rt, alloc, circle.name, (circle.model, circle.rows), refusal);
 }
 
 #[test]
 fn forbidden_executions_are_refused_with_their_circle(rt: HostRuntime) {
     for circle in circles() {
         if circle.name != "no forwarding from an AMO, by the higher rule" {
-            assert_refused(&rt, rt.alloc(), circle);
+            assert_circle(&rt, rt.alloc(), circle);
         }
     }
     for circle in total_store_circles() {
-        assert_refused(&rt, rt.alloc(), circle);
+        assert_circle(&rt, rt.alloc(), circle);
     }
 }
 
 #[test]
 fn a_stale_load_is_refused_with_its_store(rt: HostRuntime) {
-    let mut book = book_of(&rt, rt.alloc(), MemoryModel::Rvwmo, &STALE[..1]);
-    let entry = entry_of(&rt, rt.alloc(), &STALE[1]);
-    let offer = book.offer(&entry);
-    assert!(rt; is_stale(&offer, id!(0: 1), id!(0: 0)));
+    let refusal = Refusal::Stale {
+        load: id!(0: 1),
+        store: id!(0: 0),
+    };
+    let rows = (MemoryModel::Rvwmo, STALE.as_slice());
+    assert_refused(&rt, rt.alloc(), "a stale load", rows, refusal);
 }
 
 #[test]
 fn a_malformed_entry_is_refused_with_its_fault(rt: HostRuntime) {
-    let mut book = book_of(&rt, rt.alloc(), MemoryModel::Rvwmo, &TAKEN[..1]);
-    let entry = entry_of(&rt, rt.alloc(), &TAKEN[1]);
-    let offer = book.offer(&entry);
-    assert!(rt; is_malformed(&offer, Fault::VersionTaken(id!(0: 0))));
-    assert!(rt; book.stopped() && book.accepted() == 1);
+    let refusal = Refusal::Malformed(Fault::VersionTaken(id!(0: 0)));
+    let rows = (MemoryModel::Rvwmo, TAKEN.as_slice());
+    assert_refused(&rt, rt.alloc(), "a version that is taken", rows, refusal);
 }

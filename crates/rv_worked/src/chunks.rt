@@ -64,11 +64,19 @@ const EIGHT: &[Row] = &[
     load!(0: 7, Y = 1),
 ];
 
+const TWO: &[Row] = &[store!(0: 8, Y = 2), load!(0: 9, X = 4)];
+
+/// The events of a hart's first chunk and of its second one. What they are is told to no proof.
+fn eight_and_two() -> (&'static [Row], &'static [Row]) {
+    (EIGHT, TWO)
+}
+
 #[test]
 fn chunks_are_applied_in_order_and_once(rt: HostRuntime) {
     let alloc = rt.alloc();
-    let first = chunk_of(&rt, alloc, 0, EIGHT);
-    let second = chunk_of(&rt, alloc, 1, &[store!(0: 8, Y = 2), load!(0: 9, X = 4)]);
+    let (eight, two) = eight_and_two();
+    let first = chunk_of(&rt, alloc, 0, eight);
+    let second = chunk_of(&rt, alloc, 1, two);
     let mut book = Book::new(alloc, MemoryModel::Rvwmo);
     assert_applied_in_order(&rt, &mut book, (&first, 8), (&second, 2));
     assert!(rt; book.accepted() == 10);
@@ -126,15 +134,17 @@ fn a_chunk_gives_its_events_back_and_they_are_copied(rt: HostRuntime) {
     assert!(rt; events.len() == 8);
 }
 
+const STALE_INSIDE: &[Row] = &[store!(0: 0, X = 1), load!(0: 1, X = 0), store!(0: 2, Y = 1)];
+
+/// A store, a load that reads below it, and a store more. What they are is told to no proof.
+fn stale_inside() -> &'static [Row] {
+    STALE_INSIDE
+}
+
 #[test]
 fn a_chunk_halts_at_its_first_forbidden_event(rt: HostRuntime) {
     let alloc = rt.alloc();
-    let stale = chunk_of(
-        &rt,
-        alloc,
-        0,
-        &[store!(0: 0, X = 1), load!(0: 1, X = 0), store!(0: 2, Y = 1)],
-    );
+    let stale = chunk_of(&rt, alloc, 0, stale_inside());
     let mut book = Book::new(alloc, MemoryModel::Rvwmo);
     assert!(rt; offer(&mut book, &stale) == Came::Halted);
     assert!(rt; book.stopped() && book.accepted() == 1);

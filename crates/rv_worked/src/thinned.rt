@@ -8,37 +8,63 @@ use rv_event::{
 use std::alloc::Global;
 use std::process::Abort;
 
-/// A link to the id for the reason.
-fn link(id: Id, reason: Reason) -> Link {
-    Link { id, reason }
+/// A history, the next row, and the links that are listed of it.
+struct WorkedLinks {
+    name: &'static str,
+    rows: &'static [Row],
+    next: Row,
+    before: &'static [Link],
+    after: &'static [Link],
+}
+
+macro_rules! link {
+    ($hart:literal : $seq:literal, $reason:expr) => {
+        Link { id: id!($hart: $seq), reason: $reason }
+    };
+}
+
+const LISTED: &[WorkedLinks] = &[
+    WorkedLinks {
+        name: "a store is linked from the one before alone",
+        rows: &[store!(0: 0, X = 1), store!(0: 1, X = 2)],
+        next: store!(0: 2, X = 3),
+        before: &[
+            link!(0: 1, Reason::Preserved(1)),
+            link!(0: 1, Reason::Coherence),
+        ],
+        after: &[],
+    },
+    WorkedLinks {
+        name: "a store between two versions is linked to both alone",
+        rows: &[store!(0: 0, X = 1), store!(1: 0, X = 3)],
+        next: store!(2: 0, X = 2),
+        before: &[link!(0: 0, Reason::Coherence)],
+        after: &[link!(1: 0, Reason::Coherence)],
+    },
+];
+
+/// The histories with what is listed. What they are is told to no proof.
+fn listed() -> &'static [WorkedLinks] {
+    LISTED
+}
+
+/// Just these links are listed.
+fn assert_listed(rt: &impl Abort, alloc: Global, worked: &WorkedLinks) {
+    let history = history_of(rt, alloc, MemoryModel::Rvwmo, worked.rows);
+    let around = around_of(rt, alloc, &history, &worked.next);
+    assert!(rt;
+        around.before.as_slice() == worked.before,
+        "{}",
+        worked.name
+    );
+    assert!(rt; around.after.as_slice() == worked.after, "{}", worked.name);
 }
 
 #[test]
-fn a_store_is_linked_from_the_one_before_alone(rt: HostRuntime) {
-    let rows = [store!(0: 0, X = 1), store!(0: 1, X = 2)];
-    let history = history_of(&rt, rt.alloc(), MemoryModel::Rvwmo, &rows);
-    let around = around_of(&rt, rt.alloc(), &history, &store!(0: 2, X = 3));
-    let expected = [
-        link(id!(0: 1), Reason::Preserved(1)),
-        link(id!(0: 1), Reason::Coherence),
-    ];
-    assert_eq!(rt; around.before.as_slice(), expected.as_slice());
-    assert!(rt; around.after.as_slice().is_empty());
-}
-
-#[test]
-fn a_store_between_two_versions_is_linked_to_both_alone(rt: HostRuntime) {
-    let rows = [store!(0: 0, X = 1), store!(1: 0, X = 3)];
-    let history = history_of(&rt, rt.alloc(), MemoryModel::Rvwmo, &rows);
-    let around = around_of(&rt, rt.alloc(), &history, &store!(2: 0, X = 2));
-    assert_eq!(rt;
-        around.before.as_slice(),
-        [link(id!(0: 0), Reason::Coherence)].as_slice()
-    );
-    assert_eq!(rt;
-        around.after.as_slice(),
-        [link(id!(1: 0), Reason::Coherence)].as_slice()
-    );
+fn the_nearest_links_alone_are_listed(rt: HostRuntime) {
+    for worked in listed() {
+        assert_listed(&rt, rt.alloc(), worked);
+    }
 }
 
 /// A store of hart 0 to the word X that writes the version one above its number.

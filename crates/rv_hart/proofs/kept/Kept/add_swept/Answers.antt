@@ -87,3 +87,10 @@ join_into-requires c =
     let low = c.taken.invariant.swept.low c.in-Some.number is.0.1 in
     let within = c.taken.invariant.within in
     omega arith
+
+pub insert-requires : goal.insert-requires
+insert-requires c =
+    let f = fits_of (hart_of c.args.self.now) c.args.event.now c.requires.asked.kept.hart c.requires.asked.follows in
+    let seq = f.seq in
+    let room = f.room in
+    omega arith

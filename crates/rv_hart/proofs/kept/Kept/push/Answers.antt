@@ -57,6 +57,13 @@ returns-in-Err-clause-kept c =
     kept-same k _ c.requires.kept (ap hart c.reserve.ensures.items) (c.pop.ensures k.rows pushed.last pushed.is_last) refl
     (subst (λ (es : List Event). AreWords es c.push-2.new.self) is c.in-Err.ensures.unchanged)
 
+pub absorb-requires-clause-number : goal.absorb-requires-clause-number
+absorb-requires-clause-number c =
+    let f : Fits (hart_of c.args.self.now) c.args.event.now = fits_of (hart_of c.args.self.now) c.args.event.now c.requires.kept.hart c.requires.follows in
+    let seq = f.seq in
+    let room = f.room in
+    omega arith
+
 pub absorb-requires-clause-dependencies : goal.absorb-requires-clause-dependencies
 absorb-requires-clause-dependencies c = own-deps-few (hart_of c.args.self.now) c.args.event.now (fits_of (hart_of c.args.self.now) c.args.event.now c.requires.kept.hart c.requires.follows)
 
