@@ -28,8 +28,6 @@ mod reason;
 mod relations;
 mod rules;
 mod search;
-#[cfg(test)]
-mod tests;
 
 pub use chunk::{Chunk, chunk_texts_tell, pack, unpack};
 pub use context::{Context, find_deps_fault, first_fault, is_bad_dependency};

@@ -32,8 +32,6 @@ mod lowest;
 mod rows;
 mod rules;
 mod sets;
-#[cfg(test)]
-mod tests;
 mod walks;
 mod words;
 

@@ -20,6 +20,3 @@ mod walk;
 
 pub use ranks::{Placed, Ranks, Refused};
 pub use walk::Walk;
-
-#[cfg(test)]
-mod tests;

@@ -24,8 +24,6 @@ mod accesses;
 mod by_version;
 mod indexes;
 mod reservation;
-#[cfg(test)]
-mod tests;
 mod versions;
 
 pub use reservation::Reservation;

@@ -8,7 +8,7 @@ use Rattle.std.specs.Prelude.{Contains, ℕ}
 use Rattle.rv_cover.specs.Thinned.{Names}
 use Rattle.rv_hart.specs.Harts.{Hart}
 use Rattle.rv_hart.specs.RuleLinks.{AreRuleLinks, AreEnoughLinks}
-use Rattle.rv_hart.proofs.tests.follow_without_rules.Goals as goal
+use Rattle.rv_parts.proofs.hart.follow_without_rules.Goals as goal
 
 abbrev without : List Link → List Link
 without links = map (λ (l : Link). record l { reason = Coherence }) links

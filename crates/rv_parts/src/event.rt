@@ -1,9 +1,10 @@
 //! Chunk texts as the format has them, printed texts, and copies.
-use crate::{
+use rv_event::{
     Chunk, Dep, DepKind, Deps, Entry, Event, Fault, Id, NoMemory, Op, PackFault, Reason, Set,
     is_same, pack, unpack,
 };
 use std::alloc::{AllocError, Global};
+use std::process::Abort;
 
 /// An address dependency on the event with this number.
 fn address(seq: u32) -> Dep {
@@ -49,10 +50,15 @@ fn example_words() -> [u64; 58] {
     words
 }
 
+/// Their chunk.
+fn example_chunk(rt: &impl Abort, alloc: Global) -> Chunk {
+    let events = example_events(alloc).expect(rt, "memory");
+    pack(&events, 0, 0).expect(rt, "a chunk")
+}
+
 #[test]
 fn example_is_packed(rt: HostRuntime) {
-    let events = example_events(rt.alloc()).expect(&rt, "memory");
-    let chunk = pack(&events, 0, 0).expect(&rt, "a chunk");
+    let chunk = example_chunk(&rt, rt.alloc());
     assert!(rt; *chunk.words() == example_words());
     assert_eq!(rt; chunk.source(), 0);
     assert_eq!(rt; chunk.number(), 0);
@@ -86,14 +92,20 @@ fn a_fence_has_its_word(rt: HostRuntime) {
     assert_eq!(rt; chunk.words()[2], 0xb702);
 }
 
+/// One load more than a chunk takes.
+fn nine_loads(rt: &impl Abort, alloc: Global) -> Vec<Event> {
+    let mut nine = Vec::new(alloc);
+    for seq in 0..9 {
+        let event = load(alloc, 0, seq, &[]).expect(rt, "memory");
+        nine.push(event).expect(rt, "memory");
+    }
+    nine
+}
+
 #[test]
 fn refusals_to_pack_come_in_order(rt: HostRuntime) {
     assert!(rt; matches!(pack(&[], 9, 0), Err(PackFault::Empty)));
-    let mut nine = Vec::new(rt.alloc());
-    for seq in 0..9 {
-        let event = load(rt.alloc(), 0, seq, &[]).expect(&rt, "memory");
-        nine.push(event).expect(&rt, "memory");
-    }
+    let nine = nine_loads(&rt, rt.alloc());
     assert!(rt; matches!(pack(nine.as_slice(), 0, 0), Err(PackFault::TooMany)));
     assert!(rt; matches!(pack(nine.as_slice(), 9, 0), Err(PackFault::TooMany)));
     let far = load(rt.alloc(), 0, 0, &[address(1_073_741_824)]).expect(&rt, "memory");
@@ -118,42 +130,58 @@ fn copies_are_equal(rt: HostRuntime) {
     assert!(rt; entry == again);
 }
 
+/// Reasons, each with its text.
+const REASONS: [(Reason, &str); 7] = [
+    (Reason::Preserved(1), "rule 1"),
+    (Reason::Preserved(13), "rule 13"),
+    (Reason::Coherence, "coherence"),
+    (Reason::ReadsFrom, "reads-from"),
+    (Reason::FromRead, "from-read"),
+    (Reason::AtomicIn, "atomic-in"),
+    (Reason::AtomicOut, "atomic-out"),
+];
+
+/// The reasons.
+fn reasons() -> &'static [(Reason, &'static str)] {
+    &REASONS
+}
+
 #[test]
 fn reasons_have_their_texts(rt: HostRuntime) -> Result<(), AllocError> {
-    let texts = [
-        (Reason::Preserved(1), "rule 1"),
-        (Reason::Preserved(13), "rule 13"),
-        (Reason::Coherence, "coherence"),
-        (Reason::ReadsFrom, "reads-from"),
-        (Reason::FromRead, "from-read"),
-        (Reason::AtomicIn, "atomic-in"),
-        (Reason::AtomicOut, "atomic-out"),
-    ];
-    for (reason, text) in &texts {
+    for (reason, text) in reasons() {
         let printed = format!(in rt.alloc(); "{reason}")?;
         assert_eq!(rt; printed.as_str(), *text);
     }
     Ok(())
 }
 
+/// The last event of the last hart.
+const LAST: Id = Id {
+    hart: 15,
+    seq: 4095,
+};
+
+/// The faults, each with its number and its text.
+const FAULTS: [(Fault, u8, &str); 9] = [
+    (Fault::Hart, 1, "hart"),
+    (Fault::Sequence(10), 2, "sequence, expected 10"),
+    (Fault::Dependency, 3, "dependency"),
+    (Fault::VersionZero, 4, "version zero"),
+    (Fault::VersionTaken(LAST), 5, "version taken by h15:4095"),
+    (Fault::NoReservation, 6, "no reservation"),
+    (Fault::Full, 7, "hart full"),
+    (Fault::OtherSource, 8, "other source"),
+    (Fault::TooManyDeps, 9, "too many dependencies"),
+];
+
+/// The faults.
+fn faults() -> &'static [(Fault, u8, &'static str)] {
+    &FAULTS
+}
+
 #[test]
 fn faults_have_their_numbers_and_texts(rt: HostRuntime) -> Result<(), AllocError> {
-    let writer = Id {
-        hart: 15,
-        seq: 4095,
-    };
-    let texts = [
-        (Fault::Hart, 1, "hart"),
-        (Fault::Sequence(10), 2, "sequence, expected 10"),
-        (Fault::Dependency, 3, "dependency"),
-        (Fault::VersionZero, 4, "version zero"),
-        (Fault::VersionTaken(writer), 5, "version taken by h15:4095"),
-        (Fault::NoReservation, 6, "no reservation"),
-        (Fault::Full, 7, "hart full"),
-        (Fault::OtherSource, 8, "other source"),
-        (Fault::TooManyDeps, 9, "too many dependencies"),
-    ];
-    for (fault, number, text) in &texts {
+    for (fault, number, text) in faults() {
         let printed = format!(in rt.alloc(); "{fault}")?;
         assert_eq!(rt; printed.as_str(), *text);
         assert_eq!(rt; fault.number(), *number);

@@ -5,7 +5,7 @@ use Rattle.rv_event.specs.declared.reason.Link.{Link}
 use Rattle.rv_event.specs.declared.reason.Reason.TheVariants.{Preserved}
 use Rattle.rv_hart.specs.Harts.{Hart, followed}
 use Rattle.rv_hart.specs.RuleLinks.{IsRuleLink, AreRuleLinks, AreEnoughLinks}
-use Rattle.rv_hart.proofs.tests.follow.Goals as goal
+use Rattle.rv_parts.proofs.hart.follow.Goals as goal
 
 the_rule : (h : Hart) (e : Event) (l : Link) (k : ℕ) → IsRuleLink h e l → l.reason ≡ Preserved k → IsPreserved h.model (followed h e) k l.id e.id
 the_rule h e l k x is =

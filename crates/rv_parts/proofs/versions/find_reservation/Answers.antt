@@ -7,7 +7,7 @@ use Rattle.rv_event.specs.Relations.{Paired}
 use Rattle.rv_event.specs.declared.event.Entry.{Entry}
 use Rattle.rv_event.specs.declared.event.Event.{Event}
 use Rattle.rv_versions.proofs.Members.{Contains-map, Contains-mapped}
-use Rattle.rv_versions.proofs.tests.find_reservation.Goals as goal
+use Rattle.rv_parts.proofs.versions.find_reservation.Goals as goal
 
 pub returns-then-is_paired : goal.returns-then-is_paired
 returns-then-is_paired c =

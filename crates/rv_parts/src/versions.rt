@@ -1,11 +1,11 @@
 //! Small logs with ample memory, and the links of one event more.
-ghost use Rattle.std.specs.Prelude.{◌≡◌, ◌++◌, ◌∷◌, [], None, IfOk};
+ghost use Rattle.std.specs.Prelude.{◌≡◌, ◌≢◌, ◌++◌, ◌∷◌, [], None, IfOk};
 ghost use Rattle.rv_event.specs.Faults.{event_fault};
 ghost use Rattle.rv_event.specs.Log.{events};
 ghost use Rattle.rv_versions.specs.Reserved.{IsReserved};
 
-use crate::{Reservation, VersionLinks, Versions};
 use rv_event::{Deps, Entry, Event, Id, Link, NoMemory, Op, Reason, find_event_fault, is_paired};
+use rv_versions::{Reservation, VersionLinks, Versions};
 use std::alloc::Global;
 use std::process::Abort;
 
@@ -80,7 +80,9 @@ fn assert_sound(rt: &impl Abort, versions: &Versions, event: &Event)
     assert!(rt; find_event_fault(entries, event).is_none());
 }
 
-fn push(rt: &impl Abort, alloc: Global, versions: &mut Versions, event: &Event) {
+fn push(rt: &impl Abort, alloc: Global, versions: &mut Versions, event: &Event)
+    ensures { versions.new ≢ [] }
+{
     assert_sound(rt, versions, event);
     let reserved = reservation(alloc, versions.entries(), event).expect(rt, "memory");
     versions.push(event, reserved).expect(rt, "memory");
@@ -94,10 +96,11 @@ fn around(rt: &impl Abort, alloc: Global, versions: &Versions, event: &Event) ->
         .expect(rt, "memory")
 }
 
-fn has_own_edge(rt: &impl Abort, alloc: Global, versions: &Versions, event: &Event) -> bool {
-    assert_sound(rt, versions, event);
-    let reserved = reservation(alloc, versions.entries(), event).expect(rt, "memory");
-    versions.has_own_edge(event, reserved)
+/// Whether the event would have an edge to itself. It is let go here, so that no test holds several.
+fn has_own_edge(rt: &impl Abort, alloc: Global, versions: &Versions, event: Event) -> bool {
+    assert_sound(rt, versions, &event);
+    let reserved = reservation(alloc, versions.entries(), &event).expect(rt, "memory");
+    versions.has_own_edge(&event, reserved)
 }
 
 fn link(hart: u8, seq: u32, reason: Reason) -> Link {
@@ -292,23 +295,25 @@ fn an_own_version_is_an_edge_to_itself(rt: HostRuntime) {
     let log = [event(alloc, Op::Lr, id(0, 0), 7, (2, 0))];
     let versions = log_of(&rt, alloc, &log);
     let amo = event(alloc, Op::Amo, id(1, 0), 7, (1, 1));
-    assert!(rt; has_own_edge(&rt, alloc, &versions, &amo));
+    assert!(rt; has_own_edge(&rt, alloc, &versions, amo));
     let other = event(alloc, Op::Amo, id(1, 0), 7, (1, 2));
-    assert!(rt; !has_own_edge(&rt, alloc, &versions, &other));
+    assert!(rt; !has_own_edge(&rt, alloc, &versions, other));
     let sc = event(alloc, Op::Sc, id(0, 1), 7, (0, 2));
-    assert!(rt; has_own_edge(&rt, alloc, &versions, &sc));
+    assert!(rt; has_own_edge(&rt, alloc, &versions, sc));
     let elsewhere = event(alloc, Op::Sc, id(0, 1), 8, (0, 2));
-    assert!(rt; !has_own_edge(&rt, alloc, &versions, &elsewhere));
+    assert!(rt; !has_own_edge(&rt, alloc, &versions, elsewhere));
 }
 
 #[test]
 fn what_is_popped_is_found_no_more(rt: HostRuntime) {
     let alloc = rt.alloc();
     let mut versions = log_of(&rt, alloc, &[]);
-    let store = event(alloc, Op::Store, id(0, 0), 7, (0, 3));
-    assert_sound(&rt, &versions, &store);
-    let reserved = reservation(alloc, versions.entries(), &store).expect(&rt, "memory");
-    versions.push(&store, reserved).expect(&rt, "memory");
+    push(
+        &rt,
+        alloc,
+        &mut versions,
+        &event(alloc, Op::Store, id(0, 0), 7, (0, 3)),
+    );
     assert!(rt; versions.writer(7, 3) == Some(id(0, 0)));
     assert!(rt; versions.writer(7, 0).is_none());
     assert!(rt; versions.writer(7, 2).is_none());
@@ -355,16 +360,16 @@ fn what_came_late_is_taken_out_of_the_middle(rt: HostRuntime) {
     let alloc = rt.alloc();
     let mut versions = log_of(&rt, alloc, &late_events(alloc));
     let store = event(alloc, Op::Store, id(5, 0), 7, (0, 3));
-    assert_sound(&rt, &versions, &store);
-    let reserved = reservation(alloc, versions.entries(), &store).expect(&rt, "memory");
-    versions.push(&store, reserved).expect(&rt, "memory");
+    push(&rt, alloc, &mut versions, &store);
     assert!(rt; versions.writer(7, 3) == Some(id(5, 0)));
     versions.pop();
     assert!(rt; versions.writer(7, 3).is_none());
-    let load = event(alloc, Op::Load, id(6, 0), 7, (2, 0));
-    assert_sound(&rt, &versions, &load);
-    let reserved = reservation(alloc, versions.entries(), &load).expect(&rt, "memory");
-    versions.push(&load, reserved).expect(&rt, "memory");
+    push(
+        &rt,
+        alloc,
+        &mut versions,
+        &event(alloc, Op::Load, id(6, 0), 7, (2, 0)),
+    );
     versions.pop();
     let before = [
         link(2, 0, Reason::Coherence),

@@ -1,5 +1,5 @@
 //! Worked placements, and every placement in some small graphs beside brute force.
-use super::*;
+use rv_rank::{Placed, Ranks, Refused};
 use std::alloc::Global;
 use std::process::Abort;
 
@@ -94,7 +94,7 @@ fn placements() -> &'static [Worked] {
 
 /// Places a node, and looks at the answer and the order.
 fn check_worked(rt: &impl Abort, ranks: &mut Ranks, want: &Worked) {
-    match place(rt, ranks, want.preds, want.succs) {
+    match &place(rt, ranks, want.preds, want.succs) {
         Ok(placed) => {
             assert_eq!(rt; [placed.node, placed.moved, placed.visited], want.placed);
             assert!(rt; want.circle.is_empty());
@@ -105,23 +105,34 @@ fn check_worked(rt: &impl Abort, ranks: &mut Ranks, want: &Worked) {
     check_order(rt, ranks, want.order);
 }
 
-#[test]
-fn worked_placements(rt: HostRuntime) {
-    let mut ranks = Ranks::new(rt.alloc());
+/// Four nodes without edges, each placed as the greatest.
+fn four_nodes(rt: &impl Abort, alloc: Global) -> Ranks {
+    let mut ranks = Ranks::new(alloc);
     assert!(rt; ranks.is_empty());
     for node in 0..4 {
-        let placed = place(&rt, &mut ranks, &[], &[]).expect(&rt, "placed");
+        let placed = place(rt, &mut ranks, &[], &[]).expect(rt, "placed");
         assert_eq!(rt; [placed.node, placed.moved, placed.visited], [node, 0, 0]);
     }
-    check_order(&rt, &ranks, &[0, 1, 2, 3]);
-    for one in placements() {
-        check_worked(&rt, &mut ranks, one);
-    }
+    ranks
+}
+
+/// Looks at the ranks after the last worked placement.
+fn check_ranks(rt: &impl Abort, ranks: &Ranks) {
     assert_eq!(rt; ranks.len(), 7);
     assert!(rt; 5 < ranks.len());
     assert_eq!(rt; ranks.rank(5), 2);
     assert!(rt; ranks.before(5, 4));
     assert!(rt; !ranks.before(4, 5));
+}
+
+#[test]
+fn worked_placements(rt: HostRuntime) {
+    let mut ranks = four_nodes(&rt, rt.alloc());
+    check_order(&rt, &ranks, &[0, 1, 2, 3]);
+    for one in placements() {
+        check_worked(&rt, &mut ranks, one);
+    }
+    check_ranks(&rt, &ranks);
 }
 
 /// The edges of a graph, each from its first node to its second.
@@ -206,12 +217,32 @@ fn mended(
     new
 }
 
-fn check_circle(rt: &impl Abort, edges: &[(u32, u32)], preds: &[u32], succs: &[u32], path: &[u32]) {
+/// A fifth node that is placed in a small graph.
+#[derive(Clone, Copy)]
+struct Fifth<'a> {
+    preds: &'a [u32],
+    succs: &'a [u32],
+    /// The graph's edges.
+    edges: &'a [(u32, u32)],
+    /// The graph's nodes by rank.
+    before: &'a [u32],
+}
+
+/// The path goes from a successor to a predecessor.
+fn check_ends(rt: &impl Abort, preds: &[u32], succs: &[u32], path: &[u32]) {
     assert!(rt; path.first().is_some_and(|node| succs.contains(node)));
     assert!(rt; path.last().is_some_and(|node| preds.contains(node)));
+}
+
+/// The path follows edges.
+fn check_steps(rt: &impl Abort, edges: &[(u32, u32)], path: &[u32]) {
     for (from, to) in path.iter().zip(path.iter().skip(1)) {
         assert!(rt; edges.contains(&(*from, *to)));
     }
+}
+
+/// The path names no node twice.
+fn check_distinct(rt: &impl Abort, path: &[u32]) {
     for node in path {
         assert_eq!(rt; path.iter().filter(|other| *other == node).count(), 1);
     }
@@ -235,21 +266,66 @@ fn count_moved(before: &[u32], after: &[u32]) -> usize {
         .count()
 }
 
+/// What leads to the predecessors, of the nodes from the first successor on.
+fn behind_of(rt: &impl Abort, alloc: Global, fifth: &Fifth) -> Vec<u32> {
+    let high = from_successors(rt, alloc, fifth.before, fifth.succs);
+    reaching(rt, alloc, fifth.edges, fifth.preds, &high)
+}
+
+/// Compares the order with the mended one, and counts the places at which it differs from the order before.
+fn count_mended(
+    rt: &impl Abort,
+    alloc: Global,
+    ranks: &Ranks,
+    before: &[u32],
+    behind: &[u32],
+    ahead: &[u32],
+) -> usize {
+    let want = mended(rt, alloc, before, behind, ahead);
+    check_order(rt, ranks, &want);
+    count_moved(before, &want)
+}
+
 /// Compares the order after a placement, and what it tells of itself, with brute force.
 fn check_placed(
     rt: &impl Abort,
     alloc: Global,
     ranks: &Ranks,
     placed: &Placed,
-    before: &[u32],
-    behind: &[u32],
+    fifth: &Fifth,
     ahead: &[u32],
 ) {
-    let want = mended(rt, alloc, before, behind, ahead);
-    check_order(rt, ranks, &want);
+    let behind = behind_of(rt, alloc, fifth);
+    let moved = count_mended(rt, alloc, ranks, fifth.before, &behind, ahead);
     assert_eq!(rt; placed.node, 4);
-    assert_eq!(rt; placed.moved as usize, count_moved(before, &want));
+    assert_eq!(rt; placed.moved as usize, moved);
     assert_eq!(rt; placed.visited as usize, behind.len() + ahead.len());
+}
+
+/// Compares the answer to a placement, and the order after it, with brute force.
+fn check_answer(
+    rt: &impl Abort,
+    alloc: Global,
+    ranks: &Ranks,
+    answer: &Result<Placed, Refused>,
+    fifth: &Fifth,
+) {
+    let ahead = reached(rt, alloc, fifth.edges, fifth.succs);
+    let is_circle = fifth.preds.iter().any(|pred| ahead.contains(pred));
+    match answer {
+        Ok(placed) => {
+            assert!(rt; !is_circle);
+            check_placed(rt, alloc, ranks, placed, fifth, &ahead);
+        }
+        Err(Refused::Circle(path)) => {
+            assert!(rt; is_circle);
+            check_ends(rt, fifth.preds, fifth.succs, path);
+            check_steps(rt, fifth.edges, path);
+            check_distinct(rt, path);
+            check_order(rt, ranks, fifth.before);
+        }
+        Err(Refused::NoMemory) => assert!(rt; false),
+    }
 }
 
 /// The graph in an order keeper.
@@ -266,22 +342,14 @@ fn check_placement(rt: &impl Abort, alloc: Global, graph: &Graph, preds: &[u32],
     let mut ranks = keeper_of(rt, alloc, graph);
     let before = ranks.order().expect(rt, "memory");
     let edges = edges_of(rt, alloc, graph);
-    let ahead = reached(rt, alloc, &edges, succs);
-    let is_circle = preds.iter().any(|pred| ahead.contains(pred));
-    match place(rt, &mut ranks, preds, succs) {
-        Ok(placed) => {
-            assert!(rt; !is_circle);
-            let high = from_successors(rt, alloc, &before, succs);
-            let behind = reaching(rt, alloc, &edges, preds, &high);
-            check_placed(rt, alloc, &ranks, &placed, &before, &behind, &ahead);
-        }
-        Err(Refused::Circle(path)) => {
-            assert!(rt; is_circle);
-            check_circle(rt, &edges, preds, succs, &path);
-            check_order(rt, &ranks, &before);
-        }
-        Err(Refused::NoMemory) => assert!(rt; false),
-    }
+    let answer = place(rt, &mut ranks, preds, succs);
+    let fifth = Fifth {
+        preds,
+        succs,
+        edges: &edges,
+        before: &before,
+    };
+    check_answer(rt, alloc, &ranks, &answer, &fifth);
 }
 
 /// The nodes below 4 that a number's binary digits name.

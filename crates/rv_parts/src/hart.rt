@@ -5,11 +5,11 @@ ghost use Rattle.rv_event.specs.declared.reason.Link.{Link};
 ghost use Rattle.rv_event.specs.declared.reason.Reason.TheVariants.{Coherence};
 ghost use Rattle.rv_hart.specs.Harts.{Hart, Follows, IsHart, IsReturned};
 
-use super::*;
 use rv_event::{
     Dep, DepKind, Deps, Entry, Event, Id, Link, MemoryModel, Op, Reason, Set, find_event_fault,
     find_writer,
 };
+use rv_hart::HartOrder;
 use std::alloc::Global;
 use std::process::Abort;
 
@@ -109,15 +109,24 @@ fn own_store(entries: &[Entry], event: &Event) -> Option<u32>
     }
 }
 
+/// The number of the own store that an event without a fault, a load, returns.
+fn returned_by(rt: &impl Abort, alloc: Global, hart: &HartOrder, event: &Event) -> Option<u32>
+    requires { hart.now.number ≡ event.now.id.hart }
+    ensures follows { Follows hart.now event.now }
+    ensures returned { IsReturned hart.now event.now result }
+{
+    let entries = entries_of(rt, alloc, hart.events());
+    assert!(rt; entries.len() < 4096);
+    assert!(rt; find_event_fault(&entries, event).is_none());
+    own_store(&entries, event)
+}
+
 /// Adds an event that has no fault, and says what its links were.
 fn follow(rt: &impl Abort, alloc: Global, hart: &mut HartOrder, event: &Event) -> Vec<Link>
     requires { hart.old.number ≡ event.now.id.hart }
     ensures { hart.new.number ≡ hart.old.number }
 {
-    let entries = entries_of(rt, alloc, hart.events());
-    assert!(rt; entries.len() < 4096);
-    assert!(rt; find_event_fault(&entries, event).is_none());
-    let returned = own_store(&entries, event);
+    let returned = returned_by(rt, alloc, hart, event);
     let links = hart.before(event, returned).expect(rt, "memory");
     hart.push(event, returned, links.as_slice())
         .expect(rt, "memory");
@@ -145,10 +154,7 @@ fn follow_without_rules(rt: &impl Abort, alloc: Global, hart: &mut HartOrder, ev
     requires { hart.old.number ≡ event.now.id.hart }
     ensures { hart.new.number ≡ hart.old.number }
 {
-    let entries = entries_of(rt, alloc, hart.events());
-    assert!(rt; entries.len() < 4096);
-    assert!(rt; find_event_fault(&entries, event).is_none());
-    let returned = own_store(&entries, event);
+    let returned = returned_by(rt, alloc, hart, event);
     let links = hart.before(event, returned).expect(rt, "memory");
     let links = without_rules(rt, alloc, links.as_slice());
     hart.push(event, returned, links.as_slice())
@@ -184,6 +190,16 @@ fn may_follow(rt: &impl Abort, alloc: Global, hart: &HartOrder, event: &Event) -
 {
     let entries = entries_of(rt, alloc, hart.events());
     entries.len() < 4096 && find_event_fault(&entries, event).is_none()
+}
+
+/// The event of a step that may be the second of hart 0.
+fn second_of(rt: &impl Abort, alloc: Global, hart: &HartOrder, step: &Step) -> Event
+    requires { hart.now.number ≡ 0 }
+    ensures { Follows hart.now result }
+{
+    let event = event_of(rt, alloc, 1, step);
+    assert!(rt; may_follow(rt, alloc, hart, &event));
+    event
 }
 
 #[test]
@@ -361,6 +377,13 @@ fn a_load_that_spins_is_linked_from_other_versions_alone(rt: HostRuntime) {
     assert_linked(&rt, rt.alloc(), &[LOAD, again, again]);
 }
 
+/// The second event of a hart is paired with its first.
+fn check_partner(rt: &impl Abort, alloc: Global, first: &Step, second: &Step) {
+    let hart = hart_of(rt, alloc, MemoryModel::Rvwmo, &[*first]);
+    let event = second_of(rt, alloc, &hart, second);
+    assert_eq!(rt; hart.partner(&event).map(|lr| lr.id.seq), Some(0));
+}
+
 #[test]
 fn an_sc_is_paired_with_the_lr_before_it(rt: HostRuntime) {
     let alloc = rt.alloc();
@@ -371,10 +394,7 @@ fn an_sc_is_paired_with_the_lr_before_it(rt: HostRuntime) {
         links: &[(0, 8)],
         ..STORE
     };
-    let hart = hart_of(&rt, alloc, MemoryModel::Rvwmo, &[lr]);
-    let event = event_of(&rt, alloc, 1, &sc);
-    assert!(rt; may_follow(&rt, alloc, &hart, &event));
-    assert_eq!(rt; hart.partner(&event).map(|lr| lr.id.seq), Some(0));
+    check_partner(&rt, alloc, &lr, &sc);
     assert_linked(&rt, alloc, &[lr, sc]);
 }
 
@@ -393,16 +413,21 @@ fn links_that_name_no_rule_lose_no_event(rt: HostRuntime) {
     assert!(rt; are_links(links.as_slice(), &[(1, 5)]));
 }
 
+/// The second event of the hart is stale by this one, where there is one.
+fn check_stale(rt: &impl Abort, alloc: Global, hart: &HartOrder, step: &Step, by: Option<Id>)
+    requires { hart.now.number ≡ 0 }
+{
+    let event = second_of(rt, alloc, hart, step);
+    assert_eq!(rt; hart.stale(&event), by);
+}
+
 #[test]
 fn an_older_version_than_an_own_one_is_stale(rt: HostRuntime) {
     let alloc = rt.alloc();
     let hart = hart_of(&rt, alloc, MemoryModel::Rvwmo, &[STORE]);
-    let load = event_of(&rt, alloc, 1, &LOAD);
-    assert!(rt; may_follow(&rt, alloc, &hart, &load));
-    assert_eq!(rt; hart.stale(&load), Some(Id { hart: 0, seq: 0 }));
-    let fresh = event_of(&rt, alloc, 1, &Step { read: 1, ..LOAD });
-    assert!(rt; may_follow(&rt, alloc, &hart, &fresh));
-    assert_eq!(rt; hart.stale(&fresh), None);
+    let first = Id { hart: 0, seq: 0 };
+    check_stale(&rt, alloc, &hart, &LOAD, Some(first));
+    check_stale(&rt, alloc, &hart, &Step { read: 1, ..LOAD }, None);
 }
 
 #[test]
