@@ -6,24 +6,40 @@ use rv_trace::{Chunks, FaultKind, Trace};
 use std::alloc::Global;
 use std::process::Abort;
 
+/// Reads on in this row: the event that comes next, the end where none does, or the fault of want of memory, for ever.
+/// `None` for an event, else whether it was the end.
+fn ended(
+    rt: &impl Abort,
+    trace: &mut Trace<&[u8]>,
+    next: Option<&Entry>,
+    row: u32,
+) -> Option<bool> {
+    match trace.next_event() {
+        Ok(Some(event)) => {
+            assert!(rt; next.is_some_and(|x| x.event == event));
+            None
+        }
+        Ok(None) => {
+            assert!(rt; next.is_none());
+            Some(true)
+        }
+        Err(fault) => {
+            assert_eq!(rt; fault.kind, FaultKind::NoMemory);
+            assert!(rt; fault.row == row || (fault.row, row) == (0, 1), "row {row}");
+            assert_eq!(rt; trace.next_event().err(), Some(fault));
+            assert_eq!(rt; trace.next_event().err(), Some(fault));
+            Some(false)
+        }
+    }
+}
+
 /// Reads the text event by event, to its end or until memory is refused. Whether it was read to its end.
 fn read_events(rt: &impl Abort, alloc: Global, text: &str, entries: &[Entry]) -> bool {
     let mut trace = Trace::new(alloc, text.as_bytes(), 0);
     let mut given = entries.iter();
     for row in 1..1000u32 {
-        match trace.next_event() {
-            Ok(Some(event)) => assert!(rt; given.next().is_some_and(|x| x.event == event)),
-            Ok(None) => {
-                assert!(rt; given.next().is_none());
-                return true;
-            }
-            Err(fault) => {
-                assert_eq!(rt; fault.kind, FaultKind::NoMemory);
-                assert!(rt; fault.row == row || (fault.row, row) == (0, 1), "row {row}");
-                assert_eq!(rt; trace.next_event().err(), Some(fault));
-                assert_eq!(rt; trace.next_event().err(), Some(fault));
-                return false;
-            }
+        if let Some(whole) = ended(rt, &mut trace, given.next(), row) {
+            return whole;
         }
     }
     panic!(rt; "no end")

@@ -5,7 +5,7 @@ use crate::chunks::chunk_of;
 use crate::reports::outcome_of;
 use crate::traces::{Class, Worked, entries_of, worked_traces};
 use rv_cert::Verdict;
-use rv_event::{Entry, MemoryModel};
+use rv_event::{Chunk, Entry, MemoryModel};
 use rv_report::Outcome;
 use rv_run::{BookGate, Gate, ServeEnd, serve};
 use rv_slots::{Carrier, LockedSlots, Put, Slots, SlotsFault, TableCarrier};
@@ -59,36 +59,68 @@ fn a_verdict_without_memory_is_handed_back(rt: HostRuntime) {
     }
 }
 
+/// Puts the chunk into the carrier by the last of its seats, which comes back.
+fn put_first<R: Wait + Abort, C: Carrier>(
+    rt: &R,
+    carrier: &C,
+    mut seats: Vec<C::Seat>,
+    chunk: &Chunk,
+) -> C::Seat
+    requires { All (λ s. C.fits carrier.now s) seats.items }
+    ensures { C.fits carrier.now result }
+{
+    let Some(seat) = seats.pop() else {
+        panic!(rt; "no seat")
+    };
+    let (seat, put) = carrier.put_chunk(rt, seat, chunk);
+    assert!(rt; put == Put::Placed);
+    seat
+}
+
+/// Serves what the carrier has. How the worker ended, and whether the cell then holds a verdict.
+fn serve_all<R: Wait + Abort, C: Carrier>(
+    rt: &R,
+    alloc: Global,
+    carrier: &C,
+    seat: C::Seat,
+    gate: &BookGate,
+) -> (ServeEnd, bool)
+    requires { C.fits carrier.now seat }
+{
+    let cell = VerdictCell::new(alloc);
+    let served = serve(rt, alloc, carrier, seat, gate, &cell, cell.note());
+    (served.end, cell.read(&mut cell.note()).is_some())
+}
+
+/// The gate is stopped, and its book has the first of the entries alone.
+fn assert_stopped<R: Wait + Abort>(rt: &R, gate: BookGate, entries: &[Entry]) {
+    assert!(rt; gate.stopped(rt));
+    assert!(rt; entries.starts_with(gate.into_book().log()));
+}
+
 /// Serves the entries as one chunk. The worker ends as the gate is stopped, and the cell then holds a verdict exactly
 /// where the execution is refused; or it ends for want of memory, and the cell holds none. Whether memory was there.
 fn serve_chunk<R: Wait + Abort, C: Carrier + Drop>(
     rt: &R,
     alloc: Global,
     carrier: C,
-    mut seats: Vec<C::Seat>,
+    seats: Vec<C::Seat>,
     one: &Worked,
 ) -> bool
     requires { All (λ s. C.fits carrier s) seats.items }
 {
     let entries = entries_of(rt, alloc, one.rows);
-    let chunk = chunk_of(rt, alloc, entries.as_slice());
     let gate = BookGate::new(alloc, one.model, 1);
     gate.end_source(rt, 0, u32::try_from(entries.len()).ok());
-    let cell = VerdictCell::new(alloc);
-    let Some(seat) = seats.pop() else {
-        panic!(rt; "no seat")
-    };
-    let (seat, put) = carrier.put_chunk(rt, seat, &chunk);
-    assert!(rt; put == Put::Placed);
-    let served = serve(rt, alloc, &carrier, seat, &gate, &cell, cell.note());
-    let known = cell.read(&mut cell.note()).is_some();
-    match served.end {
+    let chunk = chunk_of(rt, alloc, entries.as_slice());
+    let seat = put_first(rt, &carrier, seats, &chunk);
+    let (end, known) = serve_all(rt, alloc, &carrier, seat, &gate);
+    match end {
         ServeEnd::Over => assert_eq!(rt; known, one.class != Class::Allowed, "{}", one.name),
         ServeEnd::NoMemory => assert!(rt; !known, "{}", one.name),
     }
-    assert!(rt; gate.stopped(rt));
-    assert!(rt; entries.starts_with(gate.into_book().log()));
-    served.end == ServeEnd::Over
+    assert_stopped(rt, gate, entries.as_slice());
+    end == ServeEnd::Over
 }
 
 /// Serves the execution over slots under one lock. Whether memory was there.
