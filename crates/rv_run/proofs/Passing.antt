@@ -8,7 +8,7 @@ use Rattle.rv_event.specs.Orders.{Lawful}
 use Rattle.rv_event.specs.WellFormed.{WellFormed}
 use Rattle.rv_event.specs.declared.event.Entry.{Entry}
 use Rattle.rv_event.specs.declared.memory_model.MemoryModel.{MemoryModel}
-use Rattle.rv_event.proofs.Pushed.{WellFormed-nil}
+use Rattle.rv_event.proofs.Pushed.{WellFormed-nil, WellFormed-push}
 use Rattle.rv_cert.specs.declared.verdict.Verdict.{Verdict}
 use Rattle.rv_cert.specs.declared.verdict.Verdict.TheVariants as verdict
 use Rattle.rv_book.specs.Booked.{Booked, IsTaken, IsOffered, IsVerdictOn, SomeLawful}
@@ -41,15 +41,15 @@ replaying-begin model entries book going same empty lawful = record {
 
 pub replaying-turn :
     (model : MemoryModel) (entries : List Entry) (count : ℕ) (old new : Booked) (x : Entry) → IsReplaying model entries count old →
-    count < length entries → x ≡ get_or entries count x → WellFormed new.log → IsFalse new.stopped → IsTaken old new x →
+    count < length entries → x ≡ get_or entries count x → IsFalse new.stopped → IsTaken old new x →
     IsReplaying model entries (count + 1) new
-replaying-turn model entries count old new x r low is well_formed going taken =
+replaying-turn model entries count old new x r low is going taken =
     let next : suc count ≡ count + 1 = omega arith in
     let log : old.log ++ x ∷ [] ≡ take (count + 1) entries =
     ap (λ (l : List Entry). l ++ x ∷ []) r.log ∙ ap (λ (y : Entry). take count entries ++ y ∷ []) is
     ∙ sym (take-suc entries count x low) ∙ ap (λ (n : ℕ). take n entries) next in
     let last : IsConsistent model (take (count + 1) entries) = record {
-      well_formed = subst WellFormed (taken.log ∙ log) well_formed;
+      well_formed = subst WellFormed log (WellFormed-push old.log x (subst WellFormed (sym r.log) (r.shorter count (omega arith)).well_formed) taken.sound);
       lawful = subst (λ (l : List Entry). SomeLawful model l) log (subst (λ (m : MemoryModel). SomeLawful m (old.log ++ x ∷ [])) r.judged_by taken.lawful);
     } in
     record {

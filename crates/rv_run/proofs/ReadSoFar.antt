@@ -6,15 +6,10 @@ use Rattle.rv_trace.specs.Faults.{IsOutside, is_of_text}
 use Rattle.rv_trace.specs.Source.{Stream, source_says}
 use Rattle.rv_trace.specs.Trace.{IsWhole}
 use Rattle.rv_trace.specs.declared.fault.TraceFault.{TraceFault}
-use Rattle.rv_run.specs.declared.feeding.Fed.{Fed}
+use Rattle.rv_run.specs.declared.feeding.FeedEnd.{FeedEnd}
 use Rattle.rv_run.specs.declared.feeding.FeedEnd.TheVariants.{Whole, Stopped, Fault, NoMemory}
-use Rattle.rv_run.specs.Feeds.{IsFedOf, IsEndOf}
+use Rattle.rv_run.specs.Feeds.{GoesOn, IsEndOf, IsFeeding, IsPut, IsReadOf}
 use Rattle.rv_run.specs.Sources.{IsAllOf, EndsIn}
-
--- no fault was met, and these events were taken
-pub record IsFeeding (start : Option Stream) (events : List Event) (chunks : ChunksLeft) : Type 0 where
-  pub good : chunks.fault ≡ None
-  pub taken : TakesEvents start chunks.stream events
 
 takes-none : (s : Option Stream) → TakesEvents s s []
 takes-none None = tt
@@ -52,22 +47,16 @@ feeding-turn start es more new chunks next so step good grown = record {
 }
 
 -- ended at this point, whose part of the source's end is shown
-ended : (start now : Option Stream) (es : List Event) (fed : Fed) → TakesEvents start now es → fed.events.items ≡ es → ((s : Stream) → start ≡ Some s → IsEndOf s fed.events.items fed.end) → IsFedOf start fed
-ended None now es fed taken same end = tt
-ended (Some s) None es fed taken same end = absurd taken
-ended (Some s) (Some t) es fed taken same end = ((t.events, ap (λ (x : Stream). x.events) taken ∙ ap (λ (l : List Event). l ++ t.events) (sym same)), end s refl)
-
-pub feeding-stopped : (start : Option Stream) (es : List Event) (chunks : ChunksLeft) (fed : Fed) → IsFeeding start es chunks → fed.events.items ≡ es → fed.end ≡ Stopped → IsFedOf start fed
-feeding-stopped start es chunks fed so same end = ended start chunks.stream es fed so.taken same (λ s is. rw end tt)
-
-pub feeding-refused : (start : Option Stream) (es : List Event) (chunks : ChunksLeft) (fed : Fed) → IsFeeding start es chunks → fed.events.items ≡ es → fed.end ≡ NoMemory → IsFedOf start fed
-feeding-refused start es chunks fed so same end = ended start chunks.stream es fed so.taken same (λ s is. rw end tt)
+ended : (start now : Option Stream) (es : List Event) (end : FeedEnd) → TakesEvents start now es → ((s : Stream) → start ≡ Some s → IsEndOf s es end) → IsReadOf start es end
+ended None now es end taken shown = tt
+ended (Some s) None es end taken shown = absurd taken
+ended (Some s) (Some t) es end taken shown = ((t.events, ap (λ (x : Stream). x.events) taken), shown s refl)
 
 whole-end : (start now : Option Stream) (es : List Event) → TakesEvents start now es → IsWhole now → (s : Stream) → start ≡ Some s → (s.events ≡ es) × (s.end ≡ None)
 whole-end start now es taken end s is = subst (λ (o : Option Stream). IsAllOf o es) is (all-taken start now es taken end)
 
-pub feeding-whole : (start : Option Stream) (es : List Event) (chunks : ChunksLeft) (fed : Fed) → IsFeeding start es chunks → IsWhole chunks.stream → fed.events.items ≡ es → fed.end ≡ Whole → IsFedOf start fed
-feeding-whole start es chunks fed so whole same end = ended start chunks.stream es fed so.taken same (λ s is. rw (end, same) (whole-end start chunks.stream es so.taken whole s is))
+pub feeding-whole : (start : Option Stream) (es : List Event) (chunks : ChunksLeft) → IsWhole chunks.stream → IsFeeding start es chunks → IsReadOf start es Whole
+feeding-whole start es chunks whole so = ended start chunks.stream es Whole so.taken (λ s is. whole-end start chunks.stream es so.taken whole s is)
 
 fault-end : (start now : Option Stream) (es : List Event) (f : TraceFault) → TakesEvents start now es → IsFaultWithin now f → EndsIn start f
 fault-end None now es f taken fault = tt
@@ -75,6 +64,20 @@ fault-end (Some s) None es f taken fault = absurd taken
 fault-end (Some s) (Some t) es f taken (inl own) = λ of_text. ap (λ (x : Stream). x.end) taken ∙ own.2
 fault-end (Some s) (Some t) es f taken (inr outside) = λ of_text. absurd (not-of-text f outside of_text)
 
-pub feeding-fails : (start : Option Stream) (es : List Event) (chunks : ChunksLeft) (fed : Fed) (f : TraceFault) → IsFeeding start es chunks → IsFaultWithin chunks.stream f → fed.events.items ≡ es → fed.end ≡ Fault f → IsFedOf start fed
-feeding-fails start es chunks fed f so fault same end =
-    ended start chunks.stream es fed so.taken same (λ s is. rw end (subst (λ (o : Option Stream). EndsIn o f) is (fault-end start chunks.stream es f so.taken fault)))
+pub feeding-fails :
+    (start : Option Stream) (es : List Event) (chunks : ChunksLeft) (f : TraceFault) → (chunks.fault ≡ None → IsFaultWithin chunks.stream f) → IsFeeding start es chunks →
+    IsReadOf start es (Fault f)
+feeding-fails start es chunks f fault so =
+    ended start chunks.stream es (Fault f) so.taken (λ s is. subst (λ (o : Option Stream). EndsIn o f) is (fault-end start chunks.stream es f so.taken (fault so.good)))
+
+-- a chunk was read, and put or not
+pub feeding-put :
+    (start : Option Stream) (es more new : List Event) (chunks next : ChunksLeft) (answer : Option FeedEnd) → TakesEvents chunks.stream next.stream more → next.fault ≡ None →
+    IsPut es new more answer → IsFeeding start es chunks → GoesOn start new next answer
+feeding-put start es more new chunks next None step good grown so = feeding-turn start es more new chunks next so step good grown
+feeding-put start es more new chunks next (Some Stopped) step good grown so =
+    ended start next.stream new Stopped (feeding-turn start es more new chunks next so step good grown).taken (λ s is. tt)
+feeding-put start es more new chunks next (Some NoMemory) step good same so =
+    subst (λ (l : List Event). IsReadOf start l NoMemory) (sym same) (ended start chunks.stream es NoMemory so.taken (λ s is. tt))
+feeding-put start es more new chunks next (Some Whole) step good none so = absurd none
+feeding-put start es more new chunks next (Some (Fault f)) step good none so = absurd none

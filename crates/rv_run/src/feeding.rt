@@ -1,7 +1,9 @@
 //! A source's chunks, put into the carrier.
-ghost use Rattle.std.specs.Prelude.{◌≡◌, ◌++◌, ◌<◌, OnOk, OnErr, option_map};
-ghost use Rattle.rv_trace.specs.Source.{source_says};
-ghost use Rattle.rv_run.specs.Feeds.{IsFedOf};
+ghost use Rattle.std.specs.Prelude.{◌≡◌, ◌++◌, ◌<◌, IfOk, IfErr, OnOk, OnErr, List, None, Option, option_map};
+ghost use Rattle.rv_event.specs.declared.event.Event.{Event};
+ghost use Rattle.rv_trace.specs.Chunks.{TakesEvents};
+ghost use Rattle.rv_trace.specs.Source.{Stream, source_says};
+ghost use Rattle.rv_run.specs.Feeds.{GoesOn, IsFedOf, IsFeeding, IsPut, IsReadOf};
 
 use crate::gate::Gate;
 use rv_event::{Chunk, Event, NoMemory, unpack};
@@ -72,6 +74,67 @@ fn place<RT: Wait, C: Carrier, G: Gate>(
     unreachable!()
 }
 
+/// Puts a chunk into the carrier, with its events taken into the list first, and tells how the source has ended,
+/// if it has.
+fn put_chunk<RT: Wait, C: Carrier, G: Gate>(
+    rt: &RT,
+    alloc: Global,
+    events: &mut Vec<Event>,
+    chunk: &Chunk,
+    carrier: &C,
+    seat: C::Seat,
+    gate: &G,
+) -> (C::Seat, Option<FeedEnd>)
+    requires { C.fits carrier.now seat }
+    ensures seat { C.fits carrier.now result.0 }
+    ensures taken { IsPut events.old.items events.new.items chunk.now.events result.1 }
+{
+    let Ok(()) = append(alloc, events, chunk) else {
+        return (seat, Some(FeedEnd::NoMemory));
+    };
+    let (seat, put) = place(rt, carrier, seat, chunk, gate);
+    match put {
+        Put::Placed => (seat, None),
+        Put::Busy => (seat, Some(FeedEnd::Stopped)),
+    }
+}
+
+/// The source's next chunk, or how the source has ended.
+fn read_next<R: Read>(chunks: &mut Chunks<R>) -> Result<Chunk, FeedEnd>
+    ensures given { IfOk result
+        (λ c. TakesEvents chunks.old.stream chunks.new.stream c.events) }
+    ensures good { OnOk result (chunks.new.fault ≡ None) }
+    ensures end { IfErr result (λ end. (start : Option Stream) (events : List Event)
+        → IsFeeding start events chunks.old → IsReadOf start events end) }
+{
+    match chunks.next_chunk() {
+        Ok(Some(chunk)) => Ok(chunk),
+        Ok(None) => Err(FeedEnd::Whole),
+        Err(fault) => Err(FeedEnd::Fault(fault)),
+    }
+}
+
+/// Reads the source's next chunk and puts it into the carrier, and tells how the source has ended, if it has.
+fn put_next<RT: Wait, R: Read, C: Carrier, G: Gate>(
+    rt: &RT,
+    alloc: Global,
+    chunks: &mut Chunks<R>,
+    events: &mut Vec<Event>,
+    carrier: &C,
+    seat: C::Seat,
+    gate: &G,
+) -> (C::Seat, Option<FeedEnd>)
+    requires { C.fits carrier.now seat }
+    ensures seat { C.fits carrier.now result.0 }
+    ensures fed { (start : Option Stream) → IsFeeding start events.old.items chunks.old
+        → GoesOn start events.new.items chunks.new result.1 }
+{
+    match read_next(chunks) {
+        Ok(chunk) => put_chunk(rt, alloc, events, &chunk, carrier, seat, gate),
+        Err(end) => (seat, Some(end)),
+    }
+}
+
 /// Reads the source and puts its chunks into the carrier, one after another.
 fn put_all<RT: Wait, R: Read + Drop, C: Carrier, G: Gate>(
     rt: &RT,
@@ -89,25 +152,9 @@ fn put_all<RT: Wait, R: Read + Drop, C: Carrier, G: Gate>(
     let mut chunks = Chunks::new(alloc, reader, source);
     let mut events = Vec::new(alloc);
     for _ in rt.forever() {
-        let chunk = match chunks.next_chunk() {
-            Ok(Some(chunk)) => chunk,
-            Ok(None) => {
-                let end = FeedEnd::Whole;
-                return Fed { events, end };
-            }
-            Err(fault) => {
-                let end = FeedEnd::Fault(fault);
-                return Fed { events, end };
-            }
-        };
-        let Ok(()) = append(alloc, &mut events, &chunk) else {
-            let end = FeedEnd::NoMemory;
-            return Fed { events, end };
-        };
-        let (back, put) = place(rt, carrier, seat, &chunk, gate);
+        let (back, ended) = put_next(rt, alloc, &mut chunks, &mut events, carrier, seat, gate);
         seat = back;
-        if put == Put::Busy {
-            let end = FeedEnd::Stopped;
+        if let Some(end) = ended {
             return Fed { events, end };
         }
     }

@@ -75,7 +75,10 @@ pub(crate) fn run_over<RT: Threads + Wait + Sync, R: Read + Send + Drop, C: Carr
     let fed = driven.fed.as_slice();
     let served = driven.served.as_slice();
     let book = step.into_gate().into_book();
-    judge(alloc, settings.model, fed, served, &cell, &book)
+    let outcome = judge(alloc, settings.model, fed, served, &cell, &book);
+    // By a call: where the scope ends, the proof would take the book apart, field by field.
+    drop(book);
+    outcome
 }
 
 /// Reads the sources in threads of their own, judges their events in other threads while they are read, and

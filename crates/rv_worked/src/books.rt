@@ -1,4 +1,7 @@
 //! The book over the worked executions: what it accepts, what it refuses, and with which certificate.
+//!
+//! Here as in other tests books and histories are let go by a call: where a scope ends, the proof would take them apart,
+//! field by field.
 use crate::allowed::{WorkedAllowed, allowed};
 use crate::circles::{WorkedCircle, circles, total_store_circles};
 use crate::refused::{STALE, TAKEN};
@@ -69,6 +72,7 @@ fn assert_accepted(rt: &impl Abort, alloc: Global, worked: &WorkedAllowed, rows:
     let book = book_of(rt, alloc, worked.model, rows);
     assert!(rt; book.accepted() == worked.rows.len(), "{}", worked.name);
     assert!(rt; book.waiting() == worked.waiting, "{}", worked.name);
+    drop(book);
 }
 
 #[test]
@@ -149,6 +153,7 @@ fn assert_refused(
     let entry = entry_of(rt, alloc, last);
     assert!(rt; refuses(&mut book, &entry, refusal), "{name}");
     assert!(rt; book.accepted() == before.len(), "{name}");
+    drop(book);
 }
 
 /// The last row of the execution is refused by its circle.

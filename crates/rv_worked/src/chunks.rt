@@ -80,6 +80,7 @@ fn chunks_are_applied_in_order_and_once(rt: HostRuntime) {
     let mut book = Book::new(alloc, MemoryModel::Rvwmo);
     assert_applied_in_order(&rt, &mut book, (&first, 8), (&second, 2));
     assert!(rt; book.accepted() == 10);
+    drop(book);
 }
 
 /// Nine stores of hart 0 to one word, in the order of their versions.
@@ -109,6 +110,7 @@ fn nine_stores_in_two_chunks_stand_in_their_order(rt: HostRuntime) {
     assert_applied_in_order(&rt, &mut book, (&first, 8), (&second, 1));
     let order = book.order().expect(&rt, "memory");
     assert!(rt; are_ids(order.as_slice(), nine()));
+    drop(book);
 }
 
 /// Whether these are the ids of the rows.
@@ -149,6 +151,7 @@ fn a_chunk_halts_at_its_first_forbidden_event(rt: HostRuntime) {
     assert!(rt; offer(&mut book, &stale) == Came::Halted);
     assert!(rt; book.stopped() && book.accepted() == 1);
     assert!(rt; offer(&mut book, &stale) == Came::Stopped);
+    drop(book);
 }
 
 /// The execution is applied as one chunk.
@@ -158,6 +161,7 @@ fn assert_applied(rt: &impl Abort, alloc: Global, worked: &WorkedAllowed) {
     let came = offer(&mut book, &chunk);
     assert!(rt; came == Came::Applied(worked.rows.len()), "{}", worked.name);
     assert!(rt; book.operations() == worked.operations, "{}", worked.name);
+    drop(book);
 }
 
 #[test]

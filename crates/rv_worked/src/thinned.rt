@@ -58,6 +58,7 @@ fn assert_listed(rt: &impl Abort, alloc: Global, worked: &WorkedLinks) {
         worked.name
     );
     assert!(rt; around.after.as_slice() == worked.after, "{}", worked.name);
+    drop(history);
 }
 
 #[test]

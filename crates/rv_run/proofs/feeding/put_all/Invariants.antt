@@ -1,6 +1,6 @@
 use Rattle.std.proofs.Common.{option_map}
 use Rattle.rv_trace.specs.Source.{source_says}
-use Rattle.rv_run.proofs.ReadSoFar.{IsFeeding}
+use Rattle.rv_run.specs.Feeds.{IsFeeding}
 use Rattle.rv_run.proofs.feeding.put_all.Given as goal
 
 abbrev pub invariant-loop : goal.invariant-loop

@@ -1,0 +1,5 @@
+use Rattle.rv_run.proofs.Passing.{IsReplaying}
+use Rattle.rv_run.proofs.replaying.pass.Given as goal
+
+abbrev pub invariant-loop-entry : goal.invariant-loop-entry
+invariant-loop-entry l = IsReplaying l.initial.book.model l.entries l.entry-index l.book

@@ -1,5 +1,0 @@
-use Rattle.rv_run.proofs.Passing.{IsReplaying}
-use Rattle.rv_run.proofs.replaying.replay.Given as goal
-
-abbrev pub invariant-loop-entry : goal.invariant-loop-entry
-invariant-loop-entry l = IsReplaying l.fn.model l.entries l.entry-index l.book
