@@ -120,10 +120,8 @@ fn read(alloc: Global, file: File, count: u32) -> u32 {
     count
 }
 
-/// How many events are read and accepted.
-fn judge(alloc: Global, file: File, count: u32) -> u32 {
-    let mut trace = Trace::new(alloc, file, 0);
-    let mut book = Book::new(alloc, MemoryModel::Rvwmo);
+/// Offers the events of the trace. How many are read and accepted.
+fn offer_all(trace: &mut Trace<File>, book: &mut Book, count: u32) -> u32 {
     for judged in 0..=count {
         let Ok(Some(event)) = trace.next_event() else {
             return judged;
@@ -133,6 +131,16 @@ fn judge(alloc: Global, file: File, count: u32) -> u32 {
         }
     }
     count
+}
+
+/// How many events are read and accepted by a new book.
+fn judge(alloc: Global, file: File, count: u32) -> u32 {
+    let mut trace = Trace::new(alloc, file, 0);
+    let mut book = Book::new(alloc, MemoryModel::Rvwmo);
+    let judged = offer_all(&mut trace, &mut book, count);
+    // By a call: where the scope ends, the proof would take the book apart, field by field.
+    drop(book);
+    judged
 }
 
 /// Nanoseconds for each of so many events.

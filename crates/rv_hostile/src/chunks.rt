@@ -61,6 +61,7 @@ fn assert_chunk(rt: &impl Abort, alloc: Global, one: &Worked) {
         }
         _ => panic!(rt; "{}: no answer", one.name),
     }
+    drop(book);
 }
 
 #[test]

@@ -36,6 +36,7 @@ fn assert_pushes(rt: &impl Abort, alloc: Global, one: &Worked) {
     for entry in entries_of(rt, alloc, one.rows).iter() {
         push_twice(rt, &mut history, &entry.event);
     }
+    drop(history);
 }
 
 #[test]
