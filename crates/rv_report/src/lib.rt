@@ -15,8 +15,6 @@
 mod fault;
 mod json_report;
 mod outcome;
-#[cfg(test)]
-mod tests;
 mod text;
 mod walk;
 mod writing;

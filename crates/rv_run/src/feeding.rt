@@ -6,13 +6,13 @@ ghost use Rattle.rv_trace.specs.Source.{Stream, source_says};
 ghost use Rattle.rv_run.specs.Feeds.{GoesOn, IsFedOf, IsFeeding, IsPut, IsReadOf};
 
 use crate::gate::Gate;
+use crate::waiting::Patience;
 use rv_event::{Chunk, Event, NoMemory, unpack};
 use rv_slots::{Carrier, Put};
 use rv_trace::{Chunks, TraceFault};
 use std::alloc::Global;
 use std::io::Read;
 use std::sync::Wait;
-use std::thread;
 
 /// How a feeder ended.
 #[derive(Clone, Copy, PartialEq, Eq, Debug)]
@@ -52,7 +52,7 @@ fn append(alloc: Global, events: &mut Vec<Event>, chunk: &Chunk) -> Result<(), N
 }
 
 /// Tries until a slot has taken the chunk (`Placed`), or the gate is stopped (`Busy`). Between two tries other
-/// threads are given the processor.
+/// threads are given the processor, and after some tries the thread rests until the gate has news.
 fn place<RT: Wait, C: Carrier, G: Gate>(
     rt: &RT,
     carrier: &C,
@@ -63,13 +63,15 @@ fn place<RT: Wait, C: Carrier, G: Gate>(
     requires { C.fits carrier.now seat }
     ensures { C.fits carrier.now result.0 }
 {
+    let mut patience = Patience::new();
     for _ in rt.forever() {
+        let seen = gate.news();
         let (back, put) = carrier.put_chunk(rt, seat, chunk);
         seat = back;
         if put == Put::Placed || gate.stopped(rt) {
             return (seat, put);
         }
-        thread::yield_now();
+        patience.wait(rt, gate, seen);
     }
     unreachable!()
 }

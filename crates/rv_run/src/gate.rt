@@ -7,6 +7,7 @@ use rv_book::{Book, ChunkOffer};
 use rv_event::{Chunk, MemoryModel};
 use std::alloc::Global;
 use std::sync::{Mutex, Wait};
+use std::thread;
 
 /// Where chunks are offered, and where it is known how far the sources are.
 ///
@@ -22,6 +23,18 @@ pub trait Gate {
 
     /// Whether nothing is left to be offered: the run is decided, or cannot be.
     fn stopped<R: Wait>(&self, rt: &R) -> bool;
+
+    /// How often this gate was told so far that a thread which found nothing to do may find something now. A
+    /// gate that is told of no news answers 0.
+    fn news(&self) -> u64 {
+        0
+    }
+
+    /// Waits for a moment, or until there are more news than `seen`. Nothing is promised of how long. A gate that
+    /// is told of no news gives other threads the processor.
+    fn rest<R: Wait>(&self, _rt: &R, _seen: u64) {
+        thread::yield_now();
+    }
 }
 
 /// A book under a lock.

@@ -8,7 +8,7 @@
 //! - [`gate`], `desk`: the book under its lock, and how far each source is.
 //! - [`feeding`]: one source's thread. [`serving`]: one worker's thread.
 //! - [`driving`]: a thread for each, over any carrier and any gate. `step`: a carrier and a gate by which no
-//!   source runs far ahead of the others.
+//!   source runs far ahead of the others, and threads are woken that rest; `waiting`: how they come to rest.
 //! - [`running`]: a run's parts, and its settings; `judging`, `comparing`: what the threads' answers come to.
 //! - [`replaying`]: the pass in one thread; [`fault`]: why a run has no outcome; [`laws`]: that outcomes agree.
 //! - `specs/`: what each thread tells of its source, and an outcome of all.
@@ -30,8 +30,7 @@ mod replaying;
 mod running;
 mod serving;
 mod step;
-#[cfg(test)]
-mod tests;
+mod waiting;
 
 pub use driving::{Driven, drive};
 pub use fault::RunFault;
@@ -39,7 +38,7 @@ pub use feeding::{Fed, FeedEnd, feed};
 pub use gate::{BookGate, Gate};
 pub use laws::{allowed_where_consistent, outcomes_agree};
 pub use replaying::replay;
-pub use running::{Settings, run};
+pub use running::{Settings, run, run_over};
 pub use rv_report::Outcome;
 pub use serving::{ServeEnd, Served, serve};
 pub use step::InStep;

@@ -44,11 +44,14 @@ impl Settings {
     }
 }
 
-/// The run over a carrier that was made for it, and its seats.
+/// The same as [`run`], over a carrier of one's own that has not been used yet, with seats of it for all threads.
+///
+/// There are 1 to 8 readers and at least one worker; the number of slots in the settings is not read. The outcome
+/// promises what that of [`run`] does, whatever the carrier does.
 ///
 /// # Errors
 /// As [`run`], but for `Settings`.
-pub(crate) fn run_over<RT: Threads + Wait + Sync, R: Read + Send + Drop, C: Carrier + Sync + Drop>(
+pub fn run_over<RT: Threads + Wait + Sync, R: Read + Send + Drop, C: Carrier + Sync + Drop>(
     rt: &RT,
     alloc: Global,
     readers: Vec<R>,

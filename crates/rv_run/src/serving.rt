@@ -3,12 +3,12 @@ ghost use Rattle.std.specs.Prelude.{◌≡◌};
 ghost use Rattle.rv_verdict.specs.Known.{StillKnows};
 
 use crate::gate::Gate;
+use crate::waiting::Patience;
 use rv_book::ChunkOffer;
 use rv_slots::{Carrier, Looked};
 use rv_verdict::{Raise, VerdictCell, VerdictNote};
 use std::alloc::Global;
 use std::sync::Wait;
-use std::thread;
 
 /// How many slots a carrier may have.
 const MOST_SLOTS: usize = 16;
@@ -118,8 +118,8 @@ fn serve_round<RT: Wait, C: Carrier, G: Gate>(
 /// stopped or memory is wanting.
 ///
 /// A verdict is raised in the cell. A chunk is done with where all of it is in the book. After a round in which
-/// none was, other threads are given the processor. The note that comes back is of the same cell and knows what
-/// it knew.
+/// none was, other threads are given the processor, and after some such rounds the thread rests until the gate
+/// has news. The note that comes back is of the same cell and knows what it knew.
 pub fn serve<RT: Wait, C: Carrier, G: Gate>(
     rt: &RT,
     alloc: Global,
@@ -134,7 +134,9 @@ pub fn serve<RT: Wait, C: Carrier, G: Gate>(
     ensures seat { C.fits carrier.now result.seat }
     ensures note { StillKnows note result.note }
 {
+    let mut patience = Patience::new();
     for _ in rt.forever() {
+        let seen = gate.news();
         if gate.stopped(rt) {
             let end = ServeEnd::Over;
             return Served { seat, note, end };
@@ -142,8 +144,8 @@ pub fn serve<RT: Wait, C: Carrier, G: Gate>(
         let (back, turn) = serve_round(rt, alloc, carrier, seat, gate, cell, &mut note);
         seat = back;
         match turn {
-            Turn::Idle => thread::yield_now(),
-            Turn::Applied => {}
+            Turn::Idle => patience.wait(rt, gate, seen),
+            Turn::Applied => patience.renew(),
             Turn::NoMemory => {
                 let end = ServeEnd::NoMemory;
                 return Served { seat, note, end };

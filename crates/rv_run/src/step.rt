@@ -1,16 +1,20 @@
-//! Sources that keep in step.
+//! Sources that keep in step, and threads that rest while there is nothing to do.
 //!
 //! Where one source runs far ahead of another, each event of the slower one stands before all that the faster
 //! one has given, and the book's order is mended over and over. So a chunk that is far ahead is held back for a
-//! while. Nothing is promised of it, since nothing rests on it but time.
+//! while.
+//!
+//! What is put in by one thread and taken out by another passes through here, so here the threads are woken that
+//! wait for it. Nothing is promised of either, since nothing rests on them but time.
 ghost use Rattle.std.specs.Prelude.{◌≡◌};
 
 use crate::gate::Gate;
 use rv_book::ChunkOffer;
 use rv_event::Chunk;
 use rv_slots::{Carrier, Looked, Put};
-use std::sync::Wait;
 use std::sync::atomic::{AtomicU64, Ordering};
+use std::sync::{Condvar, Wait};
+use std::time::Duration;
 use std::{array, thread};
 
 /// How many chunks a source may be ahead of another that is still read.
@@ -20,15 +24,20 @@ const AHEAD: u64 = 2;
 /// source that is slow to come must not stop the others.
 const TURNS: u32 = 1000;
 
+/// For how many milliseconds a thread rests at most, for the case that it was not woken.
+const REST: u64 = 50;
+
 /// The count of a source that is not read, or not any more.
 const ENDED: u64 = u64::MAX;
 
-/// A carrier and a gate that are used together, with the number of chunks that each source has placed.
+/// A carrier and a gate that are used together, with the number of chunks that each source has placed. What rests
+/// is woken where a chunk was placed or is done with, where a source has ended, and where the gate may be stopped.
 #[derive(Drop)]
 pub struct InStep<C, G> {
     carrier: C,
     gate: G,
     placed: [AtomicU64; 8],
+    news: Condvar,
 }
 
 impl<C: Drop, G: Drop> InStep<C, G> {
@@ -42,6 +51,7 @@ impl<C: Drop, G: Drop> InStep<C, G> {
             carrier,
             gate,
             placed: array::from_fn(|i| AtomicU64::new(if i < count { 0 } else { ENDED })),
+            news: Condvar::new(),
         }
     }
 
@@ -99,6 +109,7 @@ impl<C: Carrier, G> Carrier for InStep<C, G> {
         let (seat, put) = self.carrier.put_chunk(rt, seat, chunk);
         if put == Put::Placed {
             self.count(chunk.source());
+            self.news.notify_all();
         }
         (seat, put)
     }
@@ -113,13 +124,21 @@ impl<C: Carrier, G> Carrier for InStep<C, G> {
     }
 
     fn finish_chunk<R: Wait>(&self, rt: &R, lease: C::Lease, applied: bool) -> C::Seat {
-        self.carrier.finish_chunk(rt, lease, applied)
+        let seat = self.carrier.finish_chunk(rt, lease, applied);
+        if applied {
+            self.news.notify_all();
+        }
+        seat
     }
 }
 
 impl<C, G: Gate> Gate for InStep<C, G> {
     fn offer_chunk<R: Wait>(&self, rt: &R, chunk: &Chunk) -> ChunkOffer {
-        self.gate.offer_chunk(rt, chunk)
+        let offer = self.gate.offer_chunk(rt, chunk);
+        if matches!(&offer, ChunkOffer::Halted(_) | ChunkOffer::NoMemory) {
+            self.news.notify_all();
+        }
+        offer
     }
 
     /// Ends the source, for which nobody waits from here on.
@@ -128,9 +147,18 @@ impl<C, G: Gate> Gate for InStep<C, G> {
             placed.store(ENDED, Ordering::SeqCst);
         }
         self.gate.end_source(rt, source, total);
+        self.news.notify_all();
     }
 
     fn stopped<R: Wait>(&self, rt: &R) -> bool {
         self.gate.stopped(rt)
+    }
+
+    fn news(&self) -> u64 {
+        self.news.notifications()
+    }
+
+    fn rest<R: Wait>(&self, rt: &R, seen: u64) {
+        self.news.sleep(rt, seen, Duration::from_millis(REST));
     }
 }

@@ -20,8 +20,6 @@ mod acts;
 mod machine;
 mod parts;
 mod step;
-#[cfg(test)]
-mod tests;
 mod word;
 
 ghost use Rattle.rv_slotcore.specs.Safe.{SlotsAreSafe};

@@ -30,8 +30,6 @@ mod seats;
 mod slot;
 mod slots;
 mod table_carrier;
-#[cfg(test)]
-mod tests;
 mod views;
 
 pub use carrier::{Carrier, Looked, Put};

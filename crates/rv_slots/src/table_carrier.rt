@@ -31,8 +31,9 @@ impl TableCarrier {
 }
 
 impl Slots {
-    /// Fills a slot with the words of a chunk, and gives it to be read.
-    pub(crate) fn fill(&self, filling: Filling, words: &[u64; 58]) -> Seat
+    /// Fills a slot that the seat has claimed with the words of a chunk, and gives it to be read. It is a put for each
+    /// word and then a publish.
+    pub fn fill(&self, filling: Filling, words: &[u64; 58]) -> Seat
         requires table { filling.place.table_id ≡ self.now.table.shared.table_id }
         requires text { is_chunk_text words.now ≡ true }
         ensures table { result.place.table_id ≡ self.now.table.shared.table_id }
@@ -45,8 +46,8 @@ impl Slots {
         self.publish(filling)
     }
 
-    /// The chunk of a slot that the seat has pinned.
-    pub(crate) fn read(&self, pinned: &mut Pinned) -> Chunk
+    /// The chunk of a slot that the seat has pinned, by a get for each word. The pin stays.
+    pub fn read(&self, pinned: &mut Pinned) -> Chunk
         requires { pinned.old.place.table_id ≡ self.now.table.shared.table_id }
         ensures same { IsSamePinned pinned.old pinned.new }
         ensures read { IsRead pinned.old (text_of result) pinned.new }

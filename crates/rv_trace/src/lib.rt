@@ -19,8 +19,6 @@ mod number;
 mod operation;
 mod row;
 mod rows;
-#[cfg(test)]
-mod tests;
 mod trace;
 
 pub use chunks::Chunks;

@@ -13,8 +13,6 @@
 
 mod cell;
 mod note;
-#[cfg(test)]
-mod tests;
 
 pub use cell::{Raise, VerdictCell};
 pub use note::VerdictNote;

@@ -13,8 +13,6 @@
 mod command;
 mod help;
 mod request;
-#[cfg(test)]
-mod tests;
 mod words;
 
 pub use request::{Asked, WordsFault};

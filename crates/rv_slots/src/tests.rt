@@ -1,3 +1,0 @@
-//! Both carriers, and the table call by call.
-mod locked;
-mod table;
