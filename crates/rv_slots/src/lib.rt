@@ -10,7 +10,8 @@
 //!   [`seats`]: what a seat becomes from call to call; `views`, `plays`: what each seat knows, and how each kind of
 //!   exchange changes that.
 //! - [`laws`]: each exchange is a step of the machine of `rv_slotcore`, and what the table's rule says between any two.
-//! - [`table_carrier`]: the carrier over the table. [`locked`], `slot`: the carrier under a lock.
+//! - [`table_carrier`]: a whole chunk filled in and read by these calls, and the carrier over the table. [`locked`],
+//!   `slot`: the carrier under a lock.
 //! - `specs/Rule.antt`: the rule that ties the words of the table, and what all seats know, to a state of the machine.
 //!   `specs/Lines.antt`: each exchange's change of what its seat knows. `specs/Says.antt`, `Steps.antt`: the laws.
 //!
