@@ -27,16 +27,15 @@ fn count_lines(bytes: &[u8]) -> u32 {
     lines
 }
 
-/// Reads the text until a call fails, and wants the rows whose lines were read whole, and then the fault for ever.
-/// Whether the text was read to its end.
-fn assert_trace(
+/// Reads the trace of the text until a call fails, and wants the rows whose lines were read whole, and then the fault
+/// for ever. Whether the text was read to its end.
+fn assert_rows(
     rt: &impl Abort,
-    alloc: Global,
+    trace: &mut Trace<Failing<'_>>,
     text: &[u8],
     calls: usize,
     entries: &[Entry],
 ) -> bool {
-    let mut trace = Trace::new(alloc, Failing { text, calls }, 0);
     let mut given = entries.iter();
     for row in 1..1000u32 {
         match trace.next_event() {
@@ -59,6 +58,20 @@ fn assert_trace(
         }
     }
     panic!(rt; "no end")
+}
+
+/// The same, of a new trace.
+fn assert_trace(
+    rt: &impl Abort,
+    alloc: Global,
+    text: &[u8],
+    calls: usize,
+    entries: &[Entry],
+) -> bool {
+    let mut trace = Trace::new(alloc, Failing { text, calls }, 0);
+    let is_whole = assert_rows(rt, &mut trace, text, calls, entries);
+    drop(trace);
+    is_whole
 }
 
 /// Reads the text with each call failing in turn, until none fails.

@@ -59,9 +59,8 @@ fn holds(rt: &impl Abort, alloc: Global, chunk: &Chunk, entries: &[Entry]) -> bo
             .all(|(event, entry)| *event == entry.event)
 }
 
-/// Reads the text as chunks, to its end or until memory is refused. Whether it was read to its end.
-fn read_chunks(rt: &impl Abort, alloc: Global, text: &str, entries: &[Entry]) -> bool {
-    let mut chunks = Chunks::new(alloc, text.as_bytes(), 0);
+/// Reads chunks to their end or until memory is refused. Whether they were read to their end.
+fn read_on(rt: &impl Abort, alloc: Global, chunks: &mut Chunks<&[u8]>, entries: &[Entry]) -> bool {
     let mut given = 0;
     for _ in 0..1000u32 {
         match chunks.next_chunk() {
@@ -83,6 +82,14 @@ fn read_chunks(rt: &impl Abort, alloc: Global, text: &str, entries: &[Entry]) ->
         }
     }
     panic!(rt; "no end")
+}
+
+/// Reads the text as chunks, to its end or until memory is refused. Whether it was read to its end.
+fn read_chunks(rt: &impl Abort, alloc: Global, text: &str, entries: &[Entry]) -> bool {
+    let mut chunks = Chunks::new(alloc, text.as_bytes(), 0);
+    let is_whole = read_on(rt, alloc, &mut chunks, entries);
+    drop(chunks);
+    is_whole
 }
 
 #[test]

@@ -28,20 +28,26 @@ fn book_of(rt: &impl Abort, alloc: Global, model: MemoryModel, rows: &[Row]) -> 
     book
 }
 
+/// A book that has taken the execution goes on, and counts what is worked out.
+fn assert_counted(rt: &impl Abort, worked: &WorkedAllowed, book: &Book) {
+    assert_eq!(rt; book.accepted(), worked.rows.len(), "{}", worked.name);
+    assert_eq!(rt; book.operations(), worked.operations, "{}", worked.name);
+    assert_eq!(rt; book.waiting(), worked.waiting, "{}", worked.name);
+    assert!(rt;
+        !book.stopped() && book.model() == worked.model,
+        "{}",
+        worked.name
+    );
+    let order = book.order().expect(rt, "memory");
+    assert_eq!(rt; order.len(), worked.operations, "{}", worked.name);
+}
+
 #[test]
 fn allowed_executions_are_accepted_and_counted(rt: HostRuntime) {
     for worked in allowed() {
         let book = book_of(&rt, rt.alloc(), worked.model, worked.rows);
-        assert_eq!(rt; book.accepted(), worked.rows.len(), "{}", worked.name);
-        assert_eq!(rt; book.operations(), worked.operations, "{}", worked.name);
-        assert_eq!(rt; book.waiting(), worked.waiting, "{}", worked.name);
-        assert!(rt;
-            !book.stopped() && book.model() == worked.model,
-            "{}",
-            worked.name
-        );
-        let order = book.order().expect(&rt, "memory");
-        assert_eq!(rt; order.len(), worked.operations, "{}", worked.name);
+        assert_counted(&rt, worked, &book);
+        drop(book);
     }
 }
 

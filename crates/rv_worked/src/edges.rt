@@ -128,4 +128,6 @@ fn an_event_that_is_taken_off_leaves_no_link(rt: HostRuntime) {
     assert_eq!(rt; history.preserved(id!(0: 0), id!(0: 1)), None);
     let around = around_of(&rt, rt.alloc(), &history, &store!(0: 1, Y = 1));
     assert!(rt; around.before.as_slice().is_empty() && around.after.as_slice().is_empty());
+    drop(around);
+    drop(history);
 }
