@@ -1,0 +1,109 @@
+"""What a report may say of a trace, and what is wrong with a report."""
+
+import json
+import re
+
+from opinion.model import Log, certifies, fault_of, has_lawful_order
+from opinion.traces import read_source
+
+# Outcomes: the first line of a report, or the line on standard error
+
+
+def allowed_line(log):
+    """What is said of a log that has a lawful order."""
+    operations = [event for event in log.events if event.is_memory]
+    waiting = [e for e in operations if e.is_load and e.read > 0 and log.writer(e.word, e.read) is None]
+    return f"allowed: {len(log.events)} events, {len(operations)} operations, {len(waiting)} waiting loads"
+
+
+def possible_outcomes(sources, model):
+    """Each outcome that some order of arrival leads to, with the logs that are the evidence of each refusal.
+
+    The events of a source arrive in their order, those of several sources in any. What has arrived is told by how many
+    events each source gave, as the merges of these have the same faults and the same lawful orders.
+    """
+    given, faults = zip(*(read_source(text) for text in sources))
+    outcomes = {}
+    whole = tuple(len(events) for events in given)
+    accepted = [(0,) * len(given)]
+    for arrived in accepted:
+        log = Log([(s, event) for s, events in enumerate(given) for event in events[: arrived[s]]], model)
+        if arrived == whole and not any(faults):
+            outcomes[allowed_line(log)] = []
+        for source, event in next_entries(given, arrived):
+            refusal = refusal_line(log, source, event)
+            following = tuple(count + (s == source) for s, count in enumerate(arrived))
+            if refusal:
+                outcomes.setdefault(refusal, []).append(log.extended(source, event))
+            elif following not in accepted:
+                accepted.append(following)
+    if any(faults):
+        outcomes[trace_fault_line(faults)] = []
+    return outcomes
+
+
+def next_entries(given, arrived):
+    """The next event of each source that has one."""
+    return [(s, events[arrived[s]]) for s, events in enumerate(given) if arrived[s] < len(events)]
+
+
+def trace_fault_line(faults):
+    """What is said of the lowest source that has a fault, or None."""
+    lines = [f"rvmon: source {s} row {fault[0]}: trace fault {fault[1]}" for s, fault in enumerate(faults) if fault]
+    return lines[0] if lines else None
+
+
+def refusal_line(log, source, event):
+    """What is said of the event where it is refused over the log, or None."""
+    fault = fault_of(log, source, event)
+    if fault:
+        return f"malformed: {event.name} after {len(log.events)} events: {fault}"
+    if not has_lawful_order(log.extended(source, event)):
+        return f"forbidden: {event.name} after {len(log.events)} events"
+    return None
+
+
+# Answers of the program
+
+# Of each outcome: the text of a report with the names of the keys that JSON has besides `outcome` and `certificate`.
+REPORTS = {
+    "allowed": "allowed: {events} events, {operations} operations, {waiting} waiting loads",
+    "forbidden": "forbidden: {event} after {after} events",
+    "malformed": "malformed: {event} after {after} events: fault {fault} {text}",
+}
+
+
+def text_of_json(output):
+    """The text report that says the same as a JSON report. Raises an error where it is none."""
+    report = json.loads(output)
+    if json.dumps(report, sort_keys=True, separators=(",", ":")) + "\n" != output:
+        raise ValueError("it is not written as it should be")
+    form = REPORTS[report.pop("outcome")]
+    lines = certificate_lines(report.pop("certificate")) if form == REPORTS["forbidden"] else []
+    if set(report) != set(re.findall(r"{(\w+)}", form)):
+        raise ValueError("the keys are not those of the outcome")
+    return "".join(line + "\n" for line in [form.format(**report), *lines])
+
+
+def certificate_lines(certificate):
+    """The lines of text that say the same as a certificate in JSON."""
+    if set(certificate) == {"stale"}:
+        return ["stale: {load} reads below {store}".format(**certificate["stale"])]
+    edges = certificate["circle"]
+    return [f"circle of {len(edges)}", *("{from} {reason} {to}".format(**edge) for edge in edges)]
+
+
+def complaint_of(answer, text, outcomes):
+    """What is wrong with an answer whose report, as text, is this; or None."""
+    lines = (text or answer.stderr).split("\n")
+    if lines.pop() != "" or not lines or lines[0] not in outcomes:
+        return "the outcome is none of those possible"
+    outcome = lines[0].split(":")[0]
+    if answer.returncode != {"allowed": 0, "forbidden": 1, "malformed": 2, "rvmon": 2}[outcome]:
+        return "the status is not that of the outcome"
+    if (outcome == "rvmon") != (answer.stdout == "") or (outcome != "rvmon") != (answer.stderr == ""):
+        return "the outcome is on the wrong output"
+    if outcome == "forbidden":
+        good = any(certifies(log, lines[1:]) for log in outcomes[lines[0]])
+        return None if good else "the certificate is none"
+    return "there are lines too many" if len(lines) > 1 else None
