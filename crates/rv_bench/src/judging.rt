@@ -1,5 +1,5 @@
-//! What judging costs beside reading: a file with a trace, read alone, and read and offered to a book. It is done once, as a
-//! program that goes on has memory at hand that a program which begins does not.
+//! What judging costs beside reading: a file with a trace, read alone, and read and offered to a book. It is done once,
+//! as a program that goes on has memory at hand that a program which begins does not.
 use rv_book::{Book, Offer};
 use rv_event::{Entry, MemoryModel};
 use rv_trace::Trace;

@@ -1,5 +1,6 @@
 -- A log with one more entry, and its verdicts.
-use Rattle.std.proofs.Common.{◌≡◌, ◌<◌, List, [], ◌∷◌, ◌++◌, length, Option, Some, None, refl, sym, ap, ◌∙◌, subst, arith, Bool}
+use Rattle.std.proofs.Common.{◌≡◌, ◌<◌, List, [], ◌∷◌, ◌++◌, length, Option, Some, None, refl, sym, ap, ◌∙◌}
+use Rattle.std.proofs.Common.{subst, arith, Bool}
 use Rattle.std.proofs.lemmas.List.{map-append, length-map, length_push}
 use Rattle.rv_event.specs.Log.{events}
 use Rattle.rv_event.specs.Orders.{Lawful}
@@ -24,14 +25,16 @@ use Rattle.rv_book.specs.Booked.{Booked, IsBooked, IsTaken, IsForbiddenOn, booke
 -- an entry without a fault is an event without one
 pub event_sound : (log : List Entry) (x : Entry) → fault_of log x ≡ None → event_fault (events log) x.event ≡ None
 event_sound log x none =
-    let e : NoneOf (first_faults (events log) x.event ++ source_fault log x ∷ deps_fault x.event ∷ []) = lowest-none (first_faults (events log) x.event ++ source_fault log x ∷ deps_fault x.event ∷ []) none in
+    let e : NoneOf (first_faults (events log) x.event ++ source_fault log x ∷ deps_fault x.event ∷ []) =
+    lowest-none (first_faults (events log) x.event ++ source_fault log x ∷ deps_fault x.event ∷ []) none in
     none-lowest (first_faults (events log) x.event ++ deps_fault x.event ∷ [])
     (e.0, (e.1.0, (e.1.1.0, (e.1.1.1.0, (e.1.1.1.1.0, (e.1.1.1.1.1.0, (e.1.1.1.1.1.1.0, (e.1.1.1.1.1.1.1.1.0, tt))))))))
 
 -- nor has it one of its source, and its hart is one of sixteen
 pub source_sound : (log : List Entry) (x : Entry) → fault_of log x ≡ None → source_fault log x ≡ None
 source_sound log x none =
-    let e : NoneOf (first_faults (events log) x.event ++ source_fault log x ∷ deps_fault x.event ∷ []) = lowest-none (first_faults (events log) x.event ++ source_fault log x ∷ deps_fault x.event ∷ []) none in
+    let e : NoneOf (first_faults (events log) x.event ++ source_fault log x ∷ deps_fault x.event ∷ []) =
+    lowest-none (first_faults (events log) x.event ++ source_fault log x ∷ deps_fault x.event ∷ []) none in
     e.1.1.1.1.1.1.1.0
 
 pub hart_sound : (log : List Entry) (x : Entry) → fault_of log x ≡ None → x.event.id.hart < 16
@@ -42,13 +45,23 @@ room_in log x ok none =
     let long = length-WellFormed (log ++ x ∷ []) (WellFormed-push log x ok none) in
     omega (arith, long, length_push log x)
 
-pub room_of : (log : List Entry) (h : List Kept) (x : Entry) → WellFormed log → fault_of log x ≡ None → happened h ≡ events log → length h < 65536
+pub room_of : (log : List Entry) (h : List Kept) (x : Entry) → WellFormed log → fault_of log x ≡ None →
+    happened h ≡ events log → length h < 65536
 room_of log h x ok none same =
     let long = length-WellFormed (log ++ x ∷ []) (WellFormed-push log x ok none) in
-    omega (arith, long, length_push log x, ap length same, length-map h (λ (k : Kept). k.event), length-map log (λ (y : Entry). y.event))
+    omega (
+      arith,
+      long,
+      length_push log x,
+      ap length same,
+      length-map h (λ (k : Kept). k.event),
+      length-map log (λ (y : Entry). y.event),
+    )
 
-pub events-push : (log : List Entry) (h : List Kept) (x : Entry) → happened h ≡ events log → grown h x.event ≡ events (log ++ x ∷ [])
-events-push log h x same = ap (λ (es : List Event). es ++ x.event ∷ []) same ∙ sym (map-append (λ (y : Entry). y.event) log (x ∷ []))
+pub events-push : (log : List Entry) (h : List Kept) (x : Entry) → happened h ≡ events log →
+    grown h x.event ≡ events (log ++ x ∷ [])
+events-push log h x same = ap (λ (es : List Event). es ++ x.event ∷ []) same ∙
+    sym (map-append (λ (y : Entry). y.event) log (x ∷ []))
 
 pub booked_push :
     (log new : List Entry) (v w : Arranged) (x : Entry) → IsBooked log v → fault_of log x ≡ None →
@@ -65,7 +78,8 @@ booked_push log new v w x ok none e lawful is =
 pub forbidden_of :
     (model : MemoryModel) (log : List Entry) (h : List Kept) (x : Entry) (f : Refusal) → fault_of log x ≡ None →
     happened h ≡ events log → f.model ≡ model → f.evidence ≡ log ++ x ∷ [] →
-    Certifies model (grown h x.event) f.certificate → IsOwn x.event f.certificate → IsForbiddenOn model log x (Forbidden f)
+    Certifies model (grown h x.event) f.certificate → IsOwn x.event f.certificate →
+    IsForbiddenOn model log x (Forbidden f)
 forbidden_of model log h x f none same by is certifies own =
     let c : Certifies model (events (log ++ x ∷ [])) f.certificate =
     subst (λ (es : List Event). Certifies model es f.certificate) (events-push log h x same) certifies in
@@ -73,13 +87,16 @@ forbidden_of model log h x f none same by is certifies own =
 
 pub booked_same :
     (log log' : List Entry) (v v' : Arranged) (b : Bool) → log' ≡ log → v' ≡ v → booked_of log' v' b ≡ booked_of log v b
-booked_same log log' v v' b p q = ap (λ (l : List Entry). booked_of l v' b) p ∙ ap (λ (w : Arranged). booked_of log w b) q
+booked_same log log' v v' b p q = ap (λ (l : List Entry). booked_of l v' b) p ∙
+    ap (λ (w : Arranged). booked_of log w b) q
 
 -- a book with one more entry
 pub taken_of :
-    (log new : List Entry) (v w : Arranged) (stopped : Bool) (now : Booked) (x : Entry) → booked_of log v stopped ≡ now →
+    (log new : List Entry) (v w : Arranged) (stopped : Bool) (now : Booked) (x : Entry) →
+    booked_of log v stopped ≡ now →
     IsBooked log v → fault_of log x ≡ None → w.model ≡ v.model → happened w.history ≡ grown v.history x.event →
-    Lawful w.model (happened w.history) (order_of w.ranks w.ids) → new ≡ log ++ x ∷ [] → IsTaken now (booked_of new w stopped) x
+    Lawful w.model (happened w.history) (order_of w.ranks w.ids) → new ≡ log ++ x ∷ [] →
+    IsTaken now (booked_of new w stopped) x
 taken_of log new v w stopped now x is ok none by e lawful grew =
     let same = e ∙ events-push log v.history x ok.same in
     let here : Lawful v.model (events (log ++ x ∷ [])) (order_of w.ranks w.ids) =
@@ -89,7 +106,11 @@ taken_of log new v w stopped now x is ok none by e lawful grew =
       model = by ∙ ap (λ (b : Booked). b.model) is;
       sound = subst (λ (b : Booked). fault_of b.log x ≡ None) is none;
       log = grew ∙ ap (λ (b : Booked). b.log ++ x ∷ []) is;
-      lawful = (order_of w.ranks w.ids, subst (λ (b : Booked). Lawful b.model (events (b.log ++ x ∷ [])) (order_of w.ranks w.ids)) is here);
+      lawful = (
+        order_of w.ranks w.ids,
+        subst
+            (λ (b : Booked). Lawful b.model (events (b.log ++ x ∷ [])) (order_of w.ranks w.ids)) is here,
+      );
     }
 
 -- ---- the faults one after another
@@ -100,9 +121,11 @@ none_first (Some f ∷ xs) ys e = absurd (none-some f e)
 
 module _ (log : List Entry) (x : Entry) where
   pub first_of_faults : (f : Fault) → Some f ≡ lowest (first_faults (events log) x.event) → Some f ≡ fault_of log x
-  first_of_faults f e = lowest-append_some (first_faults (events log) x.event) (source_fault log x ∷ deps_fault x.event ∷ []) f e
+  first_of_faults f e = lowest-append_some (first_faults (events log) x.event)
+      (source_fault log x ∷ deps_fault x.event ∷ []) f e
 
-  pub source_of_faults : (f : Fault) → None ≡ lowest (first_faults (events log) x.event) → Some f ≡ source_fault log x → Some f ≡ fault_of log x
+  pub source_of_faults : (f : Fault) → None ≡ lowest (first_faults (events log) x.event) → Some f ≡ source_fault log x →
+      Some f ≡ fault_of log x
   source_of_faults f none e =
       ap (λ (o : Option Fault). lowest (o ∷ deps_fault x.event ∷ [])) e
       ∙ sym (none_first (first_faults (events log) x.event) (source_fault log x ∷ deps_fault x.event ∷ []) none)
@@ -111,7 +134,8 @@ module _ (log : List Entry) (x : Entry) where
   one None = refl
   one (Some f) = refl
 
-  pub deps_of_faults : None ≡ lowest (first_faults (events log) x.event) → None ≡ source_fault log x → deps_fault x.event ≡ fault_of log x
+  pub deps_of_faults : None ≡ lowest (first_faults (events log) x.event) → None ≡ source_fault log x →
+      deps_fault x.event ≡ fault_of log x
   deps_of_faults none e =
       one (deps_fault x.event) ∙ ap (λ (o : Option Fault). lowest (o ∷ deps_fault x.event ∷ [])) e
       ∙ sym (none_first (first_faults (events log) x.event) (source_fault log x ∷ deps_fault x.event ∷ []) none)

@@ -1,10 +1,12 @@
 -- A book that has taken the first of some events.
-use Rattle.std.proofs.Common.{◌≡◌, ℕ, ◌<◌, ◌+◌, ◌-◌, List, [], ◌∷◌, ◌++◌, length, take, sym, ap, ◌∙◌, subst, arith, refl, IsTrue, ◌⊎◌, inl, inr, IsFalse}
+use Rattle.std.proofs.Common.{◌≡◌, ℕ, ◌<◌, ◌+◌, ◌-◌, List, [], ◌∷◌, ◌++◌, length, take, sym, ap, ◌∙◌, subst}
+use Rattle.std.proofs.Common.{arith, refl, IsTrue, ◌⊎◌, inl, inr, IsFalse}
 use Rattle.std.proofs.Math.Seq.{take-append_seam, take-append-add, take-length}
 use Rattle.std.specs.Prelude.{◌==◌, count_by}
 use Rattle.std.proofs.lemmas.List.Sums.{length-filter}
 use Rattle.rv_event.specs.Merges.{from_source}
-use Rattle.std.proofs.lemmas.List.{length-map, append-nil, append_assoc, map-append, nil_from_length, length-append, length-drop}
+use Rattle.std.proofs.lemmas.List.{length-map, append-nil, append_assoc, map-append, nil_from_length}
+use Rattle.std.proofs.lemmas.List.{length-append, length-drop}
 use Rattle.rv_event.specs.declared.event.Event.{Event}
 use Rattle.rv_event.specs.declared.event.Entry.{Entry}
 use Rattle.rv_event.specs.declared.memory_model.MemoryModel.{MemoryModel}
@@ -14,7 +16,8 @@ use Rattle.rv_book.specs.Booked.{Booked, IsTaken, IsOffered, IsVerdictOn, IsMalf
 use Rattle.rv_book.specs.declared.book.Offer.{Offer}
 use Rattle.rv_book.specs.declared.book.Offer.TheVariants.{Malformed, Forbidden}
 use Rattle.rv_event.specs.Packing.{Content}
-use Rattle.rv_book.specs.Chunked.{count_of_source, entries_of, HasTaken, StopsAt, IsTurn, IsOfferedAll, IsAnswered, rest_of, first_of}
+use Rattle.rv_book.specs.Chunked.{count_of_source, entries_of, HasTaken, StopsAt, IsTurn, IsOfferedAll}
+use Rattle.rv_book.specs.Chunked.{IsAnswered, rest_of, first_of}
 use Rattle.rv_book.specs.declared.book.ChunkOffer.{ChunkOffer}
 use Rattle.rv_book.specs.declared.book.ChunkOffer.TheVariants.{Applied, NotYet, Already, Halted, Stopped, NoMemory}
 
@@ -25,7 +28,8 @@ pub record IsWithin (old new : Booked) (source : ℕ) (done rest events : List E
   pub split : done ++ rest ≡ events
   pub left_is : left ≡ length rest
 
-pub within-begin : (old : Booked) (source : ℕ) (events rest : List Event) (left : ℕ) → rest ≡ events → left ≡ length events → IsWithin old old source [] rest events left
+pub within-begin : (old : Booked) (source : ℕ) (events rest : List Event) (left : ℕ) → rest ≡ events →
+    left ≡ length events → IsWithin old old source [] rest events left
 within-begin old source events rest left same long = record {
   model = refl;
   log = sym (append-nil old.log);
@@ -41,7 +45,8 @@ within-turn old mid new source done rest more events e left less w front count t
   model = taken.model ∙ w.model;
   log = taken.log ∙ ap (λ (l : List Entry). l ++ record { source = source; event = e } ∷ []) w.log
       ∙ append_assoc old.log (entries_of source done) (record { source = source; event = e } ∷ [])
-      ∙ ap (λ (l : List Entry). old.log ++ l) (sym (map-append (λ (x : Event). record { source = source; event = x }) done (e ∷ [])));
+      ∙ ap (λ (l : List Entry). old.log ++ l)
+      (sym (map-append (λ (x : Event). record { source = source; event = x }) done (e ∷ [])));
   split = append_assoc done (e ∷ []) more ∙ ap (λ (es : List Event). done ++ es) (sym front) ∙ w.split;
   left_is = omega (arith, count, w.left_is, ap (λ (es : List Event). length es) front);
 }
@@ -52,8 +57,10 @@ pub within-stops :
     StopsAt old new source events (length done) e
 within-stops old mid new source done rest more events e left w front model log =
     let whole : done ++ e ∷ more ≡ events = ap (λ (es : List Event). done ++ es) (sym front) ∙ w.split in
-    let first : take (length done) events ≡ done = ap (λ (es : List Event). take (length done) es) (sym whole) ∙ take-append_seam done (e ∷ more) in
-    let two : take (length done + 1) events ≡ done ++ e ∷ [] = ap (λ (es : List Event). take (length done + 1) es) (sym whole) ∙ take-append-add done (e ∷ more) 1 in
+    let first : take (length done) events ≡ done = ap (λ (es : List Event). take (length done) es) (sym whole) ∙
+    take-append_seam done (e ∷ more) in
+    let two : take (length done + 1) events ≡ done ++ e ∷ [] = ap (λ (es : List Event). take (length done + 1) es)
+    (sym whole) ∙ take-append-add done (e ∷ more) 1 in
     record {
       taken = record {
         model = model ∙ w.model;
@@ -65,7 +72,8 @@ within-stops old mid new source done rest more events e left w front model log =
 
 pub within-end :
     (old new : Booked) (source : ℕ) (done rest events : List Event) (left count : ℕ) →
-    IsWithin old new source done rest events left → left ≡ 0 → count ≡ length events → HasTaken old new source events count
+    IsWithin old new source done rest events left → left ≡ 0 → count ≡ length events →
+    HasTaken old new source events count
 within-end old new source done rest events left count w none long =
     let nil : rest ≡ [] = nil_from_length rest (sym w.left_is ∙ none) in
     let whole : done ≡ events = sym (append-nil done) ∙ ap (λ (es : List Event). done ++ es) (sym nil) ∙ w.split in
@@ -82,15 +90,18 @@ pub record Halts (old new : Booked) (x : Entry) (v : Verdict) : Type 0 where
   pub log : new.log ≡ old.log
   pub told : IsVerdictOn new.model new.log x v
 
-malformed-verdict : (model : MemoryModel) (log : List Entry) (x : Entry) (v : Verdict) → IsMalformedOn model log x v → IsVerdictOn model log x v
+malformed-verdict : (model : MemoryModel) (log : List Entry) (x : Entry) (v : Verdict) → IsMalformedOn model log x v →
+    IsVerdictOn model log x v
 malformed-verdict model log x (verdict.Malformed m) p = p
 malformed-verdict model log x (verdict.Forbidden f) none = absurd none
 
-forbidden-verdict : (model : MemoryModel) (log : List Entry) (x : Entry) (v : Verdict) → IsForbiddenOn model log x v → IsVerdictOn model log x v
+forbidden-verdict : (model : MemoryModel) (log : List Entry) (x : Entry) (v : Verdict) → IsForbiddenOn model log x v →
+    IsVerdictOn model log x v
 forbidden-verdict model log x (verdict.Malformed m) none = absurd none
 forbidden-verdict model log x (verdict.Forbidden f) p = p
 
-halts : (old new : Booked) (x : Entry) (v : Verdict) → IsTrue new.stopped → Unchanged old new → IsVerdictOn old.model old.log x v → Halts old new x v
+halts : (old new : Booked) (x : Entry) (v : Verdict) → IsTrue new.stopped → Unchanged old new →
+    IsVerdictOn old.model old.log x v → Halts old new x v
 halts old new x v stopped same told = record {
   stopped = stopped;
   model = same.model;
@@ -144,6 +155,7 @@ pub counted :
     seen ≡ old.log → source ≡ chunk.source → n ≡ count_of_source old.log chunk.source
 counted n source seen old chunk is log from =
     is
-    ∙ sym (length-map (from_source source seen) (λ (x : Entry). x.event) ∙ length-filter (λ (x : Entry). source == x.source) seen)
+    ∙ sym (length-map (from_source source seen) (λ (x : Entry). x.event) ∙
+    length-filter (λ (x : Entry). source == x.source) seen)
     ∙ ap (λ (l : List Entry). count_of_source l source) log
     ∙ ap (λ (s : ℕ). count_of_source old.log s) from

@@ -1,5 +1,7 @@
 -- Chunks of a list, offered in whatever order, give the log the beginning of that list.
-use Rattle.std.proofs.Common.{◌≡◌, ℕ, Bool, ◌==◌, ◌≤◌, ◌+◌, ◌-◌, cond, List, [], ◌∷◌, ◌++◌, length, take, drop, sym, ap, ◌∙◌, subst, arith, refl, eq-eqb, append_assoc, length-append, take-append-drop}
+use Rattle.std.proofs.Common.{◌≡◌, ℕ, Bool, ◌==◌, ◌≤◌, ◌+◌, ◌-◌, cond, List, [], ◌∷◌, ◌++◌, length, take}
+use Rattle.std.proofs.Common.{drop, sym, ap, ◌∙◌, subst, arith, refl, eq-eqb, append_assoc, length-append}
+use Rattle.std.proofs.Common.{take-append-drop}
 use Rattle.std.proofs.Math.Seq.{drop-append_seam, drop-append-add}
 use Rattle.std.proofs.lemmas.List.{drop-append-le, length-take-le, map-append}
 use Rattle.std.proofs.lemmas.List.Elements.{filter-append}
@@ -9,7 +11,8 @@ use Rattle.rv_event.specs.Packing.{Content}
 use Rattle.rv_event.specs.declared.event.Event.{Event}
 use Rattle.rv_event.specs.declared.event.Entry.{Entry}
 use Rattle.rv_book.specs.Booked.{Booked}
-use Rattle.rv_book.specs.Chunked.{given_by, count_of_source, entries_of, HasTaken, IsTurn, first_of, rest_of, IsPrefix, IsChunkOf, IsApplied, IsContinued, IsChunkOffered}
+use Rattle.rv_book.specs.Chunked.{given_by, count_of_source, entries_of, HasTaken, IsTurn, first_of, rest_of}
+use Rattle.rv_book.specs.Chunked.{IsPrefix, IsChunkOf, IsApplied, IsContinued, IsChunkOffered}
 use Rattle.rv_book.specs.declared.book.ChunkOffer.{ChunkOffer}
 use Rattle.rv_book.specs.declared.book.ChunkOffer.TheVariants.{Applied, NotYet, Already, Halted, Stopped, NoMemory}
 
@@ -17,10 +20,12 @@ use Rattle.rv_book.specs.declared.book.ChunkOffer.TheVariants.{Applied, NotYet, 
 given-entries : (source : ℕ) (es : List Event) → given_by source (entries_of source es) ≡ es
 given-entries source [] = refl
 given-entries source (e ∷ es) =
-    ap (λ (b : Bool). events (cond b (record { source = source; event = e } ∷ from_source source (entries_of source es)) (from_source source (entries_of source es)))) (eq-eqb source source refl)
+    ap (λ (b : Bool). events (cond b (record { source = source; event = e } ∷ from_source source (entries_of source es))
+    (from_source source (entries_of source es)))) (eq-eqb source source refl)
     ∙ ap (λ (l : List Event). e ∷ l) (given-entries source es)
 
-given-append : (source : ℕ) (log more : List Entry) → given_by source (log ++ more) ≡ given_by source log ++ given_by source more
+given-append : (source : ℕ) (log more : List Entry) → given_by source (log ++ more) ≡ given_by source log ++
+    given_by source more
 given-append source log more =
     ap events (filter-append (λ (x : Entry). source == x.source) log more)
     ∙ map-append (λ (x : Entry). x.event) (from_source source log) (from_source source more)
@@ -36,7 +41,8 @@ taken-given old new source es n taken =
 
 -- what follows the given events is the rest of the chunk and what comes after it
 rest-follows :
-    (given before chunk after rest all : List Event) (first : ℕ) → length before ≡ first → all ≡ before ++ chunk ++ after → all ≡ given ++ rest →
+    (given before chunk after rest all : List Event) (first : ℕ) → length before ≡ first → all ≡ before ++ chunk ++
+    after → all ≡ given ++ rest →
     first ≤ length given → length given ≤ first + length chunk → rest ≡ drop (length given - first) chunk ++ after
 rest-follows given before chunk after rest all first long split whole low high =
     sym (drop-append_seam given rest)
@@ -51,25 +57,32 @@ prefix-grows :
     IsPrefix (given ++ take n chunk_rest) all
 prefix-grows given rest chunk_rest after all n whole split = (
   drop n chunk_rest ++ after,
-  whole ∙ ap (λ (l : List Event). given ++ l) (split ∙ ap (λ (l : List Event). l ++ after) (sym (take-append-drop n chunk_rest)) ∙ append_assoc (take n chunk_rest) (drop n chunk_rest) after)
+  whole ∙ ap (λ (l : List Event). given ++ l)
+      (split ∙ ap (λ (l : List Event). l ++ after) (sym (take-append-drop n chunk_rest)) ∙
+      append_assoc (take n chunk_rest) (drop n chunk_rest) after)
       ∙ sym (append_assoc given (take n chunk_rest) (drop n chunk_rest ++ after)),
 )
 
-module _ (old new : Booked) (chunk : Content) (all : List Event) (of : IsChunkOf chunk all) (begun : IsPrefix (given_by chunk.source old.log) all) where
+module _ (old new : Booked) (chunk : Content) (all : List Event) (of : IsChunkOf chunk all)
+    (begun : IsPrefix (given_by chunk.source old.log) all) where
   abbrev count : ℕ
   count = count_of_source old.log chunk.source
 
   grows :
-      (answer : ChunkOffer) (n : ℕ) → IsTurn count chunk → n ≤ length (rest_of count chunk) → HasTaken old new chunk.source (rest_of count chunk) n → IsApplied answer n →
+      (answer : ChunkOffer) (n : ℕ) → IsTurn count chunk → n ≤ length (rest_of count chunk) →
+      HasTaken old new chunk.source (rest_of count chunk) n → IsApplied answer n →
       IsContinued old new chunk all answer
   grows answer n turn within taken applied =
       let given = given_by chunk.source old.log in
       let now = taken-given old new chunk.source (rest_of count chunk) n taken in
-      let rest = rest-follows given of.0 chunk.events of.1 begun.0 all (first_of chunk) of.2 of.3 begun.1 turn.0 (omega (arith, turn.1)) in
+      let rest = rest-follows given of.0 chunk.events of.1 begun.0 all (first_of chunk) of.2 of.3 begun.1 turn.0
+      (omega (arith, turn.1)) in
       record {
-        prefix = subst (λ (l : List Event). IsPrefix l all) (sym now) (prefix-grows given begun.0 (rest_of count chunk) of.1 all n begun.1 rest);
+        prefix = subst (λ (l : List Event). IsPrefix l all) (sym now)
+            (prefix-grows given begun.0 (rest_of count chunk) of.1 all n begun.1 rest);
         more = n;
-        longer = ap (λ (l : List Event). length l) now ∙ length-append given (take n (rest_of count chunk)) ∙ ap (λ (k : ℕ). length given + k) (length-take-le n (rest_of count chunk) within);
+        longer = ap (λ (l : List Event). length l) now ∙ length-append given (take n (rest_of count chunk)) ∙
+            ap (λ (k : ℕ). length given + k) (length-take-le n (rest_of count chunk) within);
         applied = applied;
       }
 

@@ -1,5 +1,6 @@
 -- The order is lawful: each kept edge goes forward, so each path of kept links does, and so each edge.
-use Rattle.std.proofs.Common.{◌≡◌, ◌≢◌, ℕ, ◌<◌, Bool, true, false, List, length, get_or, ◌⊎◌, inl, inr, refl, sym, ap, ◌∙◌, arith, subst}
+use Rattle.std.proofs.Common.{◌≡◌, ◌≢◌, ℕ, ◌<◌, Bool, true, false, List, length, get_or, ◌⊎◌, inl, inr, refl}
+use Rattle.std.proofs.Common.{sym, ap, ◌∙◌, arith, subst}
 use Rattle.std.proofs.lemmas.Bool.{false≢true}
 use Rattle.std.proofs.lemmas.List.{get_or_default}
 use Rattle.rv_event.specs.Log.{same_id}
@@ -25,10 +26,12 @@ id_cases i j = go (same_id i j) refl
     go true e = inl (same_id-true i j e)
     go false e = inr (λ p. false≢true (sym e ∙ subst (λ (x : Id). same_id i x ≡ true) p (same_id-refl i)))
 
-pub from_operation : (model : MemoryModel) (log : List Event) (i j : Id) (r : Reason) → IsEdge model log i r j → IsOperation log i
+pub from_operation : (model : MemoryModel) (log : List Event) (i j : Id) (r : Reason) → IsEdge model log i r j →
+    IsOperation log i
 from_operation model log i j r e = record { event = e.a; is_named = e.from_named; is_memory = e.from_memory }
 
-pub to_operation : (model : MemoryModel) (log : List Event) (i j : Id) (r : Reason) → IsEdge model log i r j → IsOperation log j
+pub to_operation : (model : MemoryModel) (log : List Event) (i j : Id) (r : Reason) → IsEdge model log i r j →
+    IsOperation log j
 to_operation model log i j r e = record { event = e.b; is_named = e.to_named; is_memory = e.to_memory }
 
 module _ (v : Arranged) (ok : IsArranged v) where
@@ -40,10 +43,14 @@ module _ (v : Arranged) (ok : IsArranged v) where
       let e = (carried_from_IsHistory v.model v.history ok.history).true_edges i j r k in
       let a = node_of i (from_operation v.model (happened v.history) i j r e) in
       let b = node_of j (to_operation v.model (happened v.history) i j r e) in
-      let k' : IsKept v.history (at v.ids a.0) r (at v.ids b.0) = subst (λ (x : Id). IsKept v.history x r (at v.ids b.0)) (sym a.2) (subst (λ (x : Id). IsKept v.history i r x) (sym b.2) k) in
+      let k' : IsKept v.history (at v.ids a.0) r (at v.ids b.0) =
+      subst (λ (x : Id). IsKept v.history x r (at v.ids b.0)) (sym a.2)
+      (subst (λ (x : Id). IsKept v.history i r x) (sym b.2) k) in
       let f = ok.ordered.forward a.0 b.0 (ok.tied a.0 b.0 r a.1 b.1 k') in
-      let p = subst (λ (x : Id). place (order v ok) x ≡ get_or v.ranks a.0 0) a.2 (place-node v ok a.0 (omega (arith, a.1, ok.long))) in
-      let q = subst (λ (x : Id). place (order v ok) x ≡ get_or v.ranks b.0 0) b.2 (place-node v ok b.0 (omega (arith, b.1, ok.long))) in
+      let p = subst (λ (x : Id). place (order v ok) x ≡ get_or v.ranks a.0 0) a.2
+      (place-node v ok a.0 (omega (arith, a.1, ok.long))) in
+      let q = subst (λ (x : Id). place (order v ok) x ≡ get_or v.ranks b.0 0) b.2
+      (place-node v ok b.0 (omega (arith, b.1, ok.long))) in
       omega (arith, f, p, q)
 
   path-forward : (i j : Id) → Path Id (IsTied v.history) i j → place (order v ok) i < place (order v ok) j
@@ -53,9 +60,11 @@ module _ (v : Arranged) (ok : IsArranged v) where
       let g = path-forward m j rest in
       omega (arith, f, g)
 
-  pub edge-forward : (i j : Id) (r : Reason) → IsEdge v.model (happened v.history) i r j → place (order v ok) i < place (order v ok) j
+  pub edge-forward : (i j : Id) (r : Reason) → IsEdge v.model (happened v.history) i r j →
+      place (order v ok) i < place (order v ok) j
   edge-forward i j r e = elim (id_cases i j) [
-    | inl same ↦ absurd (ok.none_itself i r (subst (λ (x : Id). IsEdge v.model (happened v.history) i r x) (sym same) e))
+    | inl same ↦ absurd (ok.none_itself i r
+        (subst (λ (x : Id). IsEdge v.model (happened v.history) i r x) (sym same) e))
     | inr other ↦ path-forward i j ((carried_from_IsHistory v.model v.history ok.history).covered i j r other e)
   ]
 
@@ -74,4 +83,5 @@ module _ (v : Arranged) (ok : IsArranged v) where
   }
 
   pub lawful : Lawful v.model (happened v.history) (order_of v.ranks v.ids)
-  lawful = lawful_from_edges v.model (happened v.history) (order v ok) (indexed_from_IsHistory v.model v.history ok.history) ok.none_stale edge-forward order-of
+  lawful = lawful_from_edges v.model (happened v.history) (order v ok)
+      (indexed_from_IsHistory v.model v.history ok.history) ok.none_stale edge-forward order-of

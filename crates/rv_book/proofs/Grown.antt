@@ -1,5 +1,6 @@
 -- A history with one more event stays arranged.
-use Rattle.std.proofs.Common.{◌≡◌, ◌≢◌, ℕ, ◌+◌, ◌<◌, List, [], ◌∷◌, ◌++◌, length, Contains, ◌⊎◌, inl, inr, refl, sym, ap, ◌∙◌, arith, subst, Some}
+use Rattle.std.proofs.Common.{◌≡◌, ◌≢◌, ℕ, ◌+◌, ◌<◌, List, [], ◌∷◌, ◌++◌, length, Contains, ◌⊎◌, inl, inr}
+use Rattle.std.proofs.Common.{refl, sym, ap, ◌∙◌, arith, subst, Some}
 use Rattle.std.proofs.lemmas.Bool.{cases_eq}
 use Rattle.std.proofs.lemmas.List.{get_or_push, get_or_append_left, length_push}
 use Rattle.std.proofs.lemmas.List.Elements.{Contains-push_cases, Contains-push}
@@ -18,13 +19,16 @@ use Rattle.rv_event.specs.declared.reason.Reason.{Reason}
 use Rattle.rv_edges.specs.Kept.{Kept, happened, grown, Joins, IsKept}
 use Rattle.rv_edges.specs.Histories.{Joined, HasOwnEdge}
 use Rattle.rv_edges.proofs.Listed.{Contains-old}
-use Rattle.rv_edges.proofs.Carrying.{indexed_from_IsHistory, carried_from_IsHistory, happened-push, IsKept-cases, IsHistory-push}
+use Rattle.rv_edges.proofs.Carrying.{indexed_from_IsHistory, carried_from_IsHistory, happened-push}
+use Rattle.rv_edges.proofs.Carrying.{IsKept-cases, IsHistory-push}
 use Rattle.rv_rank.specs.Graph.{Edge, IsOrder, IsGrown}
 use Rattle.rv_book.specs.Arranged.{Arranged, nobody, at, IsArranged}
 use Rattle.rv_book.specs.Nodes.{HasNode, AreNodes}
 use Rattle.rv_book.proofs.Forward.{from_operation, to_operation, node_of}
 
-module _ (v : Arranged) (ok : IsArranged v) (k : Kept) (joined : Joined v.model v.history k) (none_own : HasOwnEdge v.model v.history k.event → ⊥) (not_stale : (s : Id) → IsStale (grown v.history k.event) k.event.id s → ⊥) where
+module _ (v : Arranged) (ok : IsArranged v) (k : Kept) (joined : Joined v.model v.history k)
+    (none_own : HasOwnEdge v.model v.history k.event → ⊥)
+    (not_stale : (s : Id) → IsStale (grown v.history k.event) k.event.id s → ⊥) where
   abbrev old : List Event
   old = happened v.history
 
@@ -50,7 +54,8 @@ module _ (v : Arranged) (ok : IsArranged v) (k : Kept) (joined : Joined v.model 
   fresh : (x : Event) → Contains old x → x.id ≢ k.event.id
   fresh x c e =
       let low : x.id.seq < length (of_hart x.id.hart old) = known.below x c in
-      let low' : k.event.id.seq < length (of_hart k.event.id.hart old) = subst (λ (i : Id). i.seq < length (of_hart i.hart old)) e low in
+      let low' : k.event.id.seq < length (of_hart k.event.id.hart old) =
+      subst (λ (i : Id). i.seq < length (of_hart i.hart old)) e low in
       let s : k.event.id.seq ≡ length (of_hart k.event.id.hart old) = sound.seq in
       omega (arith, low', s)
 
@@ -58,19 +63,30 @@ module _ (v : Arranged) (ok : IsArranged v) (k : Kept) (joined : Joined v.model 
   none_later : (x : Event) → Contains old x → Earlier k.event x → ⊥
   none_later x c e =
       let low : x.id.seq < length (of_hart x.id.hart old) = known.below x c in
-      let low' : x.id.seq < length (of_hart k.event.id.hart old) = subst (λ h. x.id.seq < length (of_hart h old)) (sym e.hart) low in
+      let low' : x.id.seq < length (of_hart k.event.id.hart old) = subst (λ h. x.id.seq < length (of_hart h old))
+      (sym e.hart) low in
       let s : k.event.id.seq ≡ length (of_hart k.event.id.hart old) = sound.seq in
       omega (arith, low', s, e.seq)
 
   stays : (i : Id) → IsOperation old i → IsOperation new i
-  stays i op = record { event = op.event; is_named = find-append_some (λ (x : Event). same_id i x.id) old (k.event ∷ []) op.event op.is_named; is_memory = op.is_memory }
+  stays i op = record {
+    event = op.event;
+    is_named = find-append_some (λ (x : Event). same_id i x.id) old
+        (k.event ∷ []) op.event op.is_named;
+    is_memory = op.is_memory;
+  }
 
   -- an operation is an old one, or the new event
   operation_cases : (i : Id) → IsOperation new i → IsOperation old i ⊎ ((i ≡ k.event.id) × IsMemory k.event)
   operation_cases i op =
       let is = named-is new i op.event op.is_named in
       elim (Contains-push_cases old k.event op.event is.0) [
-        | inl c ↦ inl (record { event = op.event; is_named = subst (λ (x : Id). named old x ≡ Some op.event) (sym is.1) (known.own op.event c); is_memory = op.is_memory })
+        | inl c ↦ inl (record {
+          event = op.event;
+          is_named = subst (λ (x : Id). named old x ≡ Some op.event) (sym is.1)
+              (known.own op.event c);
+          is_memory = op.is_memory;
+        })
         | inr e ↦ inr (is.1 ∙ ap (λ (x : Event). x.id) (sym e), subst IsMemory (sym e) op.is_memory)
       ]
 
@@ -120,22 +136,36 @@ module _ (v : Arranged) (ok : IsArranged v) (k : Kept) (joined : Joined v.model 
   new_memory i j r w =
       let e = joined.linked.listed i j r w in
       elim w [
-        | inl q ↦ elim (operation_cases j (to_operation v.model new i j r e)) [ inl o ↦ absurd (old_is_not_new j o q.0) | inr m ↦ m.1 ]
-        | inr q ↦ elim (operation_cases i (from_operation v.model new i j r e)) [ inl o ↦ absurd (old_is_not_new i o q.0) | inr m ↦ m.1 ]
+        | inl q ↦ elim (operation_cases j (to_operation v.model new i j r e))
+            [ inl o ↦ absurd (old_is_not_new j o q.0) | inr m ↦ m.1 ]
+        | inr q ↦ elim (operation_cases i (from_operation v.model new i j r e))
+            [ inl o ↦ absurd (old_is_not_new i o q.0) | inr m ↦ m.1 ]
       ]
 
   -- an event that is no memory operation joins the history alone
-  pub arranged_aside : (IsMemory k.event → ⊥) → IsArranged (record { model = v.model; history = v.history ++ k ∷ []; edges = v.edges; ranks = v.ranks; ids = v.ids })
+  pub arranged_aside : (IsMemory k.event → ⊥) →
+      IsArranged (record {
+        model = v.model;
+        history = v.history ++ k ∷ [];
+        edges = v.edges;
+        ranks = v.ranks;
+        ids = v.ids;
+      })
   arranged_aside aside = record {
     history = IsHistory-push v.model v.history k ok.history joined;
     ordered = ok.ordered;
     long = ok.long;
     few = omega (arith, ok.few, length_push v.history k);
-    each = λ i op. elim (operation_cases i (subst (λ (l : List Event). IsOperation l i) same op)) [ inl o ↦ ok.each i o | inr m ↦ absurd (aside m.1) ];
+    each = λ i op. elim (operation_cases i (subst (λ (l : List Event). IsOperation l i) same op))
+        [ inl o ↦ ok.each i o | inr m ↦ absurd (aside m.1) ];
     only = λ a l. subst (λ (g : List Event). IsOperation g (at v.ids a)) (sym same) (stays (at v.ids a) (ok.only a l));
     once = ok.once;
     inside = ok.inside;
-    true_edges = λ a b e. let w = ok.true_edges a b e in (w.0, subst (λ (g : List Event). IsEdge v.model g (at v.ids a) w.0 (at v.ids b)) (sym same) (grow (at v.ids a) (at v.ids b) w.0 w.1));
+    true_edges = λ a b e. let w = ok.true_edges a b e in (
+      w.0,
+      subst (λ (g : List Event). IsEdge v.model g (at v.ids a) w.0 (at v.ids b)) (sym same)
+          (grow (at v.ids a) (at v.ids b) w.0 w.1),
+    );
     tied = λ a b r la lb h. elim (IsKept-cases v.model v.history k (at v.ids a) (at v.ids b) r h) [
       | inl o ↦ ok.tied a b r la lb o
       | inr w ↦ absurd (aside (new_memory (at v.ids a) (at v.ids b) r w))
@@ -166,15 +196,22 @@ module _ (v : Arranged) (ok : IsArranged v) (k : Kept) (joined : Joined v.model 
   module _ (preds succs : List ℕ) (ins : AreNodes v.ids k.before preds) (outs : AreNodes v.ids k.after succs) where
     pub pred_edge : (p : ℕ) → Contains preds p → (r : Reason) × IsEdge v.model new (at v.ids p) r k.event.id
     pred_edge p c =
-        let l = ins.linked p c in
-        (l.0.reason, subst (λ (x : Id). IsEdge v.model new x l.0.reason k.event.id) (sym l.2) (joined.linked.listed l.0.id k.event.id l.0.reason (inl (refl, l.1))))
+        let l = ins.linked p c in (
+          l.0.reason,
+          subst (λ (x : Id). IsEdge v.model new x l.0.reason k.event.id) (sym l.2)
+              (joined.linked.listed l.0.id k.event.id l.0.reason (inl (refl, l.1))),
+        )
 
     pub succ_edge : (s : ℕ) → Contains succs s → (r : Reason) × IsEdge v.model new k.event.id r (at v.ids s)
     succ_edge s c =
-        let l = outs.linked s c in
-        (l.0.reason, subst (λ (x : Id). IsEdge v.model new k.event.id l.0.reason x) (sym l.2) (joined.linked.listed k.event.id l.0.id l.0.reason (inr (refl, l.1))))
+        let l = outs.linked s c in (
+          l.0.reason,
+          subst (λ (x : Id). IsEdge v.model new k.event.id l.0.reason x) (sym l.2)
+              (joined.linked.listed k.event.id l.0.id l.0.reason (inr (refl, l.1))),
+        )
 
-    module _ (memory : IsMemory k.event) (edges : List (List ℕ)) (ranks : List ℕ) (g : IsGrown v.edges edges preds succs) (ordered : IsOrder edges ranks) where
+    module _ (memory : IsMemory k.event) (edges : List (List ℕ)) (ranks : List ℕ)
+        (g : IsGrown v.edges edges preds succs) (ordered : IsOrder edges ranks) where
       abbrev ids : List Id
       ids = v.ids ++ k.event.id ∷ []
 
@@ -234,13 +271,16 @@ module _ (v : Arranged) (ok : IsArranged v) (k : Kept) (joined : Joined v.model 
         ]
       ]
 
-      tied' : (a b : ℕ) (r : Reason) → a < length ids → b < length ids → IsKept (v.history ++ k ∷ []) (at ids a) r (at ids b) → Edge edges a b
+      tied' : (a b : ℕ) (r : Reason) → a < length ids → b < length ids → IsKept (v.history ++ k ∷ []) (at ids a) r
+          (at ids b) → Edge edges a b
       tied' a b r la lb h = elim (IsKept-cases v.model v.history k (at ids a) (at ids b) r h) [
         | inl o ↦
             let e = (carried_from_IsHistory v.model v.history ok.history).true_edges (at ids a) (at ids b) r o in
             let oa = is_old a la (old_is_not_new (at ids a) (from_operation v.model old (at ids a) (at ids b) r e)) in
             let ob = is_old b lb (old_is_not_new (at ids b) (to_operation v.model old (at ids a) (at ids b) r e)) in
-            let o' : IsKept v.history (at v.ids a) r (at v.ids b) = subst (λ (x : Id). IsKept v.history x r (at v.ids b)) (at-old a oa) (subst (λ (x : Id). IsKept v.history (at ids a) r x) (at-old b ob) o) in
+            let o' : IsKept v.history (at v.ids a) r (at v.ids b) =
+            subst (λ (x : Id). IsKept v.history x r (at v.ids b)) (at-old a oa)
+            (subst (λ (x : Id). IsKept v.history (at ids a) r x) (at-old b ob) o) in
             g.kept a b (ok.tied a b r oa ob o')
         | inr w ↦ elim w [
           | inl q ↦
@@ -259,9 +299,19 @@ module _ (v : Arranged) (ok : IsArranged v) (k : Kept) (joined : Joined v.model 
       ]
 
       new_operation : IsOperation new k.event.id
-      new_operation = record { event = k.event; is_named = known'.own k.event (Contains-push old k.event); is_memory = memory }
+      new_operation = record {
+        event = k.event;
+        is_named = known'.own k.event (Contains-push old k.event);
+        is_memory = memory;
+      }
 
-      pub arranged_node : IsArranged (record { model = v.model; history = v.history ++ k ∷ []; edges = edges; ranks = ranks; ids = ids })
+      pub arranged_node : IsArranged (record {
+        model = v.model;
+        history = v.history ++ k ∷ [];
+        edges = edges;
+        ranks = ranks;
+        ids = ids;
+      })
       arranged_node = record {
         history = IsHistory-push v.model v.history k ok.history joined;
         ordered = ordered;
@@ -277,7 +327,8 @@ module _ (v : Arranged) (ok : IsArranged v) (k : Kept) (joined : Joined v.model 
         ]);
         once = once';
         inside = inside';
-        true_edges = λ a b e. let w = true_edges' a b e in (w.0, subst (λ (h : List Event). IsEdge v.model h (at ids a) w.0 (at ids b)) (sym same) w.1);
+        true_edges = λ a b e. let w = true_edges' a b e in
+            (w.0, subst (λ (h : List Event). IsEdge v.model h (at ids a) w.0 (at ids b)) (sym same) w.1);
         tied = tied';
         none_itself = none_itself';
         none_stale = none_stale';

@@ -8,11 +8,18 @@ use Rattle.rv_book.specs.Arranged.{at}
 use Rattle.rv_book.specs.Nodes.{AreNodes}
 
 pub nodes_none : (ids : List Id) → AreNodes ids [] []
-nodes_none ids = record { low = λ p c. absurd (Contains-none p c); linked = λ p c. absurd (Contains-none p c); each = λ l c. absurd (Contains-none l c) }
+nodes_none ids = record {
+  low = λ p c. absurd (Contains-none p c);
+  linked = λ p c. absurd (Contains-none p c);
+  each = λ l c. absurd (Contains-none l c);
+}
 
-pub nodes_more : (ids : List Id) (links : List Link) (nodes new : List ℕ) (l : Link) (p : ℕ) → AreNodes ids links nodes → p < length ids → at ids p ≡ l.id → new ≡ nodes ++ p ∷ [] → AreNodes ids (links ++ l ∷ []) new
+pub nodes_more : (ids : List Id) (links : List Link) (nodes new : List ℕ) (l : Link) (p : ℕ) →
+    AreNodes ids links nodes → p < length ids → at ids p ≡ l.id → new ≡ nodes ++ p ∷ [] →
+    AreNodes ids (links ++ l ∷ []) new
 nodes_more ids links nodes new l p h low is e = subst (AreNodes ids (links ++ l ∷ [])) (sym e) (record {
-  low = λ q c. elim (Contains-push_cases nodes p q c) [ inl old ↦ h.low q old | inr s ↦ subst (λ x. x < length ids) s low ];
+  low = λ q c. elim (Contains-push_cases nodes p q c)
+      [ inl old ↦ h.low q old | inr s ↦ subst (λ x. x < length ids) s low ];
   linked = λ q c. elim (Contains-push_cases nodes p q c) [
     | inl old ↦ let w = h.linked q old in (w.0, Contains-old links l w.0 w.1, w.2)
     | inr s ↦ (l, Contains-last links l, subst (λ x. at ids x ≡ l.id) s is)

@@ -1,5 +1,6 @@
 -- A history whose memory operations have nodes, and an order of the nodes that every edge respects.
-use Rattle.std.specs.Prelude.{ℕ, zero, suc, ◌+◌, ◌<◌, ◌≤◌, ◌≡◌, ◌≢◌, ◌==◌, ◌++◌, List, [], ◌∷◌, map, length, slice_index_or, Contains, AllPairs, if◌then◌else◌, nat_lt}
+use Rattle.std.specs.Prelude.{ℕ, zero, suc, ◌+◌, ◌<◌, ◌≤◌, ◌≡◌, ◌≢◌, ◌==◌, ◌++◌, List, [], ◌∷◌, map, length}
+use Rattle.std.specs.Prelude.{slice_index_or, Contains, AllPairs, if◌then◌else◌, nat_lt}
 use Rattle.rv_event.specs.Orders.{IsOperation}
 use Rattle.rv_event.specs.Edges.{IsEdge, IsStale}
 use Rattle.rv_event.specs.declared.memory_model.MemoryModel.{MemoryModel}
@@ -40,7 +41,8 @@ up_to (suc n) = up_to n ++ n ∷ []
 abbrev pub order_of : List ℕ → List Id → List Id
 order_of ranks ids = map (λ r. at ids (index_of ranks r)) (up_to (length ranks))
 
--- Node k is the memory operation that came k-th. Kept edges are edges, kept links are kept edges, and no operation has an edge to itself or is stale
+-- Node k is the memory operation that came k-th. Kept edges are edges, kept links are kept edges, and no operation has
+-- an edge to itself or is stale
 pub record IsArranged (v : Arranged) : Type 0 where
   pub history : IsHistory v.model v.history
   pub ordered : IsOrder v.edges v.ranks
@@ -50,8 +52,10 @@ pub record IsArranged (v : Arranged) : Type 0 where
   pub only : (a : ℕ) → a < length v.ids → IsOperation (happened v.history) (at v.ids a)
   pub once : (a b : ℕ) → a < length v.ids → b < length v.ids → at v.ids a ≡ at v.ids b → a ≡ b
   pub inside : (a b : ℕ) → Edge v.edges a b → (a < length v.ids) × (b < length v.ids)
-  pub true_edges : (a b : ℕ) → Edge v.edges a b → (r : Reason) × IsEdge v.model (happened v.history) (at v.ids a) r (at v.ids b)
-  pub tied : (a b : ℕ) (r : Reason) → a < length v.ids → b < length v.ids → IsKept v.history (at v.ids a) r (at v.ids b) → Edge v.edges a b
+  pub true_edges : (a b : ℕ) → Edge v.edges a b → (r : Reason) × IsEdge v.model (happened v.history)
+      (at v.ids a) r (at v.ids b)
+  pub tied : (a b : ℕ) (r : Reason) → a < length v.ids → b < length v.ids → IsKept v.history (at v.ids a) r
+      (at v.ids b) → Edge v.edges a b
   pub none_itself : (i : Id) (r : Reason) → IsEdge v.model (happened v.history) i r i → ⊥
   pub none_stale : (load store : Id) → IsStale (happened v.history) load store → ⊥
 

@@ -1,5 +1,6 @@
 -- What an offered chunk tells.
-use Rattle.std.specs.Prelude.{ℕ, ◌+◌, ◌-◌, ◌*◌, ◌<◌, ◌≤◌, ◌≡◌, ◌++◌, List, [], ◌∷◌, length, map, take, drop, IsTrue, IsFalse}
+use Rattle.std.specs.Prelude.{ℕ, ◌+◌, ◌-◌, ◌*◌, ◌<◌, ◌≤◌, ◌≡◌, ◌++◌, List, [], ◌∷◌, length, map, take, drop}
+use Rattle.std.specs.Prelude.{IsTrue, IsFalse}
 use Rattle.rv_event.specs.Log.{events}
 use Rattle.rv_event.specs.Merges.{from_source}
 use Rattle.rv_event.specs.declared.event.Event.{Event}

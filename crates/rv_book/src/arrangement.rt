@@ -204,7 +204,8 @@ fn circle_of(
     path: &[u32],
 ) -> Result<Certificate, NoMemory>
     requires low { All (λ a. a < length ids.now) path.now }
-    requires leads { EachLeads history.now.model (grown history.now.kept event.now) (event.now.id ∷ map (at ids.now) path.now) }
+    requires leads { EachLeads history.now.model (grown history.now.kept event.now)
+        (event.now.id ∷ map (at ids.now) path.now) }
     requires once { AllPairs (λ i j. i ≢ j) (event.now.id ∷ map (at ids.now) path.now) }
     ensures { IfOk result (λ c. Certifies history.now.model (grown history.now.kept event.now) c × IsOwn event.now c) }
 {

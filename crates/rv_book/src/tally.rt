@@ -27,7 +27,8 @@ impl Tally {
 
     /// How many entries of the source were added.
     pub fn count_of_source(&self, source: u8) -> usize
-        ensures { (log : List Entry) → IsTallied log self.now.sources self.now.counts → result ≡ count_by (λ x. source == x.source) log }
+        ensures { (log : List Entry) → IsTallied log self.now.sources self.now.counts →
+            result ≡ count_by (λ x. source == x.source) log }
     {
         self.counts[source as usize] as usize
     }
@@ -44,7 +45,8 @@ impl Tally {
 
     /// The fault `OtherSource`, where an entry of the same hart came from another source.
     pub fn source_fault(&self, entry: &Entry) -> Option<Fault>
-        ensures { (log : List Entry) → IsTallied log self.now.sources self.now.counts → result ≡ source_fault log entry.now }
+        ensures { (log : List Entry) → IsTallied log self.now.sources self.now.counts →
+            result ≡ source_fault log entry.now }
     {
         let source = self.source_of(entry.event.id.hart)?;
         if source == entry.source {
@@ -57,8 +59,9 @@ impl Tally {
     /// Adds an entry.
     pub fn add(&mut self, entry: &Entry)
         requires hart { entry.now.event.id.hart < 16 }
-        ensures { (log : List Entry) → IsTallied log self.old.sources self.old.counts → length log < 65536 → source_fault log entry.now ≡ None
-            → IsTallied (log ++ entry.now ∷ []) self.new.sources self.new.counts }
+        ensures { (log : List Entry) → IsTallied log self.old.sources self.old.counts → length log < 65536 →
+            source_fault log entry.now ≡ None →
+            IsTallied (log ++ entry.now ∷ []) self.new.sources self.new.counts }
     {
         self.sources[entry.event.id.hart as usize] = Some(entry.source);
         self.counts[entry.source as usize] = self.counts[entry.source as usize].wrapping_add(1);

@@ -16,10 +16,15 @@ use Rattle.rv_cert.specs.declared.certificate.Certificate.{Certificate}
 use Rattle.rv_cert.proofs.Forward.{no_certificate}
 use Rattle.rv_cert.specs.declared.certificate.Certificate.TheVariants.{Circle, Stale}
 
-module _ (model : MemoryModel) (old new : List Event) (grows : Grows old new) (known : Indexed old) (known' : Indexed new) where
+module _ (model : MemoryModel) (old new : List Event) (grows : Grows old new) (known : Indexed old)
+    (known' : Indexed new) where
   IsWalk-grows : (steps : List (Id × Reason)) (end : Id) → IsWalk model old steps end → IsWalk model new steps end
   IsWalk-grows [] end w = tt
-  IsWalk-grows (step ∷ rest) end w = (IsEdge-grows model old new grows known known' step.0 (start_of rest end) step.1 w.0, IsWalk-grows rest end w.1)
+  IsWalk-grows (step ∷ rest) end w = (
+    IsEdge-grows model old new grows known known' step.0
+        (start_of rest end) step.1 w.0,
+    IsWalk-grows rest end w.1,
+  )
 
   IsClosedWalk-grows : (steps : List (Id × Reason)) → IsClosedWalk model old steps → IsClosedWalk model new steps
   IsClosedWalk-grows [] w = w

@@ -9,47 +9,57 @@ use Rattle.rv_event.proofs.Names.{place-same, named-is}
 use Rattle.rv_event.specs.declared.event.Id.{Id}
 use Rattle.rv_event.specs.declared.event.Event.{Event}
 use Rattle.rv_event.specs.declared.reason.Reason.{Reason}
-use Rattle.rv_event.specs.declared.reason.Reason.TheVariants.{Preserved, Coherence, ReadsFrom, FromRead, AtomicIn, AtomicOut}
+use Rattle.rv_event.specs.declared.reason.Reason.TheVariants.{Preserved, Coherence, ReadsFrom, FromRead}
+use Rattle.rv_event.specs.declared.reason.Reason.TheVariants.{AtomicIn, AtomicOut}
 use Rattle.rv_cert.specs.Certificates.{start_of, IsWalk, IsClosedWalk, Certifies}
 use Rattle.rv_cert.specs.declared.certificate.Certificate.{Certificate}
 use Rattle.rv_cert.specs.declared.certificate.Certificate.TheVariants.{Circle, Stale}
 
 module _ (model : MemoryModel) (log : List Event) (order : List Id) (lawful : Lawful model log order) where
   -- a load stands before each newer store: that store is no candidate, and the order is total
-  from_read-forward : (a b : Event) → Contains log a → Contains log b → Contains order a.id → IsFromRead a b → Before order a b
+  from_read-forward : (a b : Event) → Contains log a → Contains log b → Contains order a.id → IsFromRead a b →
+      Before order a b
   from_read-forward a b ca cb in_order h = go (cases_order (place order a.id) (place order b.id))
     where
-      go : (place order a.id ≡ place order b.id) ⊎ ((place order a.id < place order b.id) ⊎ (place order b.id < place order a.id)) → Before order a b
+      go : (place order a.id ≡ place order b.id) ⊎
+          ((place order a.id < place order b.id) ⊎ (place order b.id < place order a.id)) → Before order a b
       go (inl same) = absurd (h.other (place-same order a.id b.id in_order same))
       go (inr (inl forward)) = forward
       go (inr (inr back)) =
-          let newer : b.wrote ≤ a.read = (lawful.load_values a ca h.load).none_newer b (record { of_log = cb; is_store = h.store; word = h.word; visible = inl back }) in
+          let newer : b.wrote ≤ a.read = (lawful.load_values a ca h.load).none_newer b
+          (record { of_log = cb; is_store = h.store; word = h.word; visible = inl back }) in
           let versions : a.read < b.wrote = h.versions in
           absurd (omega arith)
 
   -- the operation of any reason stands before the other
-  reason-forward : (a b : Event) → Contains log a → Contains log b → Contains order a.id → (reason : Reason) → HasReason model log reason a b → Before order a b
+  reason-forward : (a b : Event) → Contains log a → Contains log b → Contains order a.id → (reason : Reason) →
+      HasReason model log reason a b → Before order a b
   reason-forward a b ca cb in_order (Preserved k) h = lawful.program_order k a b h
   reason-forward a b ca cb in_order Coherence h = lawful.write_order a b ca cb h.first h.second h.word h.versions
-  reason-forward a b ca cb in_order ReadsFrom h = go ((lawful.load_values b cb h.load).from_writer a h.is_writer).visible
+  reason-forward a b ca cb in_order ReadsFrom h =
+      go ((lawful.load_values b cb h.load).from_writer a h.is_writer).visible
     where
       go : Before order a b ⊎ Earlier a b → Before order a b
       go (inl before) = before
       go (inr earlier) = absurd (h.not_earlier earlier)
   reason-forward a b ca cb in_order FromRead h = from_read-forward a b ca cb in_order h
-  reason-forward a b ca cb in_order AtomicIn h = (lawful.atomicity h.lr b h.of_log cb h.paired).after_writer a h.is_writer
-  reason-forward a b ca cb in_order AtomicOut h = (lawful.atomicity h.lr a h.of_log ca h.paired).before_others b cb h.store h.word h.other_hart h.versions
+  reason-forward a b ca cb in_order AtomicIn h =
+      (lawful.atomicity h.lr b h.of_log cb h.paired).after_writer a h.is_writer
+  reason-forward a b ca cb in_order AtomicOut h =
+      (lawful.atomicity h.lr a h.of_log ca h.paired).before_others b cb h.store h.word h.other_hart h.versions
 
   pub edge-forward : (i j : Id) (reason : Reason) → IsEdge model log i reason j → place order i < place order j
   edge-forward i j reason e =
       let from = named-is log i e.a e.from_named in
       let to = named-is log j e.b e.to_named in
-      let in_order : Contains order i = lawful.is_order.each i (record { event = e.a; is_named = e.from_named; is_memory = e.from_memory }) in
+      let in_order : Contains order i = lawful.is_order.each i
+      (record { event = e.a; is_named = e.from_named; is_memory = e.from_memory }) in
       let before : Before order e.a e.b = reason-forward e.a e.b from.0 to.0 (rw from.1 at in_order) reason e.why in
       rw (from.1, to.1) before
 
   -- a walk never leads back
-  walk-forward : (steps : List (Id × Reason)) (end : Id) → IsWalk model log steps end → place order (start_of steps end) ≤ place order end
+  walk-forward : (steps : List (Id × Reason)) (end : Id) → IsWalk model log steps end →
+      place order (start_of steps end) ≤ place order end
   walk-forward [] end w = omega arith
   walk-forward (step ∷ rest) end w =
       let first = edge-forward step.0 (start_of rest end) step.1 w.0 in
@@ -67,7 +77,8 @@ module _ (model : MemoryModel) (log : List Event) (order : List Id) (lawful : La
   no_stale load store s =
       let from = named-is log load s.a s.load_named in
       let to = named-is log store s.b s.store_named in
-      let newer = (lawful.load_values s.a from.0 s.is_load).none_newer s.b (record { of_log = to.0; is_store = s.is_store; word = s.word; visible = inr s.earlier }) in
+      let newer = (lawful.load_values s.a from.0 s.is_load).none_newer s.b
+      (record { of_log = to.0; is_store = s.is_store; word = s.word; visible = inr s.earlier }) in
       let versions = s.versions in
       omega arith
 

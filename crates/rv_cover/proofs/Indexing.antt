@@ -6,8 +6,11 @@ use Rattle.rv_event.specs.declared.event.Event.{Event}
 
 events_sound : (log before rest : List Event) → WellFormedEvents log → log ≡ before ++ rest → AllSound before rest
 events_sound log before [] ok e = tt
-events_sound log before (x ∷ rest) ok e =
-    (sound_of before x (ok before rest x e), events_sound log (before ++ x ∷ []) rest ok (e ∙ sym (append_assoc before (x ∷ []) rest)))
+events_sound log before (x ∷ rest) ok e = (
+  sound_of before x (ok before rest x e),
+  events_sound log (before ++ x ∷ []) rest ok
+      (e ∙ sym (append_assoc before (x ∷ []) rest)),
+)
 
 pub indexed_from_events : (log : List Event) → WellFormedEvents log → Indexed log
 indexed_from_events log ok = indexed-all [] log indexed-nil (events_sound log [] log ok refl)

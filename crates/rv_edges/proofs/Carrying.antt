@@ -1,5 +1,6 @@
 -- In a history kept links are edges, and cover every edge.
-use Rattle.std.proofs.Common.{◌≡◌, List, [], ◌∷◌, ◌++◌, length, ◌⊎◌, inl, inr, refl, sym, ap, ◌∙◌, arith, subst, append_assoc, append-nil, length-append}
+use Rattle.std.proofs.Common.{◌≡◌, List, [], ◌∷◌, ◌++◌, length, ◌⊎◌, inl, inr, refl, sym, ap, ◌∙◌, arith}
+use Rattle.std.proofs.Common.{subst, append_assoc, append-nil, length-append}
 use Rattle.std.proofs.lemmas.List.{map-append}
 use Rattle.std.proofs.lemmas.List.Elements.{Contains-push_cases}
 use Rattle.std.proofs.lemmas.Option.{none-some}
@@ -25,11 +26,15 @@ pub happened-push : (h : List Kept) (k : Kept) → happened (h ++ k ∷ []) ≡ 
 happened-push h k = map-append (λ (x : Kept). x.event) h (k ∷ [])
 
 module _ (model : MemoryModel) where
-  all_sound : (h before rest : List Kept) → IsHistory model h → h ≡ before ++ rest → AllSound (happened before) (happened rest)
+  all_sound : (h before rest : List Kept) → IsHistory model h → h ≡ before ++ rest →
+      AllSound (happened before) (happened rest)
   all_sound h before [] ok e = tt
   all_sound h before (k ∷ rest) ok e =
-      let again : AllSound (happened (before ++ k ∷ [])) (happened rest) = all_sound h (before ++ k ∷ []) rest ok (e ∙ sym (append_assoc before (k ∷ []) rest)) in
-      (sound_of (happened before) k.event (ok before rest k e).sound, subst (λ (seen : List Event). AllSound seen (happened rest)) (happened-push before k) again)
+      let again : AllSound (happened (before ++ k ∷ [])) (happened rest) =
+      all_sound h (before ++ k ∷ []) rest ok (e ∙ sym (append_assoc before (k ∷ []) rest)) in (
+        sound_of (happened before) k.event (ok before rest k e).sound,
+        subst (λ (seen : List Event). AllSound seen (happened rest)) (happened-push before k) again,
+      )
 
   pub indexed_from_IsHistory : (h : List Kept) → IsHistory model h → Indexed (happened h)
   indexed_from_IsHistory h ok = indexed-all [] (happened h) indexed-nil (all_sound h [] h ok refl)
@@ -42,7 +47,8 @@ module _ (model : MemoryModel) where
   IsKept-new : (h : List Kept) (k : Kept) (i j : Id) (r : Reason) → Joins k i r j → IsKept (h ++ k ∷ []) i r j
   IsKept-new h k i j r is = Any-from_contains (λ x. Joins x i r j) (h ++ k ∷ []) k (Contains-last h k) is
 
-  pub IsKept-cases : (h : List Kept) (k : Kept) (i j : Id) (r : Reason) → IsKept (h ++ k ∷ []) i r j → IsKept h i r j ⊎ Joins k i r j
+  pub IsKept-cases : (h : List Kept) (k : Kept) (i j : Id) (r : Reason) → IsKept (h ++ k ∷ []) i r j → IsKept h i r j ⊎
+      Joins k i r j
   IsKept-cases h k i j r any =
       let a = Any-contains (λ x. Joins x i r j) (h ++ k ∷ []) any in
       elim (Contains-push_cases h k a.0 a.1) [
@@ -55,23 +61,29 @@ module _ (model : MemoryModel) where
   either_tied h k i j (inr t) = (t.0, IsKept-new h k i j t.0 t.1)
 
   -- the links of an event that joins a history cover its edges, with those kept
-  pub covered_with : (h : List Kept) (k : Kept) → Indexed (happened h) → Joined model h k → Covers model (happened h) (IsTied h) → Covers model (grown h k.event) (IsTied (h ++ k ∷ []))
+  pub covered_with : (h : List Kept) (k : Kept) → Indexed (happened h) → Joined model h k →
+      Covers model (happened h) (IsTied h) → Covers model (grown h k.event) (IsTied (h ++ k ∷ []))
   covered_with h k known joined covers i j r other edge =
       path-map Id (Either (IsTied h) (Ties k)) (IsTied (h ++ k ∷ [])) (either_tied h k) i j
-      (covered model (happened h) k.event (IsTied h) (Ties k) known (sound_of (happened h) k.event joined.sound) covers joined.linked.carried i j r other edge)
+      (covered model (happened h) k.event (IsTied h) (Ties k) known (sound_of (happened h) k.event joined.sound) covers
+      joined.linked.carried i j r other edge)
 
   -- an event with such links keeps it so
-  IsCarried-push : (h : List Kept) (k : Kept) → Indexed (happened h) → Joined model h k → IsCarried model h → IsCarried model (h ++ k ∷ [])
+  IsCarried-push : (h : List Kept) (k : Kept) → Indexed (happened h) → Joined model h k → IsCarried model h →
+      IsCarried model (h ++ k ∷ [])
   IsCarried-push h k known joined ok =
       let new = happened h ++ k.event ∷ [] in
       let same = happened-push h k in
       let known' : Indexed new = indexed-push (happened h) k.event known (sound_of (happened h) k.event joined.sound) in
       record {
-        true_edges = λ i j r e. subst (λ (log : List Event). IsEdge model log i r j) (sym same) (elim (IsKept-cases h k i j r e) [
-          | inl old ↦ IsEdge-grows model (happened h) new (grows-push (happened h) k.event) known known' i j r (ok.true_edges i j r old)
-          | inr is ↦ joined.linked.listed i j r is
-        ]);
-        covered = subst (λ (log : List Event). Covers model log (IsTied (h ++ k ∷ []))) (sym same) (covered_with h k known joined ok.covered);
+        true_edges = λ i j r e. subst (λ (log : List Event). IsEdge model log i r j) (sym same)
+            (elim (IsKept-cases h k i j r e) [
+              | inl old ↦ IsEdge-grows model (happened h) new (grows-push (happened h) k.event) known known' i j r
+                  (ok.true_edges i j r old)
+              | inr is ↦ joined.linked.listed i j r is
+            ]);
+        covered = subst (λ (log : List Event). Covers model log (IsTied (h ++ k ∷ []))) (sym same)
+            (covered_with h k known joined ok.covered);
       }
 
   IsCarried-nil : IsCarried model []
@@ -81,9 +93,11 @@ module _ (model : MemoryModel) where
   }
 
   IsHistory-part : (before rest : List Kept) → IsHistory model (before ++ rest) → IsHistory model before
-  IsHistory-part before rest ok b a k e = ok b (a ++ rest) k (ap (λ (l : List Kept). l ++ rest) e ∙ append_assoc b (k ∷ a) rest)
+  IsHistory-part before rest ok b a k e =
+      ok b (a ++ rest) k (ap (λ (l : List Kept). l ++ rest) e ∙ append_assoc b (k ∷ a) rest)
 
-  carried_all : (before rest : List Kept) → IsHistory model (before ++ rest) → IsCarried model before → IsCarried model (before ++ rest)
+  carried_all : (before rest : List Kept) → IsHistory model (before ++ rest) → IsCarried model before →
+      IsCarried model (before ++ rest)
   carried_all before [] ok c = rw append-nil c
   carried_all before (k ∷ rest) ok c =
       let known = indexed_from_IsHistory before (IsHistory-part before (k ∷ rest) ok) in
@@ -112,7 +126,8 @@ module _ (model : MemoryModel) where
       (xs new : List Event) (ls more : List OwnLinks) (x : Event) (l : OwnLinks) (k : Kept) → length xs ≡ length ls →
       IsHistory model (kept_from xs ls) → Joined model (kept_from xs ls) k → kept_one x l ≡ k →
       new ≡ xs ++ x ∷ [] → more ≡ ls ++ l ∷ [] →
-      (length new ≡ length more) × IsHistory model (kept_from new more) × (kept_from new more ≡ kept_from xs ls ++ k ∷ [])
+      (length new ≡ length more) × IsHistory model (kept_from new more) ×
+      (kept_from new more ≡ kept_from xs ls ++ k ∷ [])
   pushed_sides xs new ls more x l k same ok joined is e f =
       let cut : kept_from new more ≡ kept_from xs ls ++ k ∷ [] =
       ap (λ (zs : List Event). kept_from zs more) e ∙ ap (kept_from (xs ++ x ∷ [])) f ∙ kept_from-push xs ls x l same

@@ -23,13 +23,15 @@ use Rattle.rv_edges.proofs.Harting.{known', own-new}
 
 -- rules that lead from an event of a hart lead over events of that hart
 reaches_to :
-    (model : MemoryModel) (log : List Event) (h : ℕ) → Indexed log → (a b : Event) → a.id.hart ≡ h → Reaches model log a b →
+    (model : MemoryModel) (log : List Event) (h : ℕ) → Indexed log → (a b : Event) → a.id.hart ≡ h →
+    Reaches model log a b →
     Reaches model (of_hart h log) a b
 reaches_to model log h known a b at (one s) = one (any_rule_to model log h known a b at s)
 reaches_to model log h known a b at (more {j = j} s p) =
     more (any_rule_to model log h known a j at s) (reaches_to model log h known j b (sym s.1.earlier.hart ∙ at) p)
 
-module _ (model : MemoryModel) (h : List Kept) (k : Kept) (known : Indexed (happened h)) (sound : event_fault (happened h) k.event ≡ None) (linked : IsLinked model h k) where
+module _ (model : MemoryModel) (h : List Kept) (k : Kept) (known : Indexed (happened h))
+    (sound : event_fault (happened h) k.event ≡ None) (linked : IsLinked model h k) where
   abbrev log : List Event
   log = happened h
 
@@ -54,12 +56,15 @@ module _ (model : MemoryModel) (h : List Kept) (k : Kept) (known : Indexed (happ
       let from : i ≡ edge.a.id = (named-is new i edge.a edge.from_named).1 in
       let to : e.id ≡ edge.b.id = (named-is new e.id edge.b edge.to_named).1 in
       let rule : Rule model new j edge.a edge.b = edge.why in
-      let at : i.hart ≡ e.id.hart = ap (λ (x : Id). x.hart) from ∙ rule.earlier.hart ∙ ap (λ (x : Id). x.hart) (sym to) in
+      let at : i.hart ≡ e.id.hart = ap (λ (x : Id). x.hart) from ∙ rule.earlier.hart ∙
+      ap (λ (x : Id). x.hart) (sym to) in
       subst (λ (es : List Event). IsPreserved model es j i e.id) same_new
-      (preserved_to model new e.id.hart all_known j i e.id at (record { a = edge.a; b = edge.b; first = edge.from_named; second = edge.to_named; rule = rule }))
+      (preserved_to model new e.id.hart all_known j i e.id at
+      (record { a = edge.a; b = edge.b; first = edge.from_named; second = edge.to_named; rule = rule }))
 
   -- an event that splits a rule is one of the hart
-  split_is : (j : ℕ) (a : Event) → IsSplit model log new (Preserved j) a e → IsSplit model own.events (followed own e) (Preserved j) a e
+  split_is : (j : ℕ) (a : Event) → IsSplit model log new (Preserved j) a e → IsSplit model own.events (followed own e)
+      (Preserved j) a e
   split_is j a s =
       let last : AnyRule model new s.c e = s.splits.1 in
       let at : s.c.id.hart ≡ e.id.hart = last.1.earlier.hart in
@@ -68,7 +73,8 @@ module _ (model : MemoryModel) (h : List Kept) (k : Kept) (known : Indexed (happ
         of_log = contains_own log e.id.hart s.c known s.of_log at;
         splits = (
           reaches_to model log e.id.hart known a s.c (reaches-hart a s.c s.splits.0 ∙ at) s.splits.0,
-          subst (λ (es : List Event). AnyRule model es s.c e) same_new (any_rule_to model new e.id.hart all_known s.c e at last),
+          subst (λ (es : List Event). AnyRule model es s.c e) same_new
+              (any_rule_to model new e.id.hart all_known s.c e at last),
         );
       }
     where
@@ -79,15 +85,18 @@ module _ (model : MemoryModel) (h : List Kept) (k : Kept) (known : Indexed (happ
   pub enough_is : AreEnoughLinks own e k.before
   enough_is = record {
     rules = λ l j c is.
-        rule_is l.id j (subst (λ (r : Reason). IsEdge model new l.id r e.id) is (linked.listed l.id e.id l.reason (inl (refl, c))));
+        rule_is l.id j (subst (λ (r : Reason). IsEdge model new l.id r e.id) is
+        (linked.listed l.id e.id l.reason (inl (refl, c))));
     carried = λ j a ca rule.
         let rule' : Rule model new j a e =
-        rule_from model new e.id.hart all_known j a e (subst (λ (es : List Event). Rule model es j a e) (sym same_new) rule) in
+        rule_from model new e.id.hart all_known j a e
+        (subst (λ (es : List Event). Rule model es j a e) (sym same_new) rule) in
         let old = own_contains log e.id.hart a ca in
         elim (linked.carried.into (Preserved j) a old.0 rule'.from_memory rule'.to_memory rule') [
           | inl t ↦ elim t.1 [
             | inl w ↦ inl (record { id = a.id; reason = t.0 }, w.1, refl)
-            | inr w ↦ (let less : a.id.seq < e.id.seq = rule'.earlier.seq in absurd (omega (arith, less, ap (λ (x : Id). x.seq) w.0)))
+            | inr w ↦ (let less : a.id.seq < e.id.seq = rule'.earlier.seq in
+                absurd (omega (arith, less, ap (λ (x : Id). x.seq) w.0)))
           ]
           | inr s ↦ inr (split_is j a s)
         ];

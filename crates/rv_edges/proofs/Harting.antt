@@ -1,5 +1,6 @@
 -- What a hart says of a new event, over the log.
-use Rattle.std.proofs.Common.{◌≡◌, ◌≢◌, ◌<◌, List, [], ◌∷◌, ◌++◌, Contains, None, Some, inl, inr, sym, ap, ◌∙◌, subst, arith}
+use Rattle.std.proofs.Common.{◌≡◌, ◌≢◌, ◌<◌, List, [], ◌∷◌, ◌++◌, Contains, None, Some, inl, inr, sym, ap}
+use Rattle.std.proofs.Common.{◌∙◌, subst, arith}
 use Rattle.std.proofs.lemmas.List.Elements.{Contains-push_cases}
 use Rattle.std.proofs.lemmas.Option.{none-some}
 use Rattle.rv_event.specs.Operations.{IsLoad}
@@ -21,7 +22,8 @@ use Rattle.rv_versions.specs.Reserved.{IsPartner}
 use Rattle.rv_edges.specs.Indexes.{hart_from}
 use Rattle.rv_edges.proofs.Listed.{Contains-none}
 
-module _ (model : MemoryModel) (log : List Event) (e : Event) (known : Indexed log) (sound : event_fault log e ≡ None) where
+module _ (model : MemoryModel) (log : List Event) (e : Event) (known : Indexed log)
+    (sound : event_fault log e ≡ None) where
   abbrev own : Hart
   own = hart_from model log e.id.hart
 
@@ -38,7 +40,11 @@ module _ (model : MemoryModel) (log : List Event) (e : Event) (known : Indexed l
   pub partner_from : (lr : Event) → Contains own.events lr → Paired (followed own e) lr e → IsPartner log e lr
   partner_from lr c p =
       let f = own_contains log e.id.hart lr c in
-      record { of_log = f.0; paired = paired_from model new e.id.hart known' lr e f.1 (subst (λ (es : List Event). Paired es lr e) (sym own-new) p) }
+      record {
+        of_log = f.0;
+        paired = paired_from model new e.id.hart known' lr e f.1
+            (subst (λ (es : List Event). Paired es lr e) (sym own-new) p);
+      }
 
   pub partner_to : (lr : Event) → IsPartner log e lr → Contains own.events lr × Paired (followed own e) lr e
   partner_to lr p = (
@@ -47,10 +53,12 @@ module _ (model : MemoryModel) (log : List Event) (e : Event) (known : Indexed l
   )
 
   pub stale_is : (s : Id) → IsStale (followed own e) e.id s → IsStale new e.id s
-  stale_is s p = stale_from model new e.id.hart known' e.id s (subst (λ (es : List Event). IsStale es e.id s) (sym own-new) p)
+  stale_is s p = stale_from model new e.id.hart known' e.id s
+      (subst (λ (es : List Event). IsStale es e.id s) (sym own-new) p)
 
   pub stale_was : (s : Id) → IsStale new e.id s → IsStale (followed own e) e.id s
-  stale_was s p = subst (λ (es : List Event). IsStale es e.id s) own-new (stale_to model new e.id.hart known' e.id s (λ i. e.id.hart) p)
+  stale_was s p = subst (λ (es : List Event). IsStale es e.id s) own-new
+      (stale_to model new e.id.hart known' e.id s (λ i. e.id.hart) p)
 
   one_of : (a : Event) → own.events ≡ [] → Contains (followed own e) a → e ≡ a
   one_of a none c = elim (Contains-push_cases own.events e a c) [
@@ -70,7 +78,8 @@ module _ (model : MemoryModel) (log : List Event) (e : Event) (known : Indexed l
 
   pub none_linked : own.events ≡ [] → (links : List Link) → links ≡ [] → AreRuleLinks own e links
   none_linked none links is =
-      let no : (l : Link) → Contains links l → ⊥ = λ l c. Contains-none l (subst (λ (ls : List Link). Contains ls l) is c) in
+      let no : (l : Link) → Contains links l → ⊥ =
+      λ l c. Contains-none l (subst (λ (ls : List Link). Contains ls l) is c) in
       record {
         rules = λ l c. absurd (no l c);
         lowest = λ l c. absurd (no l c);
@@ -84,16 +93,28 @@ module _ (model : MemoryModel) (log : List Event) (e : Event) (known : Indexed l
   returned_none none w s =
       let c = own_contains log e.id.hart w s.of_hart in
       let is : writer log w.word w.wrote ≡ Some w = known.written w c.0 s.store in
-      none-some w (sym none ∙ ap (λ x. writer log x e.read) s.returns.word ∙ ap (λ v. writer log w.word v) s.returns.version ∙ is)
+      none-some w (sym none ∙ ap (λ x. writer log x e.read) s.returns.word ∙
+      ap (λ v. writer log w.word v) s.returns.version ∙ is)
 
-  pub returned_some : (w : Event) → writer log e.word e.read ≡ Some w → w.id.hart ≡ e.id.hart → IsLoad e → IsReturned (hart_from model log e.id.hart) e (Some w.id.seq)
+  pub returned_some : (w : Event) → writer log e.word e.read ≡ Some w → w.id.hart ≡ e.id.hart → IsLoad e →
+      IsReturned (hart_from model log e.id.hart) e (Some w.id.seq)
   returned_some w is at load =
-      let i = writer-is log e.word e.read w is in
-      (w, record { of_hart = contains_own log e.id.hart w known i.of_log at; store = i.store; load = load; returns = record { word = i.word; version = i.version } }, λ k. w.id.seq)
+      let i = writer-is log e.word e.read w is in (
+        w,
+        record {
+          of_hart = contains_own log e.id.hart w known i.of_log at;
+          store = i.store;
+          load = load;
+          returns = record { word = i.word; version = i.version };
+        },
+        λ k. w.id.seq,
+      )
 
-  pub returned_other : (w : Event) → writer log e.word e.read ≡ Some w → w.id.hart ≢ e.id.hart → IsReturned (hart_from model log e.id.hart) e None
+  pub returned_other : (w : Event) → writer log e.word e.read ≡ Some w → w.id.hart ≢ e.id.hart →
+      IsReturned (hart_from model log e.id.hart) e None
   returned_other w is other x s =
       let c = own_contains log e.id.hart x s.of_hart in
       let has : writer log x.word x.wrote ≡ Some x = known.written x c.0 s.store in
-      let same : writer log e.word e.read ≡ Some x = ap (λ y. writer log y e.read) s.returns.word ∙ ap (λ v. writer log x.word v) s.returns.version ∙ has in
+      let same : writer log e.word e.read ≡ Some x = ap (λ y. writer log y e.read) s.returns.word ∙
+      ap (λ v. writer log x.word v) s.returns.version ∙ has in
       other (ap (λ (y : Event). y.id.hart) (Rattle.std.proofs.lemmas.Option.same_Some w x (sym is ∙ same)) ∙ c.1)

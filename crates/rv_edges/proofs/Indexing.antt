@@ -16,7 +16,8 @@ use Rattle.rv_edges.specs.Indexes.{AreIndexes, hart_of, hart_from, hart_in}
 use Rattle.rv_edges.proofs.Carrying.{indexed_from_IsHistory}
 use Rattle.rv_edges.proofs.Sides.{happened-kept_from}
 
-module _ (model : MemoryModel) (log : List Event) (harts : List Hart) (links : List OwnLinks) (known : AreIndexes model log harts links) where
+module _ (model : MemoryModel) (log : List Event) (harts : List Hart) (links : List OwnLinks)
+    (known : AreIndexes model log harts links) where
   -- the events of the history are those of the log
   pub happened-is : happened (kept_from log links) ≡ log
   happened-is = happened-kept_from log links known.lengths
@@ -33,7 +34,12 @@ module _ (model : MemoryModel) (log : List Event) (harts : List Hart) (links : L
 
     pub past-few : (entries : List Entry) → events entries ≡ happened past.kept → length entries ≤ 65536
     past-few entries e =
-        omega (arith, length-Indexed (happened past.kept) past-indexed, ap (λ (es : List Event). length es) e, length-map entries (λ (x : Entry). x.event))
+        omega (
+          arith,
+          length-Indexed (happened past.kept) past-indexed,
+          ap (λ (es : List Event). length es) e,
+          length-map entries (λ (x : Entry). x.event),
+        )
 
     -- the hart of a number, as the past has it
     pub hart-is : (h : ℕ) → hart_of model harts h ≡ hart_in past h

@@ -1,5 +1,6 @@
 -- The links by rules and those by versions are together as a history wants them.
-use Rattle.std.proofs.Common.{◌≡◌, ◌≢◌, ℕ, ◌<◌, Bool, true, false, List, [], ◌∷◌, ◌++◌, Contains, None, length, ◌⊎◌, inl, inr, refl, sym, ap, ◌∙◌, subst, arith}
+use Rattle.std.proofs.Common.{◌≡◌, ◌≢◌, ℕ, ◌<◌, Bool, true, false, List, [], ◌∷◌, ◌++◌, Contains, None}
+use Rattle.std.proofs.Common.{length, ◌⊎◌, inl, inr, refl, sym, ap, ◌∙◌, subst, arith}
 use Rattle.std.proofs.lemmas.Bool.{false≢true}
 use Rattle.std.proofs.lemmas.List.Elements.{Contains-append_left, Contains-append_right, Contains-append_cases}
 use Rattle.rv_event.specs.Operations.{IsMemory}
@@ -15,13 +16,15 @@ use Rattle.rv_event.specs.declared.event.Event.{Event}
 use Rattle.rv_event.specs.declared.memory_model.MemoryModel.{MemoryModel}
 use Rattle.rv_event.specs.declared.reason.Link.{Link}
 use Rattle.rv_event.specs.declared.reason.Reason.{Reason}
-use Rattle.rv_event.specs.declared.reason.Reason.TheVariants.{Preserved, Coherence, ReadsFrom, FromRead, AtomicIn, AtomicOut}
+use Rattle.rv_event.specs.declared.reason.Reason.TheVariants.{Preserved, Coherence, ReadsFrom, FromRead}
+use Rattle.rv_event.specs.declared.reason.Reason.TheVariants.{AtomicIn, AtomicOut}
 use Rattle.rv_cover.specs.Paths.{AnyRule}
 use Rattle.rv_cover.specs.Carries.{IsSplit}
 use Rattle.rv_cover.specs.Thinned.{Names, Lists, IsUnsplit, IsNearest}
 use Rattle.rv_hart.specs.Harts.{Hart, followed}
 use Rattle.rv_hart.specs.RuleLinks.{AreRuleLinks}
-use Rattle.rv_hart.proofs.OfHart.{own_contains, contains_own, rule_to, any_rule_to, any_rule_from, reaches_from, preserved_from, lowest_from}
+use Rattle.rv_hart.proofs.OfHart.{own_contains, contains_own, rule_to, any_rule_to, any_rule_from}
+use Rattle.rv_hart.proofs.OfHart.{reaches_from, preserved_from, lowest_from}
 use Rattle.rv_versions.specs.VersionLinks.{IsOfVersions, AreVersionLinks}
 use Rattle.rv_edges.specs.Kept.{Kept, happened, grown}
 use Rattle.rv_edges.specs.Histories.{IsLinked}
@@ -50,7 +53,8 @@ kinds AtomicIn = inr (of_versions AtomicIn refl)
 kinds AtomicOut = inr (of_versions AtomicOut refl)
 
 -- what is no rule is the lowest for want of another
-lowest_of_versions : (model : MemoryModel) (log : List Event) (i : Id) (reason : Reason) (j : Id) → IsOfVersions reason → IsLowest model log i reason j
+lowest_of_versions : (model : MemoryModel) (log : List Event) (i : Id) (reason : Reason) (j : Id) →
+    IsOfVersions reason → IsLowest model log i reason j
 lowest_of_versions model log i (Preserved k) j plain = absurd (plain k refl)
 lowest_of_versions model log i Coherence j plain = tt
 lowest_of_versions model log i ReadsFrom j plain = tt
@@ -58,8 +62,10 @@ lowest_of_versions model log i FromRead j plain = tt
 lowest_of_versions model log i AtomicIn j plain = tt
 lowest_of_versions model log i AtomicOut j plain = tt
 
-module _ (model : MemoryModel) (log : List Event) (e : Event) (known : Indexed log) (sound : event_fault log e ≡ None) (rules others before after : List Link)
-    (joined : before ≡ rules ++ others) (by_rules : AreRuleLinks (hart_from model log e.id.hart) e rules) (by_versions : AreVersionLinks model log e others after) where
+module _ (model : MemoryModel) (log : List Event) (e : Event) (known : Indexed log) (sound : event_fault log e ≡ None)
+    (rules others before after : List Link)
+    (joined : before ≡ rules ++ others) (by_rules : AreRuleLinks (hart_from model log e.id.hart) e rules)
+    (by_versions : AreVersionLinks model log e others after) where
   abbrev own : Hart
   own = hart_from model log e.id.hart
 
@@ -82,13 +88,15 @@ module _ (model : MemoryModel) (log : List Event) (e : Event) (known : Indexed l
   sides l c = Contains-append_cases rules others l (subst (λ (ls : List Link). Contains ls l) joined c)
 
   preserved_is : (k : ℕ) (i : Id) → IsPreserved model (followed own e) k i e.id → IsPreserved model new k i e.id
-  preserved_is k i p = preserved_from model new e.id.hart all_known k i e.id (subst (λ (es : List Event). IsPreserved model es k i e.id) (sym same_new) p)
+  preserved_is k i p = preserved_from model new e.id.hart all_known k i e.id
+      (subst (λ (es : List Event). IsPreserved model es k i e.id) (sym same_new) p)
 
   -- a link by a rule names an earlier event of the hart
   hart_of_link : (l : Link) → Contains rules l → l.id.hart ≡ e.id.hart
   hart_of_link l c =
       let p = (by_rules.rules l c).preserved in
-      ap (λ (i : Id). i.hart) (named-is (followed own e) l.id p.a p.first).1 ∙ p.rule.earlier.hart ∙ ap (λ (i : Id). i.hart) (sym (named-is (followed own e) e.id p.b p.second).1)
+      ap (λ (i : Id). i.hart) (named-is (followed own e) l.id p.a p.first).1 ∙ p.rule.earlier.hart ∙
+      ap (λ (i : Id). i.hart) (sym (named-is (followed own e) e.id p.b p.second).1)
 
   edge_before : (l : Link) → Contains before l → IsEdge model new l.id l.reason e.id
   edge_before l c = elim (sides l c) [
@@ -96,7 +104,15 @@ module _ (model : MemoryModel) (log : List Event) (e : Event) (known : Indexed l
         let is = by_rules.rules l r in
         let p = preserved_is is.rule l.id is.preserved in
         subst (λ (x : Reason). IsEdge model new l.id x e.id) (sym is.reason)
-        (record { a = p.a; b = p.b; from_named = p.first; to_named = p.second; from_memory = p.rule.from_memory; to_memory = p.rule.to_memory; why = p.rule }))
+        (record {
+          a = p.a;
+          b = p.b;
+          from_named = p.first;
+          to_named = p.second;
+          from_memory = p.rule.from_memory;
+          to_memory = p.rule.to_memory;
+          why = p.rule;
+        }))
     | inr v ↦ by_versions.edges_before l v
   ]
 
@@ -117,29 +133,35 @@ module _ (model : MemoryModel) (log : List Event) (e : Event) (known : Indexed l
         let p = (by_rules.rules l r).preserved in
         let less : p.a.id.seq < p.b.id.seq = p.rule.earlier.seq in
         let at : p.a.id.seq ≡ p.b.id.seq =
-        ap (λ (i : Id). i.seq) (sym (named-is (followed own e) l.id p.a p.first).1 ∙ same ∙ (named-is (followed own e) e.id p.b p.second).1) in
+        ap (λ (i : Id). i.seq) (sym (named-is (followed own e) l.id p.a p.first).1 ∙ same ∙
+        (named-is (followed own e) e.id p.b p.second).1) in
         omega (arith, less, at))
     | inr v ↦ by_versions.other_before l v same
   ]
 
   -- a rule into the event is one over the hart's events
   rule_own : (k : ℕ) (a : Event) → Rule model new k a e → Rule model (followed own e) k a e
-  rule_own k a r = subst (λ (es : List Event). Rule model es k a e) same_new (rule_to model new e.id.hart all_known k a e r.earlier.hart r)
+  rule_own k a r = subst (λ (es : List Event). Rule model es k a e) same_new
+      (rule_to model new e.id.hart all_known k a e r.earlier.hart r)
 
   any_rule_own : (a b : Event) → a.id.hart ≡ e.id.hart → AnyRule model new a b → AnyRule model (followed own e) a b
-  any_rule_own a b at r = subst (λ (es : List Event). AnyRule model es a b) same_new (any_rule_to model new e.id.hart all_known a b at r)
+  any_rule_own a b at r = subst (λ (es : List Event). AnyRule model es a b) same_new
+      (any_rule_to model new e.id.hart all_known a b at r)
 
-  split_is : (k : ℕ) (a : Event) → IsSplit model own.events (followed own e) (Preserved k) a e → IsSplit model log new (Preserved k) a e
+  split_is : (k : ℕ) (a : Event) → IsSplit model own.events (followed own e) (Preserved k) a e →
+      IsSplit model log new (Preserved k) a e
   split_is k a s = record {
     c = s.c;
     of_log = (own_contains log e.id.hart s.c s.of_log).0;
     splits = (
       reaches_from model log e.id.hart known a s.c s.splits.0,
-      any_rule_from model new e.id.hart all_known s.c e (subst (λ (es : List Event). AnyRule model es s.c e) (sym same_new) s.splits.1),
+      any_rule_from model new e.id.hart all_known s.c e
+          (subst (λ (es : List Event). AnyRule model es s.c e) (sym same_new) s.splits.1),
     );
   }
 
-  carried_into : (reason : Reason) (a : Event) → Contains log a → IsMemory a → IsMemory e → HasReason model new reason a e → Names before a.id ⊎ IsSplit model log new reason a e
+  carried_into : (reason : Reason) (a : Event) → Contains log a → IsMemory a → IsMemory e →
+      HasReason model new reason a e → Names before a.id ⊎ IsSplit model log new reason a e
   carried_into reason a ca ma me why = go (kinds reason)
     where
       by_rule : (k : ℕ) → Rule model new k a e → Names before a.id ⊎ IsSplit model log new (Preserved k) a e
@@ -148,7 +170,8 @@ module _ (model : MemoryModel) (log : List Event) (e : Event) (known : Indexed l
         | inr s ↦ inr (split_is k a s)
       ]
 
-      go : ((k : ℕ) × (reason ≡ Preserved k)) ⊎ IsOfVersions reason → Names before a.id ⊎ IsSplit model log new reason a e
+      go : ((k : ℕ) × (reason ≡ Preserved k)) ⊎ IsOfVersions reason → Names before a.id ⊎
+          IsSplit model log new reason a e
       go (inl w) =
           subst (λ (x : Reason). Names before a.id ⊎ IsSplit model log new x a e) (sym w.1)
           (by_rule w.0 (subst (λ (x : Reason). HasReason model new x a e) w.1 why))
@@ -162,11 +185,13 @@ module _ (model : MemoryModel) (log : List Event) (e : Event) (known : Indexed l
   none_after k b cb r =
       let less : e.id.seq < b.id.seq = r.earlier.seq in
       let low : b.id.seq < length (of_hart b.id.hart log) = known.below b cb in
-      let low' : b.id.seq < length (of_hart e.id.hart log) = subst (λ (h : ℕ). b.id.seq < length (of_hart h log)) (sym r.earlier.hart) low in
+      let low' : b.id.seq < length (of_hart e.id.hart log) = subst (λ (h : ℕ). b.id.seq < length (of_hart h log))
+      (sym r.earlier.hart) low in
       let at : e.id.seq ≡ length (of_hart e.id.hart log) = (sound_of log e sound).seq in
       omega (arith, less, low', at)
 
-  carried_out : (reason : Reason) (b : Event) → Contains log b → IsMemory e → IsMemory b → HasReason model new reason e b → Names after b.id ⊎ IsSplit model log new reason e b
+  carried_out : (reason : Reason) (b : Event) → Contains log b → IsMemory e → IsMemory b →
+      HasReason model new reason e b → Names after b.id ⊎ IsSplit model log new reason e b
   carried_out reason b cb me mb why = elim (kinds reason) [
     | inl w ↦ absurd (none_after w.0 b cb (subst (λ (x : Reason). HasReason model new x e b) w.1 why))
     | inr v ↦ by_versions.carried_after reason b v cb me mb why
@@ -177,14 +202,16 @@ module _ (model : MemoryModel) (log : List Event) (e : Event) (known : Indexed l
     | inl r ↦ (
         let at : c.id.hart ≡ e.id.hart = second.1.earlier.hart in
         let from : a.id.hart ≡ e.id.hart = first.1.earlier.hart ∙ at in
-        by_rules.unsplit k a c (contains_own log e.id.hart a known ca from) (contains_own log e.id.hart c known cc at) r (any_rule_own a c from first) (any_rule_own c e at second))
+        by_rules.unsplit k a c (contains_own log e.id.hart a known ca from) (contains_own log e.id.hart c known cc at) r
+        (any_rule_own a c from first) (any_rule_own c e at second))
     | inr v ↦ by_versions.reasons_before (record { id = a.id; reason = Preserved k }) v k refl
   ]
 
   -- what is no rule is listed by its version
   by_version : (a : Event) (reason : Reason) → is_rule reason ≡ false → Lists before a reason → Lists others a reason
   by_version a reason plain lists = elim (sides (record { id = a.id; reason = reason }) lists) [
-    | inl r ↦ (let is = by_rules.rules (record { id = a.id; reason = reason }) r in absurd (of_versions reason plain is.rule is.reason))
+    | inl r ↦ (let is = by_rules.rules (record { id = a.id; reason = reason }) r in
+        absurd (of_versions reason plain is.rule is.reason))
     | inr v ↦ v
   ]
 
@@ -193,12 +220,14 @@ module _ (model : MemoryModel) (log : List Event) (e : Event) (known : Indexed l
     coherence_before = λ s c lists. by_versions.nearest.coherence_before s c (by_version s Coherence refl lists);
     coherence_after = by_versions.nearest.coherence_after;
     from_read_after = by_versions.nearest.from_read_after;
-    from_read_before = λ a s ca cs lists. by_versions.nearest.from_read_before a s ca cs (by_version a FromRead refl lists);
+    from_read_before = λ a s ca cs lists. by_versions.nearest.from_read_before a s ca cs
+        (by_version a FromRead refl lists);
   }
 
 -- all together, as a history wants it
 pub linked_with :
-    (model : MemoryModel) (h : List Kept) (k : Kept) (rules others : List Link) → Indexed (happened h) → event_fault (happened h) k.event ≡ None →
+    (model : MemoryModel) (h : List Kept) (k : Kept) (rules others : List Link) → Indexed (happened h) →
+    event_fault (happened h) k.event ≡ None →
     k.before ≡ rules ++ others → AreRuleLinks (hart_from model (happened h) k.event.id.hart) k.event rules →
     AreVersionLinks model (happened h) k.event others k.after → IsLinked model h k
 linked_with model h k rules others known sound joined by_rules by_versions =
@@ -207,26 +236,49 @@ linked_with model h k rules others known sound joined by_rules by_versions =
     let g = grown h e in
     record {
       listed = λ i j r q. elim q [
-        | inl w ↦ subst (λ (x : Id). IsEdge model g i r x) (sym w.0) (edge_before model log e known sound rules others k.before k.after joined by_rules by_versions (record { id = i; reason = r }) w.1)
-        | inr w ↦ subst (λ (x : Id). IsEdge model g x r j) (sym w.0) (by_versions.edges_after (record { id = j; reason = r }) w.1)
+        | inl w ↦ subst (λ (x : Id). IsEdge model g i r x) (sym w.0)
+            (edge_before model log e known sound rules others k.before k.after joined by_rules by_versions
+            (record { id = i; reason = r }) w.1)
+        | inr w ↦ subst (λ (x : Id). IsEdge model g x r j) (sym w.0)
+            (by_versions.edges_after (record { id = j; reason = r }) w.1)
       ];
       lowest = λ i j r q. elim q [
-        | inl w ↦ subst (λ (x : Id). IsLowest model g i r x) (sym w.0) (lowest_before model log e known sound rules others k.before k.after joined by_rules by_versions (record { id = i; reason = r }) w.1)
-        | inr w ↦ subst (λ (x : Id). IsLowest model g x r j) (sym w.0) (lowest_of_versions model g e.id r j (by_versions.reasons_after (record { id = j; reason = r }) w.1))
+        | inl w ↦ subst (λ (x : Id). IsLowest model g i r x) (sym w.0)
+            (lowest_before model log e known sound rules others k.before k.after joined by_rules by_versions
+            (record { id = i; reason = r }) w.1)
+        | inr w ↦ subst (λ (x : Id). IsLowest model g x r j) (sym w.0)
+            (lowest_of_versions model g e.id r j (by_versions.reasons_after (record { id = j; reason = r }) w.1))
       ];
       other = λ i j r q p. elim q [
-        | inl w ↦ other_before model log e known sound rules others k.before k.after joined by_rules by_versions (record { id = i; reason = r }) w.1 (p ∙ w.0)
+        | inl w ↦ other_before model log e known sound rules others k.before k.after joined by_rules by_versions
+            (record { id = i; reason = r }) w.1 (p ∙ w.0)
         | inr w ↦ by_versions.other_after (record { id = j; reason = r }) w.1 (sym p ∙ w.0)
       ];
       carried = record {
-        into = λ reason a ca ma me why. elim (carried_into model log e known sound rules others k.before k.after joined by_rules by_versions reason a ca ma me why) [
-          | inl n ↦ inl (n.0.reason, inl (refl, subst (λ (i : Id). Contains k.before (record { id = i; reason = n.0.reason })) n.2 n.1))
-          | inr s ↦ inr s
-        ];
-        out = λ reason b cb me mb why. elim (carried_out model log e known sound rules others k.before k.after joined by_rules by_versions reason b cb me mb why) [
-          | inl n ↦ inl (n.0.reason, inr (refl, subst (λ (i : Id). Contains k.after (record { id = i; reason = n.0.reason })) n.2 n.1))
-          | inr s ↦ inr s
-        ];
+        into = λ reason a ca ma me why. elim
+            (carried_into model log e known sound rules others k.before k.after joined by_rules by_versions reason a
+            ca ma me why) [
+              | inl n ↦ inl (
+                n.0.reason,
+                inl (
+                  refl,
+                  subst (λ (i : Id). Contains k.before (record { id = i; reason = n.0.reason })) n.2 n.1,
+                ),
+              )
+              | inr s ↦ inr s
+            ];
+        out = λ reason b cb me mb why. elim
+            (carried_out model log e known sound rules others k.before k.after joined by_rules by_versions reason b
+            cb me mb why) [
+              | inl n ↦ inl (
+                n.0.reason,
+                inr (
+                  refl,
+                  subst (λ (i : Id). Contains k.after (record { id = i; reason = n.0.reason })) n.2 n.1,
+                ),
+              )
+              | inr s ↦ inr s
+            ];
       };
       ended = λ i j r edge. edge-push model log e known (sound_of log e sound) i j r edge;
     }

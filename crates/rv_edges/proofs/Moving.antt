@@ -1,5 +1,7 @@
 -- The harts of a history when an event comes or goes.
-use Rattle.std.proofs.Common.{◌≡◌, ◌≢◌, ℕ, ◌+◌, ◌-◌, ◌<◌, ◌≤◌, ◌==◌, Bool, false, cond, List, [], ◌∷◌, ◌++◌, length, Some, ◌⊎◌, inl, inr, refl, sym, ap, ◌∙◌, subst, arith, slice_set, slice_get, slice_index_or, length-append, append-nil, get_or}
+use Rattle.std.proofs.Common.{◌≡◌, ◌≢◌, ℕ, ◌+◌, ◌-◌, ◌<◌, ◌≤◌, ◌==◌, Bool, false, cond, List, [], ◌∷◌, ◌++◌}
+use Rattle.std.proofs.Common.{length, Some, ◌⊎◌, inl, inr, refl, sym, ap, ◌∙◌, subst, arith, slice_set}
+use Rattle.std.proofs.Common.{slice_get, slice_index_or, length-append, append-nil, get_or}
 use Rattle.std.proofs.lemmas.Bool.{cases_eq, cases_lt, ne_eqb}
 use Rattle.std.proofs.lemmas.List.{get_or-set_same, get_or-set_other, get_or_default, get_or_past, map-append}
 use Rattle.std.proofs.lemmas.List.Elements.{filter-append}
@@ -19,10 +21,13 @@ other-push : (log : List Event) (e : Event) (h : ℕ) → h ≢ e.id.hart → of
 other-push log e h other =
     let p : Event → Bool = λ x. h == x.id.hart in
     let out : (b : Bool) → b ≡ false → cond b (e ∷ []) [] ≡ [] = λ b t. rw t in
-    filter-append p log (e ∷ []) ∙ ap (λ (ys : List Event). of_hart h log ++ ys) (out (h == e.id.hart) (ne_eqb h e.id.hart other)) ∙ append-nil (of_hart h log)
+    filter-append p log (e ∷ []) ∙ ap (λ (ys : List Event). of_hart h log ++ ys)
+    (out (h == e.id.hart) (ne_eqb h e.id.hart other)) ∙ append-nil (of_hart h log)
 
-module _ (model : MemoryModel) (log log' : List Event) (harts : List Hart) (n : ℕ) (x : Hart) (own : (h : ℕ) → hart_of model harts h ≡ hart_from model log h)
-    (within : n < length harts) (is : x ≡ hart_from model log' n) (others : (h : ℕ) → h ≢ n → of_hart h log ≡ of_hart h log') where
+module _ (model : MemoryModel) (log log' : List Event) (harts : List Hart) (n : ℕ) (x : Hart)
+    (own : (h : ℕ) → hart_of model harts h ≡ hart_from model log h)
+    (within : n < length harts) (is : x ≡ hart_from model log' n)
+    (others : (h : ℕ) → h ≢ n → of_hart h log ≡ of_hart h log') where
   -- one hart changes, and the log in its events alone
   pub harts-set : (h : ℕ) → hart_of model (slice_set harts n x) h ≡ hart_from model log' h
   harts-set h = go (cases_eq h n)
@@ -36,23 +41,29 @@ module _ (model : MemoryModel) (log log' : List Event) (harts : List Hart) (n : 
           ∙ ap (λ (es : List Event). record { model = model; number = h; events = es }) (others h other)
 
 pub harts-push :
-    (model : MemoryModel) (log log' : List Event) (harts : List Hart) (e : Event) (was is : Hart) → ((h : ℕ) → hart_of model harts h ≡ hart_from model log h) →
-    e.id.hart < length harts → log' ≡ log ++ e ∷ [] → was ≡ slice_index_or harts e.id.hart was → is ≡ hart_with was e → (h : ℕ) →
+    (model : MemoryModel) (log log' : List Event) (harts : List Hart) (e : Event) (was is : Hart) →
+    ((h : ℕ) → hart_of model harts h ≡ hart_from model log h) →
+    e.id.hart < length harts → log' ≡ log ++ e ∷ [] → was ≡ slice_index_or harts e.id.hart was →
+    is ≡ hart_with was e → (h : ℕ) →
     hart_of model (slice_set harts e.id.hart is) h ≡ hart_from model log' h
 harts-push model log log' harts e was is own within grown at with_e =
     let n = e.id.hart in
-    let here : was ≡ hart_from model log n = at ∙ get_or_default harts n was (record { model = model; number = n; events = [] }) within ∙ own n in
+    let here : was ≡ hart_from model log n =
+    at ∙ get_or_default harts n was (record { model = model; number = n; events = [] }) within ∙ own n in
     let more : is ≡ hart_from model log' n =
     with_e ∙ ap (λ (x : Hart). hart_with x e) here
-    ∙ ap (λ (es : List Event). record { model = model; number = n; events = es }) (sym (own-push log e n refl) ∙ ap (of_hart n) (sym grown)) in
-    harts-set model log log' harts n is own within more (λ h other. sym (other-push log e h other) ∙ ap (of_hart h) (sym grown))
+    ∙ ap (λ (es : List Event). record { model = model; number = n; events = es })
+    (sym (own-push log e n refl) ∙ ap (of_hart n) (sym grown)) in
+    harts-set model log log' harts n is own within more (λ h other. sym (other-push log e h other) ∙
+    ap (of_hart h) (sym grown))
 
 not_both : {X : Type 0} (xs : List X) (y : X) → xs ++ y ∷ [] ≡ [] → ⊥
 not_both xs y e = omega (arith, ap length e, length-append xs (y ∷ []))
 
 -- the list reaches to each hart that has an event
 pub reaches-to_hart :
-    (model : MemoryModel) (front : List Event) (harts : List Hart) (e : Event) → ((h : ℕ) → hart_of model harts h ≡ hart_from model (front ++ e ∷ []) h) →
+    (model : MemoryModel) (front : List Event) (harts : List Hart) (e : Event) →
+    ((h : ℕ) → hart_of model harts h ≡ hart_from model (front ++ e ∷ []) h) →
     e.id.hart < length harts
 reaches-to_hart model front harts e own = go (cases_lt e.id.hart (length harts))
   where
@@ -61,45 +72,60 @@ reaches-to_hart model front harts e own = go (cases_lt e.id.hart (length harts))
     go (inr high) =
         let n = e.id.hart in
         let none = get_or_past harts n (record { model = model; number = n; events = [] }) high in
-        absurd (not_both (of_hart n front) e (sym (own-push front e n refl) ∙ ap (λ (x : Hart). x.events) (sym (own n) ∙ none)))
+        absurd (not_both (of_hart n front) e
+        (sym (own-push front e n refl) ∙ ap (λ (x : Hart). x.events) (sym (own n) ∙ none)))
 
 -- the hart of the last event has it last
 pub last-of_hart :
-    (model : MemoryModel) (front : List Event) (harts : List Hart) (e : Event) (was : Hart) → ((h : ℕ) → hart_of model harts h ≡ hart_from model (front ++ e ∷ []) h) →
-    was ≡ slice_index_or harts e.id.hart was → (was.model ≡ model) × (was.number ≡ e.id.hart) × (was.events ≡ of_hart e.id.hart front ++ e ∷ [])
+    (model : MemoryModel) (front : List Event) (harts : List Hart) (e : Event) (was : Hart) →
+    ((h : ℕ) → hart_of model harts h ≡ hart_from model (front ++ e ∷ []) h) →
+    was ≡ slice_index_or harts e.id.hart was → (was.model ≡ model) × (was.number ≡ e.id.hart) ×
+    (was.events ≡ of_hart e.id.hart front ++ e ∷ [])
 last-of_hart model front harts e was own at =
     let n = e.id.hart in
     let within = reaches-to_hart model front harts e own in
-    let here : was ≡ hart_from model (front ++ e ∷ []) n = at ∙ get_or_default harts n was (record { model = model; number = n; events = [] }) within ∙ own n in
-    (ap (λ (x : Hart). x.model) here, ap (λ (x : Hart). x.number) here, ap (λ (x : Hart). x.events) here ∙ own-push front e n refl)
+    let here : was ≡ hart_from model (front ++ e ∷ []) n =
+    at ∙ get_or_default harts n was (record { model = model; number = n; events = [] }) within ∙ own n in (
+      ap (λ (x : Hart). x.model) here,
+      ap (λ (x : Hart). x.number) here,
+      ap (λ (x : Hart). x.events) here ∙
+          own-push front e n refl,
+    )
 
 pub not_none : {X : Type 0} (xs ys : List X) (y : X) → ys ≡ xs ++ y ∷ [] → ys ≡ [] → ⊥
 not_none xs ys y e none = not_both xs y (sym e ∙ none)
 
 pub harts-pop :
-    (model : MemoryModel) (front : List Event) (harts : List Hart) (e : Event) (was is : Hart) → ((h : ℕ) → hart_of model harts h ≡ hart_from model (front ++ e ∷ []) h) →
-    was ≡ slice_index_or harts e.id.hart was → is.model ≡ was.model → is.number ≡ was.number → ((xs : List Event) (y : Event) → was.events ≡ xs ++ y ∷ [] → is.events ≡ xs) →
+    (model : MemoryModel) (front : List Event) (harts : List Hart) (e : Event) (was is : Hart) →
+    ((h : ℕ) → hart_of model harts h ≡ hart_from model (front ++ e ∷ []) h) →
+    was ≡ slice_index_or harts e.id.hart was → is.model ≡ was.model → is.number ≡ was.number →
+    ((xs : List Event) (y : Event) → was.events ≡ xs ++ y ∷ [] → is.events ≡ xs) →
     (h : ℕ) → hart_of model (slice_set harts e.id.hart is) h ≡ hart_from model front h
 harts-pop model front harts e was is own at same_model same_number popped =
     let n = e.id.hart in
     let within = reaches-to_hart model front harts e own in
     let l = last-of_hart model front harts e was own at in
     let less : is.events ≡ of_hart n front = popped (of_hart n front) e l.2 in
-    let more : is ≡ hart_from model front n = λ i. record { model = (same_model ∙ l.0) i; number = (same_number ∙ l.1) i; events = less i } in
+    let more : is ≡ hart_from model front n =
+    λ i. record { model = (same_model ∙ l.0) i; number = (same_number ∙ l.1) i; events = less i } in
     harts-set model (front ++ e ∷ []) front harts n is own within more (λ h other. other-push front e h other)
 
-pub ends_with : {X : Type 0} (xs : List X) (x : X) → slice_get xs (length xs - 1) ≡ Some x → (front : List X) × (xs ≡ front ++ x ∷ [])
+pub ends_with : {X : Type 0} (xs : List X) (x : X) → slice_get xs (length xs - 1) ≡ Some x → (front : List X) ×
+    (xs ≡ front ++ x ∷ [])
 ends_with [] x e = absurd (Rattle.std.proofs.lemmas.Option.none-some x e)
 ends_with {X} (z ∷ xs) x e =
     let r = last_of z xs in
     let len : length (z ∷ xs) ≡ length r.0 + 1 = ap length r.2 ∙ length-append r.0 (r.1 ∷ []) in
     let at : length (z ∷ xs) - 1 ≡ length r.0 = omega (arith, len) in
-    let got : get_or (z ∷ xs) (length (z ∷ xs) - 1) x ≡ x = get_or_from_slice_get (z ∷ xs) (length (z ∷ xs) - 1) x x e in
+    let got : get_or (z ∷ xs) (length (z ∷ xs) - 1) x ≡ x =
+    get_or_from_slice_get (z ∷ xs) (length (z ∷ xs) - 1) x x e in
     let seam : get_or (r.0 ++ r.1 ∷ []) (length r.0) x ≡ r.1 = get_or-append_seam r.0 r.1 [] x in
-    let same : r.1 ≡ x = sym seam ∙ ap (λ (ys : List X). get_or ys (length r.0) x) (sym r.2) ∙ ap (λ k. get_or (z ∷ xs) k x) (sym at) ∙ got in
+    let same : r.1 ≡ x = sym seam ∙ ap (λ (ys : List X). get_or ys (length r.0) x) (sym r.2) ∙
+    ap (λ k. get_or (z ∷ xs) k x) (sym at) ∙ got in
     (r.0, r.2 ∙ ap (λ (y : X). r.0 ++ y ∷ []) same)
 
-pub last_event : (es : List Entry) (x : Entry) → slice_get es (length es - 1) ≡ Some x → (front : List Event) × (events es ≡ front ++ x.event ∷ [])
+pub last_event : (es : List Entry) (x : Entry) → slice_get es (length es - 1) ≡ Some x → (front : List Event) ×
+    (events es ≡ front ++ x.event ∷ [])
 last_event es x e =
     let r = ends_with es x e in
     (events r.0, ap events r.1 ∙ map-append (λ (y : Entry). y.event) r.0 (x ∷ []))

@@ -19,7 +19,8 @@ abbrev one : List Link → Sides → OwnLinks
 one links s = record { before = take s.before links; after = take s.after (drop s.before links) }
 
 -- the first event's links are the same where more come behind
-one-append : (s : Sides) (links more : List Link) → s.before + s.after ≤ length links → one (links ++ more) s ≡ one links s
+one-append : (s : Sides) (links more : List Link) → s.before + s.after ≤ length links →
+    one (links ++ more) s ≡ one links s
 one-append s links more few = λ i. record { before = front i; after = back i }
   where
     front : take s.before (links ++ more) ≡ take s.before links

@@ -1,5 +1,6 @@
 -- Entries and links side by side.
-use Rattle.std.proofs.Common.{◌≡◌, List, [], ◌∷◌, ◌++◌, length, Option, Some, None, IsSome, ◌<◌, ◌≢◌, ◌⊎◌, inl, inr, refl, sym, ap, ◌∙◌, arith, length-append}
+use Rattle.std.proofs.Common.{◌≡◌, List, [], ◌∷◌, ◌++◌, length, Option, Some, None, IsSome, ◌<◌, ◌≢◌, ◌⊎◌}
+use Rattle.std.proofs.Common.{inl, inr, refl, sym, ap, ◌∙◌, arith, length-append}
 use Rattle.std.proofs.lemmas.Bool.{false≢true}
 use Rattle.std.specs.Option.{option_to_list}
 use Rattle.rv_event.proofs.Pushed.{split_push}
@@ -12,10 +13,12 @@ abbrev pub kept_one : Event → OwnLinks → Kept
 kept_one e own = record { event = e; before = own.before; after = own.after }
 
 -- as many links as events: the events are all there
-pub happened-kept_from : (xs : List Event) (ls : List OwnLinks) → length xs ≡ length ls → happened (kept_from xs ls) ≡ xs
+pub happened-kept_from : (xs : List Event) (ls : List OwnLinks) → length xs ≡ length ls →
+    happened (kept_from xs ls) ≡ xs
 happened-kept_from [] ls same = refl
 happened-kept_from (x ∷ xs) [] same = absurd (omega (arith, same))
-happened-kept_from (x ∷ xs) (l ∷ ls) same = ap (λ (es : List Event). x ∷ es) (happened-kept_from xs ls (omega (arith, same)))
+happened-kept_from (x ∷ xs) (l ∷ ls) same =
+    ap (λ (es : List Event). x ∷ es) (happened-kept_from xs ls (omega (arith, same)))
 
 pub kept_from-push :
     (xs : List Event) (ls : List OwnLinks) (x : Event) (l : OwnLinks) → length xs ≡ length ls →
@@ -41,13 +44,16 @@ pub popped_sides :
     xs ≡ ys ++ option_to_list o → ls ≡ ms ++ option_to_list p → kept_from xs ls ≢ [] →
     (0 < length xs → IsSome o) → (0 < length ls → IsSome p) → Popped xs ys ls ms
 popped_sides xs ys ls ms None p same e f some there there' = absurd (false≢true (there (some_entries xs ls some)))
-popped_sides xs ys ls ms (Some x) None same e f some there there' = absurd (false≢true (there' (omega (arith, same, some_entries xs ls some))))
+popped_sides xs ys ls ms (Some x) None same e f some there there' =
+    absurd (false≢true (there' (omega (arith, same, some_entries xs ls some))))
 popped_sides xs ys ls ms (Some x) (Some l) same e f some there there' =
-    let lengths : length ys ≡ length ms = omega (arith, same, ap length e, ap length f, length-append ys (x ∷ []), length-append ms (l ∷ [])) in
+    let lengths : length ys ≡ length ms =
+    omega (arith, same, ap length e, ap length f, length-append ys (x ∷ []), length-append ms (l ∷ [])) in
     record {
       lengths = lengths;
       last = kept_one x l;
-      cut = ap (λ (zs : List Event). kept_from zs ls) e ∙ ap (kept_from (ys ++ x ∷ [])) f ∙ kept_from-push ys ms x l lengths;
+      cut = ap (λ (zs : List Event). kept_from zs ls) e ∙ ap (kept_from (ys ++ x ∷ [])) f ∙
+          kept_from-push ys ms x l lengths;
     }
 
 -- lists with one more at the end are equal where their fronts are
@@ -56,8 +62,16 @@ same_front {X} xs ys x y e = go (split_push xs x ys [] y e)
   where
     go : ((xs ≡ ys) × (x ≡ y)) ⊎ ((rest : List X) × (xs ≡ ys ++ y ∷ rest)) → xs ≡ ys
     go (inl (s, t)) = s
-    go (inr (rest, s)) = absurd (omega (arith, ap length e, ap length s, length-append xs (x ∷ []), length-append ys (y ∷ []), length-append ys (y ∷ rest)))
+    go (inr (rest, s)) = absurd (omega (
+      arith,
+      ap length e,
+      ap length s,
+      length-append xs (x ∷ []),
+      length-append ys (y ∷ []),
+      length-append ys (y ∷ rest),
+    ))
 
 -- nothing at all is a history
-pub no_sides : (xs : List Event) (ls : List OwnLinks) → xs ≡ [] → ls ≡ [] → (length xs ≡ length ls) × (kept_from xs ls ≡ [])
+pub no_sides : (xs : List Event) (ls : List OwnLinks) → xs ≡ [] → ls ≡ [] → (length xs ≡ length ls) ×
+    (kept_from xs ls ≡ [])
 no_sides xs ls e f = (ap length e ∙ sym (ap length f), ap (λ (zs : List Event). kept_from zs ls) e)

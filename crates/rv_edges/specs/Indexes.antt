@@ -26,7 +26,8 @@ IsHartIn past h (Some x) = x ≡ hart_in past h
 IsHartIn past h None = of_hart h (happened past.kept) ≡ []
 
 -- events and links make a history, and each hart of the list has its events of them
-pub record AreIndexes (model : MemoryModel) (log : List Event) (harts : List Hart) (links : List OwnLinks) : Type 0 where
+pub record AreIndexes (model : MemoryModel) (log : List Event) (harts : List Hart)
+    (links : List OwnLinks) : Type 0 where
   pub lengths : length log ≡ length links
   pub history : IsHistory model (kept_from log links)
   pub own : (h : ℕ) → hart_of model harts h ≡ hart_from model log h

@@ -1,5 +1,6 @@
 //! Events, each kept with links to the events before it.
-ghost use Rattle.std.specs.Prelude.{◌≡◌, ◌≢◌, ◌↔◌, ◌++◌, ◌∷◌, [], None, IsTrue, IfOk, IfSome, IfNone, OnOk, OnErr, List, ℕ, ◌<◌, ◌≤◌, length, slice_get};
+ghost use Rattle.std.specs.Prelude.{◌≡◌, ◌≢◌, ◌↔◌, ◌++◌, ◌∷◌, [], None, IsTrue, IfOk, IfSome, IfNone, OnOk};
+ghost use Rattle.std.specs.Prelude.{OnErr, List, ℕ, ◌<◌, ◌≤◌, length, slice_get};
 ghost use Rattle.std.specs.List.{list_any};
 ghost use Rattle.rv_event.specs.Log.{events, named, of_hart, writer};
 ghost use Rattle.rv_event.specs.Preserved.{IsPreserved};
@@ -90,7 +91,8 @@ impl History {
     /// None exactly where no rule does. It takes no memory.
     pub fn preserved(&self, a: Id, b: Id) -> Option<u8>
         ensures some { IfSome result (λ k. IsPreserved self.now.model (happened self.now.kept) k a b) }
-        ensures lowest { IfSome result (λ k. (j : ℕ) → j < k → IsPreserved self.now.model (happened self.now.kept) j a b → ⊥) }
+        ensures lowest { IfSome result (λ k. (j : ℕ) → j < k →
+            IsPreserved self.now.model (happened self.now.kept) j a b → ⊥) }
         ensures none { IfNone result ((k : ℕ) → IsPreserved self.now.model (happened self.now.kept) k a b → ⊥) }
     {
         lowest_rule(self.model, self.entries(), a, b)
@@ -170,7 +172,8 @@ impl History {
     pub fn push(&mut self, event: &Event, around: &Around) -> Result<(), NoMemory>
         requires sound { event_fault (happened self.old.kept) event.now ≡ None }
         requires linked { IsLinked self.old.model self.old.kept (kept_of event.now around.now) }
-        ensures pushed { OnOk result (self.new ≡ record self.old { kept = self.old.kept ++ kept_of event.now around.now ∷ [] }) }
+        ensures pushed { OnOk result
+            (self.new ≡ record self.old { kept = self.old.kept ++ kept_of event.now around.now ∷ [] }) }
         ensures unchanged { OnErr result (self.new ≡ self.old) }
     {
         let returned = self.returned(event);
@@ -228,7 +231,8 @@ impl History {
     fn events_of(&self, number: u8) -> &[Event]
         ensures value { result.now ≡ of_hart number (happened self.now.kept) }
         ensures few { length result.now ≤ 4096 }
-        ensures named { (s : ℕ) → named (happened self.now.kept) (record { hart = number; seq = s }) ≡ slice_get result.now s }
+        ensures named { (s : ℕ) →
+            named (happened self.now.kept) (record { hart = number; seq = s }) ≡ slice_get result.now s }
     {
         match self.hart(number) {
             Some(hart) => hart.events(),

@@ -1,5 +1,6 @@
 -- A well formed log has at most sixteen full harts of events.
-use Rattle.std.proofs.Common.{◌≡◌, ℕ, zero, suc, ◌+◌, ◌*◌, ◌<◌, ◌≤◌, Bool, true, false, ◌==◌, cond, List, [], ◌∷◌, length, Contains, ◌⊎◌, inl, inr, refl, sym, ap, ◌∙◌, arith, eq-eqb}
+use Rattle.std.proofs.Common.{◌≡◌, ℕ, zero, suc, ◌+◌, ◌*◌, ◌<◌, ◌≤◌, Bool, true, false, ◌==◌, cond, List, []}
+use Rattle.std.proofs.Common.{◌∷◌, length, Contains, ◌⊎◌, inl, inr, refl, sym, ap, ◌∙◌, arith, eq-eqb}
 use Rattle.std.proofs.lemmas.Bool.{cases_eq, ne_eqb}
 use Rattle.std.proofs.lemmas.List.{length-map}
 use Rattle.rv_event.proofs.Names.{Contains-here, Contains-there}
@@ -14,7 +15,8 @@ count_below : ℕ → List Event → ℕ
 count_below zero log = 0
 count_below (suc n) log = count_below n log + length (of_hart n log)
 
-length-of_hart-cons : (hart : ℕ) (e : Event) (log : List Event) → length (of_hart hart (e ∷ log)) ≡ cond (hart == e.id.hart) 1 0 + length (of_hart hart log)
+length-of_hart-cons : (hart : ℕ) (e : Event) (log : List Event) → length (of_hart hart (e ∷ log)) ≡ cond
+    (hart == e.id.hart) 1 0 + length (of_hart hart log)
 length-of_hart-cons hart e log = go (hart == e.id.hart)
   where
     go : (b : Bool) → length (cond b (e ∷ of_hart hart log) (of_hart hart log)) ≡ cond b 1 0 + length (of_hart hart log)
@@ -32,33 +34,41 @@ unfolding count_below
 count_below-past zero e log l = refl
 count_below-past (suc n) e log l =
     let below = count_below-past n e log (omega arith) in
-    let here : length (of_hart n (e ∷ log)) ≡ length (of_hart n log) = length-of_hart-cons n e log ∙ ap (λ (b : Bool). cond b 1 0 + length (of_hart n log)) (ne_eqb n e.id.hart (λ (h : n ≡ e.id.hart). omega arith)) ∙ omega arith in
+    let here : length (of_hart n (e ∷ log)) ≡ length (of_hart n log) = length-of_hart-cons n e log ∙
+    ap (λ (b : Bool). cond b 1 0 + length (of_hart n log))
+    (ne_eqb n e.id.hart (λ (h : n ≡ e.id.hart). omega arith)) ∙ omega arith in
     omega arith
 
-count_below-cons : (n : ℕ) (e : Event) (log : List Event) → e.id.hart < n → count_below n (e ∷ log) ≡ count_below n log + 1
+count_below-cons : (n : ℕ) (e : Event) (log : List Event) → e.id.hart < n →
+    count_below n (e ∷ log) ≡ count_below n log + 1
 unfolding count_below
 count_below-cons zero e log l = absurd (omega arith)
 count_below-cons (suc n) e log l = go (cases_eq n e.id.hart) (λ m. count_below-cons n e log m)
   where
-    go : (n ≡ e.id.hart) ⊎ (n ≡ e.id.hart → ⊥) → (e.id.hart < n → count_below n (e ∷ log) ≡ count_below n log + 1) → count_below (suc n) (e ∷ log) ≡ count_below (suc n) log + 1
+    go : (n ≡ e.id.hart) ⊎ (n ≡ e.id.hart → ⊥) → (e.id.hart < n → count_below n (e ∷ log) ≡ count_below n log + 1) →
+        count_below (suc n) (e ∷ log) ≡ count_below (suc n) log + 1
     go (inl h) again =
         let past = count_below-past n e log (omega arith) in
-        let here : length (of_hart n (e ∷ log)) ≡ 1 + length (of_hart n log) = length-of_hart-cons n e log ∙ ap (λ (b : Bool). cond b 1 0 + length (of_hart n log)) (eq-eqb n e.id.hart h) in
+        let here : length (of_hart n (e ∷ log)) ≡ 1 + length (of_hart n log) = length-of_hart-cons n e log ∙
+        ap (λ (b : Bool). cond b 1 0 + length (of_hart n log)) (eq-eqb n e.id.hart h) in
         omega arith
     go (inr h) again =
         let low : e.id.hart < n = omega (arith, h) in
         let before = again low in
-        let here : length (of_hart n (e ∷ log)) ≡ length (of_hart n log) = length-of_hart-cons n e log ∙ ap (λ (b : Bool). cond b 1 0 + length (of_hart n log)) (ne_eqb n e.id.hart h) ∙ omega arith in
+        let here : length (of_hart n (e ∷ log)) ≡ length (of_hart n log) = length-of_hart-cons n e log ∙
+        ap (λ (b : Bool). cond b 1 0 + length (of_hart n log)) (ne_eqb n e.id.hart h) ∙ omega arith in
         omega arith
 
-count_below-all : (n : ℕ) (log : List Event) → ((e : Event) → Contains log e → e.id.hart < n) → length log ≡ count_below n log
+count_below-all : (n : ℕ) (log : List Event) → ((e : Event) → Contains log e → e.id.hart < n) →
+    length log ≡ count_below n log
 count_below-all n [] all = sym (count_below-nil n)
 count_below-all n (e ∷ log) all =
     let rest = count_below-all n log (λ a c. all a (Contains-there e log a c)) in
     let more = count_below-cons n e log (all e (Contains-here e log e refl)) in
     omega arith
 
-count_below-le : (n : ℕ) (log : List Event) → ((hart : ℕ) → length (of_hart hart log) ≤ 4096) → count_below n log ≤ 4096 * n
+count_below-le : (n : ℕ) (log : List Event) → ((hart : ℕ) → length (of_hart hart log) ≤ 4096) →
+    count_below n log ≤ 4096 * n
 unfolding count_below
 count_below-le zero log few = omega arith
 count_below-le (suc n) log few = omega (arith, few n, count_below-le n log few)
@@ -67,4 +77,8 @@ pub length-Indexed : (log : List Event) → Indexed log → length log ≤ 65536
 length-Indexed log known = omega (arith, count_below-all 16 log known.harts, count_below-le 16 log known.few)
 
 pub length-WellFormed : (log : List Entry) → WellFormed log → length log ≤ 65536
-length-WellFormed log ok = omega (arith, length-map log (λ (x : Entry). x.event), length-Indexed (events log) (indexed_from_WellFormed log ok))
+length-WellFormed log ok = omega (
+  arith,
+  length-map log (λ (x : Entry). x.event),
+  length-Indexed (events log) (indexed_from_WellFormed log ok),
+)

@@ -4,95 +4,135 @@ use Rattle.std.proofs.Common.{◌<◌, arith, ◌≡◌, ℕ, Bool, List, IsTrue
 use Rattle.rv_event.specs.Operations.{IsStore}
 use Rattle.rv_event.specs.Relations.{Paired, Fenced, DependsOn, ControlDependsOn}
 use Rattle.rv_event.specs.Annotations.{IsAcquire, IsRelease, IsRcsc}
-use Rattle.rv_event.specs.Preserved.{Condition, overlapping_store, different_reads, reads_atomic_write, fenced, after_acquire, before_release, both_rcsc, paired, address, data_of, control, reads_dependent_write, after_dependent_address, OverlappingStore, DifferentReads, ReadsAtomicWrite, ReadsDependentWrite, AfterDependentAddress}
+use Rattle.rv_event.specs.Preserved.{Condition, overlapping_store, different_reads, reads_atomic_write}
+use Rattle.rv_event.specs.Preserved.{fenced, after_acquire, before_release, both_rcsc, paired, address}
+use Rattle.rv_event.specs.Preserved.{data_of, control, reads_dependent_write, after_dependent_address}
+use Rattle.rv_event.specs.Preserved.{OverlappingStore, DifferentReads, ReadsAtomicWrite, ReadsDependentWrite}
+use Rattle.rv_event.specs.Preserved.{AfterDependentAddress}
 use Rattle.rv_event.specs.declared.event.Event.{Event}
 use Rattle.rv_event.specs.declared.event.DepKind.TheVariants.{Addr, DataOf}
 
 -- a test of what a rule says is a test of the rule's condition, at its number
-at_number : {C : Type 0} (model : MemoryModel) (log : List Event) (a b : Event) (n k : ℕ) (r : Bool) → k ≡ n → (C → Condition model log a b n) → (Condition model log a b n → C) → IsTrue r ↔ C → IsTrue r ↔ Condition model log a b k
-at_number model log a b n k r e into out test =
-    (λ t. subst (Condition model log a b) (sym e) (into (test.0 t)), λ h. test.1 (out (subst (Condition model log a b) e h)))
+at_number : {C : Type 0} (model : MemoryModel) (log : List Event) (a b : Event) (n k : ℕ) (r : Bool) → k ≡ n →
+    (C → Condition model log a b n) → (Condition model log a b n → C) → IsTrue r ↔ C → IsTrue r ↔
+    Condition model log a b k
+at_number model log a b n k r e into out test = (
+  λ t. subst (Condition model log a b) (sym e) (into (test.0 t)),
+  λ h. test.1 (out (subst (Condition model log a b) e h)),
+)
 
-overlapping_store_out : (model : MemoryModel) (log : List Event) (a b : Event) → Condition model log a b 1 → OverlappingStore a b
+overlapping_store_out : (model : MemoryModel) (log : List Event) (a b : Event) → Condition model log a b 1 →
+    OverlappingStore a b
 overlapping_store_out model log a b (overlapping_store h) = h
 
-pub overlapping_store_at : (model : MemoryModel) (log : List Event) (a b : Event) (k : ℕ) (r : Bool) → k ≡ 1 → IsTrue r ↔ OverlappingStore a b → IsTrue r ↔ Condition model log a b k
-overlapping_store_at model log a b k r e test = at_number model log a b 1 k r e overlapping_store (overlapping_store_out model log a b) test
+pub overlapping_store_at : (model : MemoryModel) (log : List Event) (a b : Event) (k : ℕ) (r : Bool) → k ≡ 1 →
+    IsTrue r ↔ OverlappingStore a b → IsTrue r ↔ Condition model log a b k
+overlapping_store_at model log a b k r e test = at_number model log a b 1 k r e overlapping_store
+    (overlapping_store_out model log a b) test
 
-different_reads_out : (model : MemoryModel) (log : List Event) (a b : Event) → Condition model log a b 2 → DifferentReads log a b
+different_reads_out : (model : MemoryModel) (log : List Event) (a b : Event) → Condition model log a b 2 →
+    DifferentReads log a b
 different_reads_out model log a b (different_reads h) = h
 
-pub different_reads_at : (model : MemoryModel) (log : List Event) (a b : Event) (k : ℕ) (r : Bool) → k ≡ 2 → IsTrue r ↔ DifferentReads log a b → IsTrue r ↔ Condition model log a b k
-different_reads_at model log a b k r e test = at_number model log a b 2 k r e different_reads (different_reads_out model log a b) test
+pub different_reads_at : (model : MemoryModel) (log : List Event) (a b : Event) (k : ℕ) (r : Bool) → k ≡ 2 → IsTrue r ↔
+    DifferentReads log a b → IsTrue r ↔ Condition model log a b k
+different_reads_at model log a b k r e test = at_number model log a b 2 k r e different_reads
+    (different_reads_out model log a b) test
 
-reads_atomic_write_out : (model : MemoryModel) (log : List Event) (a b : Event) → Condition model log a b 3 → ReadsAtomicWrite a b
+reads_atomic_write_out : (model : MemoryModel) (log : List Event) (a b : Event) → Condition model log a b 3 →
+    ReadsAtomicWrite a b
 reads_atomic_write_out model log a b (reads_atomic_write h) = h
 
-pub reads_atomic_write_at : (model : MemoryModel) (log : List Event) (a b : Event) (k : ℕ) (r : Bool) → k ≡ 3 → IsTrue r ↔ ReadsAtomicWrite a b → IsTrue r ↔ Condition model log a b k
-reads_atomic_write_at model log a b k r e test = at_number model log a b 3 k r e reads_atomic_write (reads_atomic_write_out model log a b) test
+pub reads_atomic_write_at : (model : MemoryModel) (log : List Event) (a b : Event) (k : ℕ) (r : Bool) → k ≡ 3 →
+    IsTrue r ↔ ReadsAtomicWrite a b → IsTrue r ↔ Condition model log a b k
+reads_atomic_write_at model log a b k r e test = at_number model log a b 3 k r e reads_atomic_write
+    (reads_atomic_write_out model log a b) test
 
 fenced_out : (model : MemoryModel) (log : List Event) (a b : Event) → Condition model log a b 4 → Fenced log a b
 fenced_out model log a b (fenced h) = h
 
-pub fenced_at : (model : MemoryModel) (log : List Event) (a b : Event) (k : ℕ) (r : Bool) → k ≡ 4 → IsTrue r ↔ Fenced log a b → IsTrue r ↔ Condition model log a b k
+pub fenced_at : (model : MemoryModel) (log : List Event) (a b : Event) (k : ℕ) (r : Bool) → k ≡ 4 → IsTrue r ↔
+    Fenced log a b → IsTrue r ↔ Condition model log a b k
 fenced_at model log a b k r e test = at_number model log a b 4 k r e fenced (fenced_out model log a b) test
 
-after_acquire_out : (model : MemoryModel) (log : List Event) (a b : Event) → Condition model log a b 5 → IsAcquire model a
+after_acquire_out : (model : MemoryModel) (log : List Event) (a b : Event) → Condition model log a b 5 →
+    IsAcquire model a
 after_acquire_out model log a b (after_acquire h) = h
 
-pub after_acquire_at : (model : MemoryModel) (log : List Event) (a b : Event) (k : ℕ) (r : Bool) → k ≡ 5 → IsTrue r ↔ IsAcquire model a → IsTrue r ↔ Condition model log a b k
-after_acquire_at model log a b k r e test = at_number model log a b 5 k r e after_acquire (after_acquire_out model log a b) test
+pub after_acquire_at : (model : MemoryModel) (log : List Event) (a b : Event) (k : ℕ) (r : Bool) → k ≡ 5 → IsTrue r ↔
+    IsAcquire model a → IsTrue r ↔ Condition model log a b k
+after_acquire_at model log a b k r e test = at_number model log a b 5 k r e after_acquire
+    (after_acquire_out model log a b) test
 
-before_release_out : (model : MemoryModel) (log : List Event) (a b : Event) → Condition model log a b 6 → IsRelease model b
+before_release_out : (model : MemoryModel) (log : List Event) (a b : Event) → Condition model log a b 6 →
+    IsRelease model b
 before_release_out model log a b (before_release h) = h
 
-pub before_release_at : (model : MemoryModel) (log : List Event) (a b : Event) (k : ℕ) (r : Bool) → k ≡ 6 → IsTrue r ↔ IsRelease model b → IsTrue r ↔ Condition model log a b k
-before_release_at model log a b k r e test = at_number model log a b 6 k r e before_release (before_release_out model log a b) test
+pub before_release_at : (model : MemoryModel) (log : List Event) (a b : Event) (k : ℕ) (r : Bool) → k ≡ 6 → IsTrue r ↔
+    IsRelease model b → IsTrue r ↔ Condition model log a b k
+before_release_at model log a b k r e test = at_number model log a b 6 k r e before_release
+    (before_release_out model log a b) test
 
-both_rcsc_out : (model : MemoryModel) (log : List Event) (a b : Event) → Condition model log a b 7 → IsRcsc model a × IsRcsc model b
+both_rcsc_out : (model : MemoryModel) (log : List Event) (a b : Event) → Condition model log a b 7 → IsRcsc model a ×
+    IsRcsc model b
 both_rcsc_out model log a b (both_rcsc g h) = (g, h)
 
-pub both_rcsc_at : (model : MemoryModel) (log : List Event) (a b : Event) (k : ℕ) (r : Bool) → k ≡ 7 → IsTrue r ↔ IsRcsc model a × IsRcsc model b → IsTrue r ↔ Condition model log a b k
-both_rcsc_at model log a b k r e test = at_number model log a b 7 k r e (λ c. both_rcsc c.0 c.1) (both_rcsc_out model log a b) test
+pub both_rcsc_at : (model : MemoryModel) (log : List Event) (a b : Event) (k : ℕ) (r : Bool) → k ≡ 7 → IsTrue r ↔
+    IsRcsc model a × IsRcsc model b → IsTrue r ↔ Condition model log a b k
+both_rcsc_at model log a b k r e test = at_number model log a b 7 k r e (λ c. both_rcsc c.0 c.1)
+    (both_rcsc_out model log a b) test
 
 paired_out : (model : MemoryModel) (log : List Event) (a b : Event) → Condition model log a b 8 → Paired log a b
 paired_out model log a b (paired h) = h
 
-pub paired_at : (model : MemoryModel) (log : List Event) (a b : Event) (k : ℕ) (r : Bool) → k ≡ 8 → IsTrue r ↔ Paired log a b → IsTrue r ↔ Condition model log a b k
+pub paired_at : (model : MemoryModel) (log : List Event) (a b : Event) (k : ℕ) (r : Bool) → k ≡ 8 → IsTrue r ↔
+    Paired log a b → IsTrue r ↔ Condition model log a b k
 paired_at model log a b k r e test = at_number model log a b 8 k r e paired (paired_out model log a b) test
 
 address_out : (model : MemoryModel) (log : List Event) (a b : Event) → Condition model log a b 9 → DependsOn Addr b a
 address_out model log a b (address h) = h
 
-pub address_at : (model : MemoryModel) (log : List Event) (a b : Event) (k : ℕ) (r : Bool) → k ≡ 9 → IsTrue r ↔ DependsOn Addr b a → IsTrue r ↔ Condition model log a b k
+pub address_at : (model : MemoryModel) (log : List Event) (a b : Event) (k : ℕ) (r : Bool) → k ≡ 9 → IsTrue r ↔
+    DependsOn Addr b a → IsTrue r ↔ Condition model log a b k
 address_at model log a b k r e test = at_number model log a b 9 k r e address (address_out model log a b) test
 
 data_of_out : (model : MemoryModel) (log : List Event) (a b : Event) → Condition model log a b 10 → DependsOn DataOf b a
 data_of_out model log a b (data_of h) = h
 
-pub data_of_at : (model : MemoryModel) (log : List Event) (a b : Event) (k : ℕ) (r : Bool) → k ≡ 10 → IsTrue r ↔ DependsOn DataOf b a → IsTrue r ↔ Condition model log a b k
+pub data_of_at : (model : MemoryModel) (log : List Event) (a b : Event) (k : ℕ) (r : Bool) → k ≡ 10 → IsTrue r ↔
+    DependsOn DataOf b a → IsTrue r ↔ Condition model log a b k
 data_of_at model log a b k r e test = at_number model log a b 10 k r e data_of (data_of_out model log a b) test
 
-control_out : (model : MemoryModel) (log : List Event) (a b : Event) → Condition model log a b 11 → IsStore b × ControlDependsOn log b a
+control_out : (model : MemoryModel) (log : List Event) (a b : Event) → Condition model log a b 11 → IsStore b ×
+    ControlDependsOn log b a
 control_out model log a b (control g h) = (g, h)
 
-pub control_at : (model : MemoryModel) (log : List Event) (a b : Event) (k : ℕ) (r : Bool) → k ≡ 11 → IsTrue r ↔ IsStore b × ControlDependsOn log b a → IsTrue r ↔ Condition model log a b k
-control_at model log a b k r e test = at_number model log a b 11 k r e (λ c. control c.0 c.1) (control_out model log a b) test
+pub control_at : (model : MemoryModel) (log : List Event) (a b : Event) (k : ℕ) (r : Bool) → k ≡ 11 → IsTrue r ↔
+    IsStore b × ControlDependsOn log b a → IsTrue r ↔ Condition model log a b k
+control_at model log a b k r e test = at_number model log a b 11 k r e (λ c. control c.0 c.1)
+    (control_out model log a b) test
 
-reads_dependent_write_out : (model : MemoryModel) (log : List Event) (a b : Event) → Condition model log a b 12 → ReadsDependentWrite log a b
+reads_dependent_write_out : (model : MemoryModel) (log : List Event) (a b : Event) → Condition model log a b 12 →
+    ReadsDependentWrite log a b
 reads_dependent_write_out model log a b (reads_dependent_write h) = h
 
-pub reads_dependent_write_at : (model : MemoryModel) (log : List Event) (a b : Event) (k : ℕ) (r : Bool) → k ≡ 12 → IsTrue r ↔ ReadsDependentWrite log a b → IsTrue r ↔ Condition model log a b k
-reads_dependent_write_at model log a b k r e test = at_number model log a b 12 k r e reads_dependent_write (reads_dependent_write_out model log a b) test
+pub reads_dependent_write_at : (model : MemoryModel) (log : List Event) (a b : Event) (k : ℕ) (r : Bool) → k ≡ 12 →
+    IsTrue r ↔ ReadsDependentWrite log a b → IsTrue r ↔ Condition model log a b k
+reads_dependent_write_at model log a b k r e test = at_number model log a b 12 k r e reads_dependent_write
+    (reads_dependent_write_out model log a b) test
 
-after_dependent_address_out : (model : MemoryModel) (log : List Event) (a b : Event) → Condition model log a b 13 → AfterDependentAddress log a b
+after_dependent_address_out : (model : MemoryModel) (log : List Event) (a b : Event) → Condition model log a b 13 →
+    AfterDependentAddress log a b
 after_dependent_address_out model log a b (after_dependent_address h) = h
 
-pub after_dependent_address_at : (model : MemoryModel) (log : List Event) (a b : Event) (k : ℕ) (r : Bool) → k ≡ 13 → IsTrue r ↔ AfterDependentAddress log a b → IsTrue r ↔ Condition model log a b k
-after_dependent_address_at model log a b k r e test = at_number model log a b 13 k r e after_dependent_address (after_dependent_address_out model log a b) test
+pub after_dependent_address_at : (model : MemoryModel) (log : List Event) (a b : Event) (k : ℕ) (r : Bool) → k ≡ 13 →
+    IsTrue r ↔ AfterDependentAddress log a b → IsTrue r ↔ Condition model log a b k
+after_dependent_address_at model log a b k r e test = at_number model log a b 13 k r e after_dependent_address
+    (after_dependent_address_out model log a b) test
 
 -- there are thirteen rules
-pub Condition-number : (model : MemoryModel) (log : List Event) (a b : Event) (k : ℕ) → Condition model log a b k → k < 14
+pub Condition-number : (model : MemoryModel) (log : List Event) (a b : Event) (k : ℕ) →
+    Condition model log a b k → k < 14
 Condition-number model log a b k (overlapping_store h) = omega arith
 Condition-number model log a b k (different_reads h) = omega arith
 Condition-number model log a b k (reads_atomic_write h) = omega arith

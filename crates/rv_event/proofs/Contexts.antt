@@ -10,13 +10,17 @@ use Rattle.rv_event.specs.declared.event.Event.{Event}
 use Rattle.rv_event.specs.declared.fault.Fault.{Fault}
 use Rattle.rv_event.specs.declared.fault.Fault.TheVariants.{VersionTaken}
 
-named_twice : (o : Option Event) → option_map VersionTaken (option_map (λ (w : Event). w.id) o) ≡ option_map (λ (w : Event). VersionTaken w.id) o
+named_twice : (o : Option Event) → option_map VersionTaken (option_map (λ (w : Event). w.id) o) ≡ option_map
+    (λ (w : Event). VersionTaken w.id) o
 named_twice None = refl
 named_twice (Some w) = refl
 
-taken-in : (log : List Event) (e : Event) (context : Context) → IsContext log e context → taken_in context.writer e ≡ taken_fault log e
+taken-in : (log : List Event) (e : Event) (context : Context) → IsContext log e context →
+    taken_in context.writer e ≡ taken_fault log e
 taken-in log e context is =
-    ap (λ (o : Option Fault). cond (is_store e.op) o None) (ap (option_map VersionTaken) is.writer ∙ named_twice (writer log e.word e.wrote))
+    ap (λ (o : Option Fault). cond (is_store e.op) o None) (ap (option_map VersionTaken) is.writer ∙
+    named_twice (writer log e.word e.wrote))
 
-pub faults-in : (log : List Event) (e : Event) (context : Context) → IsContext log e context → faults_in context e ≡ first_faults log e
+pub faults-in : (log : List Event) (e : Event) (context : Context) → IsContext log e context →
+    faults_in context e ≡ first_faults log e
 faults-in log e context is = rw (taken-in log e context is, is.count, is.depends_badly, is.reserved)

@@ -1,6 +1,8 @@
 -- What stays when a log grows: names, what stands between two old events, writers, rules and edges.
 use Rattle.rv_event.specs.declared.memory_model.MemoryModel.{MemoryModel}
-use Rattle.std.proofs.Common.{◌≡◌, ℕ, ◌<◌, Bool, true, false, ◌==◌, cond, List, [], ◌∷◌, ◌++◌, map, length, filter, Contains, All, Any, find, Some, refl, sym, ap, ◌∙◌, arith, subst, slice_index_or, IsFalse, IsTrue, ◌≢◌}
+use Rattle.std.proofs.Common.{◌≡◌, ℕ, ◌<◌, Bool, true, false, ◌==◌, cond, List, [], ◌∷◌, ◌++◌, map, length}
+use Rattle.std.proofs.Common.{filter, Contains, All, Any, find, Some, refl, sym, ap, ◌∙◌, arith, subst}
+use Rattle.std.proofs.Common.{slice_index_or, IsFalse, IsTrue, ◌≢◌}
 use Rattle.std.proofs.lemmas.Bool.{and_parts, false≢true}
 use Rattle.std.proofs.lemmas.Option.{same_Some}
 use Rattle.std.proofs.lemmas.List.{map-append}
@@ -10,31 +12,38 @@ use Rattle.rv_event.proofs.Indexed.{Indexed, find-append_some}
 use Rattle.rv_event.specs.Operations.{IsStore, is_exclusive}
 use Rattle.rv_event.specs.Log.{same_id, named, of_hart, writer, events, Earlier, Between}
 use Rattle.rv_event.specs.Relations.{Paired, fence_orders}
-use Rattle.rv_event.specs.Preserved.{Condition, overlapping_store, different_reads, reads_atomic_write, fenced, after_acquire, before_release, both_rcsc, paired, address, data_of, control, reads_dependent_write, after_dependent_address, Rule}
+use Rattle.rv_event.specs.Preserved.{Condition, overlapping_store, different_reads, reads_atomic_write}
+use Rattle.rv_event.specs.Preserved.{fenced, after_acquire, before_release, both_rcsc, paired, address}
+use Rattle.rv_event.specs.Preserved.{data_of, control, reads_dependent_write, after_dependent_address, Rule}
 use Rattle.rv_event.specs.Edges.{HasReason, IsEdge, IsStale}
 use Rattle.rv_event.specs.WellFormed.{entries_of, Continues}
 use Rattle.rv_event.specs.declared.event.Id.{Id}
 use Rattle.rv_event.specs.declared.event.Event.{Event}
 use Rattle.rv_event.specs.declared.event.Entry.{Entry}
 use Rattle.rv_event.specs.declared.reason.Reason.{Reason}
-use Rattle.rv_event.specs.declared.reason.Reason.TheVariants.{Preserved, Coherence, ReadsFrom, FromRead, AtomicIn, AtomicOut}
+use Rattle.rv_event.specs.declared.reason.Reason.TheVariants.{Preserved, Coherence, ReadsFrom, FromRead}
+use Rattle.rv_event.specs.declared.reason.Reason.TheVariants.{AtomicIn, AtomicOut}
 
 -- a search looks only where its test can pass
-pub find-filter : {X : Type 0} (p q : X → Bool) → ((x : X) → p x ≡ true → q x ≡ true) → (xs : List X) → find p xs ≡ find p (filter q xs)
+pub find-filter : {X : Type 0} (p q : X → Bool) → ((x : X) → p x ≡ true → q x ≡ true) → (xs : List X) →
+    find p xs ≡ find p (filter q xs)
 find-filter p q only [] = refl
 find-filter {X} p q only (x ∷ xs) = go (p x) refl (q x) refl (find-filter p q only xs)
   where
-    go : (b : Bool) → p x ≡ b → (d : Bool) → q x ≡ d → find p xs ≡ find p (filter q xs) → cond b (Some x) (find p xs) ≡ find p (cond d (x ∷ filter q xs) (filter q xs))
+    go : (b : Bool) → p x ≡ b → (d : Bool) → q x ≡ d → find p xs ≡ find p (filter q xs) →
+        cond b (Some x) (find p xs) ≡ find p (cond d (x ∷ filter q xs) (filter q xs))
     go true f true g again = rw f
     go true f false g again = absurd (false≢true (sym g ∙ only x f))
     go false f true g again = rw f again
     go false f false g again = again
 
-pub filter-map : {X Y : Type 0} (f : X → Y) (p : Y → Bool) (xs : List X) → filter p (map f xs) ≡ map f (filter (λ x. p (f x)) xs)
+pub filter-map : {X Y : Type 0} (f : X → Y) (p : Y → Bool) (xs : List X) →
+    filter p (map f xs) ≡ map f (filter (λ x. p (f x)) xs)
 filter-map f p [] = refl
 filter-map {X} {Y} f p (x ∷ xs) = go (p (f x)) (filter-map f p xs)
   where
-    go : (b : Bool) → filter p (map f xs) ≡ map f (filter (λ y. p (f y)) xs) → cond b (f x ∷ filter p (map f xs)) (filter p (map f xs)) ≡ map f (cond b (x ∷ filter (λ y. p (f y)) xs) (filter (λ y. p (f y)) xs))
+    go : (b : Bool) → filter p (map f xs) ≡ map f (filter (λ y. p (f y)) xs) → cond b (f x ∷ filter p (map f xs))
+        (filter p (map f xs)) ≡ map f (cond b (x ∷ filter (λ y. p (f y)) xs) (filter (λ y. p (f y)) xs))
     go true again = ap (λ (ys : List Y). f x ∷ ys) again
     go false again = again
 
@@ -46,17 +55,24 @@ pub grows_from_Continues : (old new : List Entry) → Continues old new → Grow
 grows_from_Continues old new continues hart =
     let event : Entry → Event = λ x. x.event in
     let p : Event → Bool = λ e. hart == e.id.hart in
-    let c = continues hart in
-    (events c.0, filter-map event p new ∙ ap (map event) c.1 ∙ map-append event (entries_of hart old) c.0 ∙ ap (λ (ys : List Event). ys ++ events c.0) (sym (filter-map event p old)))
+    let c = continues hart in (
+      events c.0,
+      filter-map event p new ∙ ap (map event) c.1 ∙ map-append event (entries_of hart old) c.0 ∙
+          ap (λ (ys : List Event). ys ++ events c.0) (sym (filter-map event p old)),
+    )
 
-pub named-of_hart : (log : List Event) (i : Id) → named log i ≡ find (λ (e : Event). same_id i e.id) (of_hart i.hart log)
-named-of_hart log i = find-filter (λ (e : Event). same_id i e.id) (λ (e : Event). i.hart == e.id.hart) (λ e t. (and_parts (i.hart == e.id.hart) (i.seq == e.id.seq) t).0) log
+pub named-of_hart : (log : List Event) (i : Id) → named log i ≡ find (λ (e : Event). same_id i e.id)
+    (of_hart i.hart log)
+named-of_hart log i = find-filter (λ (e : Event). same_id i e.id) (λ (e : Event). i.hart == e.id.hart)
+    (λ e t. (and_parts (i.hart == e.id.hart) (i.seq == e.id.seq) t).0) log
 
-pub named-grows : (old new : List Event) → Grows old new → (i : Id) (e : Event) → named old i ≡ Some e → named new i ≡ Some e
+pub named-grows : (old new : List Event) → Grows old new → (i : Id) (e : Event) → named old i ≡ Some e →
+    named new i ≡ Some e
 named-grows old new grows i e is =
     let g = grows i.hart in
     let p : Event → Bool = λ (x : Event). same_id i x.id in
-    named-of_hart new i ∙ ap (find p) g.1 ∙ find-append_some p (of_hart i.hart old) g.0 e (sym (named-of_hart old i) ∙ is)
+    named-of_hart new i ∙ ap (find p) g.1 ∙ find-append_some p (of_hart i.hart old) g.0 e
+    (sym (named-of_hart old i) ∙ is)
 
 pub Any-contains : {X : Type 0} (P : X → Type 0) (xs : List X) → Any P xs → (x : X) × Contains xs x × P x
 Any-contains P xs (k, x, l, e, p) = (x, (k, l, e), p)
@@ -67,7 +83,8 @@ Any-from_contains P xs x (k, l, e) p = (k, x, l, e, p)
 pub All-from_contains : {X : Type 0} (P : X → Type 0) (xs : List X) → ((x : X) → Contains xs x → P x) → All P xs
 All-from_contains P xs each k d l = each (slice_index_or xs k d) (Contains-get_or xs k d l)
 
-module _ (model : MemoryModel) (old new : List Event) (grows : Grows old new) (known : Indexed old) (known' : Indexed new) where
+module _ (model : MemoryModel) (old new : List Event) (grows : Grows old new) (known : Indexed old)
+    (known' : Indexed new) where
   pub Contains-grows : (e : Event) → Contains old e → Contains new e
   Contains-grows e c = (named-is new e.id e (named-grows old new grows e.id e (known.own e c))).0
 
@@ -81,7 +98,8 @@ module _ (model : MemoryModel) (old new : List Event) (grows : Grows old new) (k
       let same : f.0 ≡ m = same_Some f.0 m (sym (named-grows old new grows m.id f.0 f.1) ∙ known'.own m cm) in
       subst (Contains old) same (named-is old m.id f.0 f.1).0
 
-  pub writer-grows : (word version : ℕ) (w : Event) → writer old word version ≡ Some w → writer new word version ≡ Some w
+  pub writer-grows : (word version : ℕ) (w : Event) → writer old word version ≡ Some w →
+      writer new word version ≡ Some w
   writer-grows word version w e =
       let is = writer-is old word version w e in
       let new_is : writer new w.word w.wrote ≡ Some w = known'.written w (Contains-grows w is.of_log) is.store in
@@ -91,16 +109,31 @@ module _ (model : MemoryModel) (old new : List Event) (grows : Grows old new) (k
   Any-grows P any = let a = Any-contains P old any in Any-from_contains P new a.0 (Contains-grows a.0 a.1) a.2
 
   -- what holds of each old event between two old ones holds of each new one
-  All-grows : (a b : Event) → Contains old b → (P : Event → Type 0) → All (λ m. Between a m b → P m) old → All (λ m. Between a m b → P m) new
+  All-grows : (a b : Event) → Contains old b → (P : Event → Type 0) → All (λ m. Between a m b → P m) old →
+      All (λ m. Between a m b → P m) new
   All-grows a b cb P all =
-      All-from_contains (λ m. Between a m b → P m) new (λ m cm between. All-contains (λ m. Between a m b → P m) old m all (earlier_old m b cb cm between.before) between)
+      All-from_contains (λ m. Between a m b → P m) new
+      (λ m cm between. All-contains (λ m. Between a m b → P m) old m all
+      (earlier_old m b cb cm between.before) between)
 
   pub Paired-grows : (lr sc : Event) → Contains old sc → Paired old lr sc → Paired new lr sc
-  Paired-grows lr sc c p = record { is_lr = p.is_lr; is_sc = p.is_sc; earlier = p.earlier; none_between = All-grows lr sc c (λ m. IsFalse (is_exclusive m.op)) p.none_between }
+  Paired-grows lr sc c p = record {
+    is_lr = p.is_lr;
+    is_sc = p.is_sc;
+    earlier = p.earlier;
+    none_between = All-grows lr sc c (λ m. IsFalse (is_exclusive m.op)) p.none_between;
+  }
 
   Condition-grows : (a b : Event) → Contains old b → (k : ℕ) → Condition model old a b k → Condition model new a b k
   Condition-grows a b cb k (overlapping_store h) = overlapping_store h
-  Condition-grows a b cb k (different_reads h) = different_reads (record { first = h.first; second = h.second; word = h.word; versions = h.versions; none_between = All-grows a b cb (λ m. IsStore m → m.word ≢ a.word) h.none_between })
+  Condition-grows a b cb k (different_reads h) =
+      different_reads (record {
+        first = h.first;
+        second = h.second;
+        word = h.word;
+        versions = h.versions;
+        none_between = All-grows a b cb (λ m. IsStore m → m.word ≢ a.word) h.none_between;
+      })
   Condition-grows a b cb k (reads_atomic_write h) = reads_atomic_write h
   Condition-grows a b cb k (fenced h) = fenced (Any-grows (λ f. Between a f b × IsTrue (fence_orders f.op a.op b.op)) h)
   Condition-grows a b cb k (after_acquire h) = after_acquire h
@@ -110,19 +143,44 @@ module _ (model : MemoryModel) (old new : List Event) (grows : Grows old new) (k
   Condition-grows a b cb k (address h) = address h
   Condition-grows a b cb k (data_of h) = data_of h
   Condition-grows a b cb k (control s h) = control s (Any-grows _ h)
-  Condition-grows a b cb k (reads_dependent_write h) = reads_dependent_write (record { load = h.load; through = Any-grows _ h.through })
-  Condition-grows a b cb k (after_dependent_address h) = after_dependent_address (record { store = h.store; through = Any-grows _ h.through })
+  Condition-grows a b cb k (reads_dependent_write h) =
+      reads_dependent_write (record { load = h.load; through = Any-grows _ h.through })
+  Condition-grows a b cb k (after_dependent_address h) =
+      after_dependent_address (record { store = h.store; through = Any-grows _ h.through })
 
   pub Rule-grows : (k : ℕ) (a b : Event) → Rule model old k a b → Rule model new k a b
-  Rule-grows k a b h = record { from = Contains-grows a h.from; to = Contains-grows b h.to; from_memory = h.from_memory; to_memory = h.to_memory; earlier = h.earlier; condition = Condition-grows a b h.to k h.condition }
+  Rule-grows k a b h = record {
+    from = Contains-grows a h.from;
+    to = Contains-grows b h.to;
+    from_memory = h.from_memory;
+    to_memory = h.to_memory;
+    earlier = h.earlier;
+    condition = Condition-grows a b h.to k h.condition;
+  }
 
-  HasReason-grows : (a b : Event) → Contains old a → Contains old b → (reason : Reason) → HasReason model old reason a b → HasReason model new reason a b
+  HasReason-grows : (a b : Event) → Contains old a → Contains old b → (reason : Reason) →
+      HasReason model old reason a b → HasReason model new reason a b
   HasReason-grows a b ca cb (Preserved k) h = Rule-grows k a b h
   HasReason-grows a b ca cb Coherence h = h
-  HasReason-grows a b ca cb ReadsFrom h = record { load = h.load; is_writer = writer-grows b.word b.read a h.is_writer; not_earlier = h.not_earlier }
+  HasReason-grows a b ca cb ReadsFrom h =
+      record { load = h.load; is_writer = writer-grows b.word b.read a h.is_writer; not_earlier = h.not_earlier }
   HasReason-grows a b ca cb FromRead h = h
-  HasReason-grows a b ca cb AtomicIn h = record { lr = h.lr; of_log = Contains-grows h.lr h.of_log; paired = Paired-grows h.lr b cb h.paired; is_writer = writer-grows h.lr.word h.lr.read a h.is_writer }
-  HasReason-grows a b ca cb AtomicOut h = record { lr = h.lr; of_log = Contains-grows h.lr h.of_log; paired = Paired-grows h.lr a ca h.paired; store = h.store; word = h.word; other_hart = h.other_hart; versions = h.versions }
+  HasReason-grows a b ca cb AtomicIn h = record {
+    lr = h.lr;
+    of_log = Contains-grows h.lr h.of_log;
+    paired = Paired-grows h.lr b cb h.paired;
+    is_writer = writer-grows h.lr.word h.lr.read a h.is_writer;
+  }
+  HasReason-grows a b ca cb AtomicOut h =
+      record {
+        lr = h.lr;
+        of_log = Contains-grows h.lr h.of_log;
+        paired = Paired-grows h.lr a ca h.paired;
+        store = h.store;
+        word = h.word;
+        other_hart = h.other_hart;
+        versions = h.versions;
+      }
 
   pub IsEdge-grows : (i j : Id) (reason : Reason) → IsEdge model old i reason j → IsEdge model new i reason j
   IsEdge-grows i j reason e = record {

@@ -1,5 +1,9 @@
--- In a well formed log each event is the one that its id names, a hart's numbers have no gap, and each store is the writer of its version.
-use Rattle.std.proofs.Common.{ltb, leb, ◌≡◌, ℕ, ◌+◌, ◌<◌, ◌≤◌, Bool, true, false, not, ◌&&◌, ◌==◌, cond, List, [], ◌∷◌, ◌++◌, length, filter, Contains, find, Option, Some, None, ◌⊎◌, inl, inr, refl, sym, ap, ◌∙◌, arith, eqb-true, eq-eqb, length-append, append_assoc, append-nil, subst, option_map}
+-- In a well formed log each event is the one that its id names, a hart's numbers have no gap, and each store is the
+-- writer of its version.
+use Rattle.std.proofs.Common.{ltb, leb, ◌≡◌, ℕ, ◌+◌, ◌<◌, ◌≤◌, Bool, true, false, not, ◌&&◌, ◌==◌, cond, List}
+use Rattle.std.proofs.Common.{[], ◌∷◌, ◌++◌, length, filter, Contains, find, Option, Some, None, ◌⊎◌, inl}
+use Rattle.std.proofs.Common.{inr, refl, sym, ap, ◌∙◌, arith, eqb-true, eq-eqb, length-append, append_assoc}
+use Rattle.std.proofs.Common.{append-nil, subst, option_map}
 use Rattle.std.proofs.lemmas.Bool.{and_from, not-false, cases_eq, cases_lt, ne_eqb, ltb-false, leb-false}
 use Rattle.std.proofs.lemmas.Option.{none-some}
 use Rattle.std.proofs.lemmas.List.Elements.{Contains-push_cases, filter-append}
@@ -7,7 +11,8 @@ use Rattle.std.proofs.lemmas.List.Folds.{find-append}
 use Rattle.rv_event.proofs.Names.{same_id-refl, named-is}
 use Rattle.rv_event.specs.Operations.{is_store, IsStore}
 use Rattle.rv_event.specs.Log.{same_id, named, of_hart, writer, events}
-use Rattle.rv_event.specs.Faults.{fault_if, lowest, expected, first_faults, source_fault, deps_fault, taken_fault, event_fault}
+use Rattle.rv_event.specs.Faults.{fault_if, lowest, expected, first_faults, source_fault, deps_fault}
+use Rattle.rv_event.specs.Faults.{taken_fault, event_fault}
 use Rattle.rv_event.specs.WellFormed.{WellFormed}
 use Rattle.rv_event.specs.declared.event.Id.{Id}
 use Rattle.rv_event.specs.declared.event.Event.{Event}
@@ -50,7 +55,8 @@ indexed-nil = record {
 }
 
 -- what was found stays found, and what was not is found in the rest
-pub find-append_some : {X : Type 0} (p : X → Bool) (xs ys : List X) (x : X) → find p xs ≡ Some x → find p (xs ++ ys) ≡ Some x
+pub find-append_some : {X : Type 0} (p : X → Bool) (xs ys : List X) (x : X) → find p xs ≡ Some x →
+    find p (xs ++ ys) ≡ Some x
 find-append_some p xs ys x e = rw (find-append p xs ys, e)
 
 pub find-append_none : {X : Type 0} (p : X → Bool) (xs ys : List X) → find p xs ≡ None → find p (xs ++ ys) ≡ find p ys
@@ -66,26 +72,35 @@ one-filtered {X} p x = go (p x)
     go true = refl
     go false = refl
 
-length-of_hart-push : (hart : ℕ) (log : List Event) (e : Event) → length (of_hart hart (log ++ e ∷ [])) ≡ length (of_hart hart log) + cond (hart == e.id.hart) 1 0
+length-of_hart-push : (hart : ℕ) (log : List Event) (e : Event) → length (of_hart hart (log ++ e ∷ [])) ≡ length
+    (of_hart hart log) + cond (hart == e.id.hart) 1 0
 length-of_hart-push hart log e =
     let p : Event → Bool = λ x. hart == x.id.hart in
-    ap length (filter-append p log (e ∷ [])) ∙ length-append (filter p log) (filter p (e ∷ [])) ∙ ap (λ n. length (filter p log) + n) (one-filtered p e)
+    ap length (filter-append p log (e ∷ [])) ∙ length-append (filter p log) (filter p (e ∷ [])) ∙
+    ap (λ n. length (filter p log) + n) (one-filtered p e)
 
 -- the count of a hart's events never falls, and grows at an event of the hart
-count-grows : (hart : ℕ) (log : List Event) (e : Event) → length (of_hart hart log) ≤ length (of_hart hart (log ++ e ∷ []))
+count-grows : (hart : ℕ) (log : List Event) (e : Event) → length (of_hart hart log) ≤ length
+    (of_hart hart (log ++ e ∷ []))
 count-grows hart log e = omega (arith, length-of_hart-push hart log e)
 
-count-own : (log : List Event) (e : Event) → length (of_hart e.id.hart (log ++ e ∷ [])) ≡ length (of_hart e.id.hart log) + 1
-count-own log e = length-of_hart-push e.id.hart log e ∙ ap (λ b. length (of_hart e.id.hart log) + cond b 1 0) (eq-eqb e.id.hart e.id.hart refl)
+count-own : (log : List Event) (e : Event) → length (of_hart e.id.hart (log ++ e ∷ [])) ≡ length
+    (of_hart e.id.hart log) + 1
+count-own log e = length-of_hart-push e.id.hart log e ∙ ap (λ b. length (of_hart e.id.hart log) + cond b 1 0)
+    (eq-eqb e.id.hart e.id.hart refl)
 
-count-other : (hart : ℕ) (log : List Event) (e : Event) → (hart ≡ e.id.hart → ⊥) → length (of_hart hart (log ++ e ∷ [])) ≡ length (of_hart hart log)
-count-other hart log e other = length-of_hart-push hart log e ∙ ap (λ b. length (of_hart hart log) + cond b 1 0) (ne_eqb hart e.id.hart other) ∙ omega arith
+count-other : (hart : ℕ) (log : List Event) (e : Event) → (hart ≡ e.id.hart → ⊥) →
+    length (of_hart hart (log ++ e ∷ [])) ≡ length (of_hart hart log)
+count-other hart log e other = length-of_hart-push hart log e ∙ ap (λ b. length (of_hart hart log) + cond b 1 0)
+    (ne_eqb hart e.id.hart other) ∙ omega arith
 
 -- a writer is sought only for a version above 0
-pub writer-above : (log : List Event) (word version : ℕ) → (version == 0) ≡ false → writer log word version ≡ find (λ e. is_store e.op && ((word == e.word) && (version == e.wrote))) log
+pub writer-above : (log : List Event) (word version : ℕ) → (version == 0) ≡ false → writer log word version ≡ find
+    (λ e. is_store e.op && ((word == e.word) && (version == e.wrote))) log
 writer-above log word version e = rw e
 
-writer-append : (log more : List Event) (word version : ℕ) (w : Event) → writer log word version ≡ Some w → writer (log ++ more) word version ≡ Some w
+writer-append : (log more : List Event) (word version : ℕ) (w : Event) → writer log word version ≡ Some w →
+    writer (log ++ more) word version ≡ Some w
 writer-append log more word version w e = go (version == 0) e
   where
     p : Event → Bool
@@ -115,7 +130,8 @@ module _ (log : List Event) (e : Event) (known : Indexed log) (sound : Sound log
 
   own_new : named (log ++ e ∷ []) e.id ≡ Some e
   own_new =
-      find-append_none (λ (x : Event). same_id e.id x.id) log (e ∷ []) new_name ∙ find-one (λ (x : Event). same_id e.id x.id) e (same_id-refl e.id)
+      find-append_none (λ (x : Event). same_id e.id x.id) log (e ∷ []) new_name ∙
+      find-one (λ (x : Event). same_id e.id x.id) e (same_id-refl e.id)
 
   own' : (a : Event) → Contains (log ++ e ∷ []) a → named (log ++ e ∷ []) a.id ≡ Some a
   own' a c = go (Contains-push_cases log e a c)
@@ -137,22 +153,27 @@ module _ (log : List Event) (e : Event) (known : Indexed log) (sound : Sound log
           let new : e.id.seq < length (of_hart e.id.hart (log ++ e ∷ [])) = omega (arith, count-own log e) in
           subst (λ (x : Event). x.id.seq < length (of_hart x.id.hart (log ++ e ∷ []))) is new
 
-  filled' : (i : Id) → i.seq < length (of_hart i.hart (log ++ e ∷ [])) → (a : Event) × (named (log ++ e ∷ []) i ≡ Some a)
+  filled' : (i : Id) → i.seq < length (of_hart i.hart (log ++ e ∷ [])) → (a : Event) ×
+      (named (log ++ e ∷ []) i ≡ Some a)
   filled' i l = go (cases_eq i.hart e.id.hart)
     where
       old : i.seq < length (of_hart i.hart log) → (a : Event) × (named (log ++ e ∷ []) i ≡ Some a)
-      old low = let f = known.filled i low in (f.0, find-append_some (λ (x : Event). same_id i x.id) log (e ∷ []) f.0 f.1)
+      old low = let f = known.filled i low in
+          (f.0, find-append_some (λ (x : Event). same_id i x.id) log (e ∷ []) f.0 f.1)
 
-      at_own : i.hart ≡ e.id.hart → (i.seq < length (of_hart i.hart log)) ⊎ (i.seq ≡ e.id.seq) → (a : Event) × (named (log ++ e ∷ []) i ≡ Some a)
+      at_own : i.hart ≡ e.id.hart → (i.seq < length (of_hart i.hart log)) ⊎ (i.seq ≡ e.id.seq) → (a : Event) ×
+          (named (log ++ e ∷ []) i ≡ Some a)
       at_own h (inl low) = old low
-      at_own h (inr same) = let is : e.id ≡ i = grind arith in (e, subst (λ (j : Id). named (log ++ e ∷ []) j ≡ Some e) is own_new)
+      at_own h (inr same) = let is : e.id ≡ i = grind arith in
+          (e, subst (λ (j : Id). named (log ++ e ∷ []) j ≡ Some e) is own_new)
 
       reached : i.hart ≡ e.id.hart → (i.seq < length (of_hart i.hart log)) ⊎ (i.seq ≡ e.id.seq)
       reached h =
           let at : e.id.seq ≡ length (of_hart e.id.hart log) = sound.seq in
           let l' : i.seq < length (of_hart e.id.hart (log ++ e ∷ [])) = rw h at l in
           let grown = count-own log e in
-          elim (cases_lt i.seq (length (of_hart e.id.hart log))) [ inl low ↦ inl (rw h low) | inr high ↦ inr (omega arith) ]
+          elim (cases_lt i.seq (length (of_hart e.id.hart log)))
+          [ inl low ↦ inl (rw h low) | inr high ↦ inr (omega arith) ]
 
       go : (i.hart ≡ e.id.hart) ⊎ (i.hart ≡ e.id.hart → ⊥) → (a : Event) × (named (log ++ e ∷ []) i ≡ Some a)
       go (inl h) = at_own h (reached h)
@@ -165,7 +186,8 @@ module _ (log : List Event) (e : Event) (known : Indexed log) (sound : Sound log
       new t =
           let p : Event → Bool = λ x. is_store x.op && ((e.word == x.word) && (e.wrote == x.wrote)) in
           let none : find p log ≡ None = sym (writer-above log e.word e.wrote (sound.positive t)) ∙ sound.fresh t in
-          writer-above (log ++ e ∷ []) e.word e.wrote (sound.positive t) ∙ find-append_none p log (e ∷ []) none ∙ find-one p e (wrote-own e t)
+          writer-above (log ++ e ∷ []) e.word e.wrote (sound.positive t) ∙ find-append_none p log (e ∷ []) none ∙
+          find-one p e (wrote-own e t)
 
       go : Contains log a ⊎ (e ≡ a) → writer (log ++ e ∷ []) a.word a.wrote ≡ Some a
       go (inl old) = writer-append log (e ∷ []) a.word a.wrote a (known.written a old s)
@@ -199,7 +221,8 @@ AllSound before (e ∷ rest) = Sound before e × AllSound (before ++ e ∷ []) r
 pub indexed-all : (before rest : List Event) → Indexed before → AllSound before rest → Indexed (before ++ rest)
 indexed-all before [] known all = rw append-nil known
 indexed-all before (e ∷ rest) known all =
-    let more : Indexed ((before ++ e ∷ []) ++ rest) = indexed-all (before ++ e ∷ []) rest (indexed-push before e known all.0) all.1 in
+    let more : Indexed ((before ++ e ∷ []) ++ rest) =
+    indexed-all (before ++ e ∷ []) rest (indexed-push before e known all.0) all.1 in
     subst Indexed (append_assoc before (e ∷ []) rest) more
 
 pub fault_if-none : (b : Bool) (f : Fault) → fault_if b f ≡ None → b ≡ false
@@ -237,11 +260,14 @@ not_taken log e none s = go (writer log e.word e.wrote) (rw s at none)
 not_zero : (e : Event) → (is_store e.op && (e.wrote == 0)) ≡ false → IsStore e → (e.wrote == 0) ≡ false
 not_zero e none s = rw s at none
 
-pub sound_from_none : (log : List Event) (e : Event) (more : List (Option Fault)) → lowest (first_faults log e ++ more) ≡ None → Sound log e
+pub sound_from_none : (log : List Event) (e : Event) (more : List (Option Fault)) →
+    lowest (first_faults log e ++ more) ≡ None → Sound log e
 sound_from_none log e more none =
     let each : NoneOf (first_faults log e ++ more) = lowest-none (first_faults log e ++ more) none in
     record {
-      seq = eqb-true e.id.seq (expected log e) (not-false (e.id.seq == expected log e) (fault_if-none (not (e.id.seq == expected log e)) (Sequence (expected log e)) each.1.0));
+      seq = eqb-true e.id.seq (expected log e)
+          (not-false (e.id.seq == expected log e)
+          (fault_if-none (not (e.id.seq == expected log e)) (Sequence (expected log e)) each.1.0));
       positive = λ s. not_zero e (fault_if-none (is_store e.op && (e.wrote == 0)) VersionZero each.1.1.1.0) s;
       fresh = λ s. not_taken log e each.1.1.1.1.0 s;
       hart = omega (arith, ltb-false 15 e.id.hart (fault_if-none (ltb 15 e.id.hart) Hart each.0));
@@ -252,11 +278,16 @@ sound_from_none log e more none =
 pub sound_of : (log : List Event) (e : Event) → event_fault log e ≡ None → Sound log e
 sound_of log e none = sound_from_none log e (deps_fault e ∷ []) none
 
-all_sound : (log before rest : List Entry) → WellFormed log → log ≡ before ++ rest → AllSound (events before) (events rest)
+all_sound : (log before rest : List Entry) → WellFormed log → log ≡ before ++ rest →
+    AllSound (events before) (events rest)
 all_sound log before [] ok e = tt
 all_sound log before (x ∷ rest) ok e =
-    let again : AllSound (events (before ++ x ∷ [])) (events rest) = all_sound log (before ++ x ∷ []) rest ok (e ∙ sym (append_assoc before (x ∷ []) rest)) in
-    (sound_from_none (events before) x.event (source_fault before x ∷ deps_fault x.event ∷ []) (ok before rest x e), subst (λ (seen : List Event). AllSound seen (events rest)) (map-append (λ (y : Entry). y.event) before (x ∷ [])) again)
+    let again : AllSound (events (before ++ x ∷ [])) (events rest) =
+    all_sound log (before ++ x ∷ []) rest ok (e ∙ sym (append_assoc before (x ∷ []) rest)) in (
+      sound_from_none (events before) x.event (source_fault before x ∷ deps_fault x.event ∷ []) (ok before rest x e),
+      subst (λ (seen : List Event). AllSound seen (events rest))
+          (map-append (λ (y : Entry). y.event) before (x ∷ [])) again,
+    )
 
 pub indexed_from_WellFormed : (log : List Entry) → WellFormed log → Indexed (events log)
 indexed_from_WellFormed log ok = indexed-all [] (events log) indexed-nil (all_sound log [] log ok refl)

@@ -2,7 +2,8 @@
 use Rattle.rv_event.specs.declared.memory_model.MemoryModel.{MemoryModel}
 use Rattle.std.proofs.Common.{◌≡◌, ℕ, List, [], Contains, Some, sym, ◌∙◌, append-nil}
 use Rattle.rv_event.proofs.Indexed.{Indexed, indexed_from_WellFormed}
-use Rattle.rv_event.proofs.Growing.{Grows, grows_from_Continues, named-grows, Contains-grows, Rule-grows, writer-grows, Paired-grows}
+use Rattle.rv_event.proofs.Growing.{Grows, grows_from_Continues, named-grows, Contains-grows, Rule-grows}
+use Rattle.rv_event.proofs.Growing.{writer-grows, Paired-grows}
 use Rattle.rv_event.specs.Log.{events, writer}
 use Rattle.rv_event.specs.Orders.{IsOperation, Candidate, Lawful}
 use Rattle.rv_event.specs.WellFormed.{WellFormed, Continues, entries_of}
@@ -14,12 +15,21 @@ use Rattle.rv_event.specs.declared.event.Entry.{Entry}
 Continues-same : (one other : List Entry) → SameHarts one other → Continues one other
 Continues-same one other same hart = ([], sym (same hart) ∙ sym (append-nil (entries_of hart one)))
 
-module _ (model : MemoryModel) (one two : List Event) (order : List Id) (there : Grows one two) (back : Grows two one) (known : Indexed one) (known' : Indexed two) (lawful : Lawful model one order) where
+module _ (model : MemoryModel) (one two : List Event) (order : List Id) (there : Grows one two) (back : Grows two one)
+    (known : Indexed one) (known' : Indexed two) (lawful : Lawful model one order) where
   operation-there : (i : Id) → IsOperation one i → IsOperation two i
-  operation-there i o = record { event = o.event; is_named = named-grows one two there i o.event o.is_named; is_memory = o.is_memory }
+  operation-there i o = record {
+    event = o.event;
+    is_named = named-grows one two there i o.event o.is_named;
+    is_memory = o.is_memory;
+  }
 
   operation-back : (i : Id) → IsOperation two i → IsOperation one i
-  operation-back i o = record { event = o.event; is_named = named-grows two one back i o.event o.is_named; is_memory = o.is_memory }
+  operation-back i o = record {
+    event = o.event;
+    is_named = named-grows two one back i o.event o.is_named;
+    is_memory = o.is_memory;
+  }
 
   event-there : (e : Event) → Contains one e → Contains two e
   event-there = Contains-grows model one two there known known'
@@ -28,24 +38,45 @@ module _ (model : MemoryModel) (one two : List Event) (order : List Id) (there :
   event-back = Contains-grows model two one back known' known
 
   candidate-there : (load store : Event) → Candidate one order load store → Candidate two order load store
-  candidate-there load store c = record { of_log = event-there store c.of_log; is_store = c.is_store; word = c.word; visible = c.visible }
+  candidate-there load store c = record {
+    of_log = event-there store c.of_log;
+    is_store = c.is_store;
+    word = c.word;
+    visible = c.visible;
+  }
 
   candidate-back : (load store : Event) → Candidate two order load store → Candidate one order load store
-  candidate-back load store c = record { of_log = event-back store c.of_log; is_store = c.is_store; word = c.word; visible = c.visible }
+  candidate-back load store c = record {
+    of_log = event-back store c.of_log;
+    is_store = c.is_store;
+    word = c.word;
+    visible = c.visible;
+  }
 
   writer-back : (word version : ℕ) (w : Event) → writer two word version ≡ Some w → writer one word version ≡ Some w
   writer-back = writer-grows model two one back known' known
 
   pub lawful-there : Lawful model two order
   lawful-there = record {
-    is_order = record { each = λ i o. lawful.is_order.each i (operation-back i o); nothing_else = λ i c. operation-there i (lawful.is_order.nothing_else i c); once = lawful.is_order.once };
+    is_order = record {
+      each = λ i o. lawful.is_order.each i (operation-back i o);
+      nothing_else = λ i c. operation-there i (lawful.is_order.nothing_else i c);
+      once = lawful.is_order.once;
+    };
     program_order = λ k a b r. lawful.program_order k a b (Rule-grows model two one back known' known k a b r);
-    write_order = λ a b ca cb sa sb word versions. lawful.write_order a b (event-back a ca) (event-back b cb) sa sb word versions;
-    load_values = λ load c l. let v = lawful.load_values load (event-back load c) l in record { none_newer = λ store k. v.none_newer store (candidate-back load store k); from_writer = λ store e. candidate-there load store (v.from_writer store (writer-back load.word load.read store e)) };
+    write_order = λ a b ca cb sa sb word versions. lawful.write_order a b (event-back a ca)
+        (event-back b cb) sa sb word versions;
+    load_values = λ load c l. let v = lawful.load_values load (event-back load c) l in
+        record {
+          none_newer = λ store k. v.none_newer store (candidate-back load store k);
+          from_writer = λ store e. candidate-there load store
+              (v.from_writer store (writer-back load.word load.read store e));
+        };
     atomicity = λ lr sc cl cs p. let a = lawful.atomicity lr sc (event-back lr cl) (event-back sc cs) (Paired-grows model two one back known' known lr sc cs p) in record { after_writer = λ store e. a.after_writer store (writer-back lr.word lr.read store e); before_others = λ store c s word other versions. a.before_others store (event-back store c) s word other versions };
   }
 
-pub Lawful-merge : (model : MemoryModel) (log other : List Entry) (order : List Id) → WellFormed log → WellFormed other → SameHarts log other → Lawful model (events log) order → Lawful model (events other) order
+pub Lawful-merge : (model : MemoryModel) (log other : List Entry) (order : List Id) → WellFormed log →
+    WellFormed other → SameHarts log other → Lawful model (events log) order → Lawful model (events other) order
 Lawful-merge model log other order ok ok' same lawful =
     lawful-there model (events log) (events other) order
     (grows_from_Continues log other (Continues-same log other same))

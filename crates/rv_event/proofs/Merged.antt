@@ -1,5 +1,8 @@
 -- A log is well formed whatever the order in which the harts' entries were merged.
-use Rattle.std.proofs.Common.{◌≡◌, ℕ, Bool, true, false, not, ltb, leb, ◌&&◌, ◌||◌, ◌==◌, cond, List, [], ◌∷◌, ◌++◌, length, filter, reverse, Contains, find, Option, Some, None, unwrap_or, option_map, ◌⊎◌, inl, inr, ⊎_elim, refl, sym, ap, ap₂, ◌∙◌, arith, subst, eq-eqb, eqb-true}
+use Rattle.std.proofs.Common.{◌≡◌, ℕ, Bool, true, false, not, ltb, leb, ◌&&◌, ◌||◌, ◌==◌, cond, List, [], ◌∷◌}
+use Rattle.std.proofs.Common.{◌++◌, length, filter, reverse, Contains, find, Option, Some, None, unwrap_or}
+use Rattle.std.proofs.Common.{option_map, ◌⊎◌, inl, inr, ⊎_elim, refl, sym, ap, ap₂, ◌∙◌, arith, subst}
+use Rattle.std.proofs.Common.{eq-eqb, eqb-true}
 use mathlib.Core.Path.{fun_ext}
 use Rattle.std.proofs.lemmas.List.{map-append}
 use Rattle.std.specs.List.{list_any}
@@ -13,14 +16,17 @@ use Rattle.rv_event.proofs.Growing.{filter-map, named-of_hart}
 use Rattle.rv_event.proofs.Pushed.{WellFormed-front}
 use Rattle.rv_event.specs.Operations.{is_store, is_exclusive, IsStore}
 use Rattle.rv_event.specs.Log.{same_id, named, of_hart, writer, events}
-use Rattle.rv_event.specs.Faults.{fault_if, first_faults, expected, can_be_named, admits, is_lr, is_sc, dependency_fault, taken_fault, reservation_fault, source_fault, deps_fault, fault_of}
+use Rattle.rv_event.specs.Faults.{fault_if, first_faults, expected, can_be_named, admits, is_lr, is_sc}
+use Rattle.rv_event.specs.Faults.{dependency_fault, taken_fault, reservation_fault, source_fault, deps_fault}
+use Rattle.rv_event.specs.Faults.{fault_of}
 use Rattle.rv_event.specs.WellFormed.{WellFormed, entries_of}
 use Rattle.rv_event.specs.Merges.{SameHarts}
 use Rattle.rv_event.specs.declared.event.Id.{Id}
 use Rattle.rv_event.specs.declared.event.Dep.{Dep}
 use Rattle.rv_event.specs.declared.event.Event.{Event}
 use Rattle.rv_event.specs.declared.event.Entry.{Entry}
-use Rattle.rv_event.specs.declared.fault.Fault.TheVariants.{VersionTaken, Dependency, NoReservation, OtherSource, Sequence, Full}
+use Rattle.rv_event.specs.declared.fault.Fault.TheVariants.{VersionTaken, Dependency, NoReservation}
+use Rattle.rv_event.specs.declared.fault.Fault.TheVariants.{OtherSource, Sequence, Full}
 
 -- where a filtered list is cut, the list itself can be cut
 record IsCut {X : Type 0} (p : X → Bool) (xs ys : List X) (x : X) : Type 0 where
@@ -35,13 +41,25 @@ cut_filter p [] (y ∷ ys) zs x e = absurd (omega (arith, ap length e))
 cut_filter {X} p (a ∷ xs) ys zs x e = go (p a) refl ys e (λ ws f. cut_filter p xs ws zs x f)
   where
     kept_more : (ws : List X) → p a ≡ true → IsCut p xs ws x → IsCut p (a ∷ xs) (a ∷ ws) x
-    kept_more ws t c = record { before = a ∷ c.before; after = c.after; cut = ap (λ (l : List X). a ∷ l) c.cut; kept = rw (t, c.kept) }
+    kept_more ws t c = record {
+      before = a ∷ c.before;
+      after = c.after;
+      cut = ap (λ (l : List X). a ∷ l) c.cut;
+      kept = rw (t, c.kept);
+    }
 
     left_out : (ws : List X) → p a ≡ false → IsCut p xs ws x → IsCut p (a ∷ xs) ws x
-    left_out ws t c = record { before = a ∷ c.before; after = c.after; cut = ap (λ (l : List X). a ∷ l) c.cut; kept = rw (t, c.kept) }
+    left_out ws t c = record {
+      before = a ∷ c.before;
+      after = c.after;
+      cut = ap (λ (l : List X). a ∷ l) c.cut;
+      kept = rw (t, c.kept);
+    }
 
-    go : (b : Bool) → p a ≡ b → (ws : List X) → cond b (a ∷ filter p xs) (filter p xs) ≡ ws ++ x ∷ zs → ((us : List X) → filter p xs ≡ us ++ x ∷ zs → IsCut p xs us x) → IsCut p (a ∷ xs) ws x
-    go true t [] f again = let h : a ≡ x = cc in record { before = []; after = xs; cut = ap (λ (y : X). y ∷ xs) h; kept = refl }
+    go : (b : Bool) → p a ≡ b → (ws : List X) → cond b (a ∷ filter p xs) (filter p xs) ≡ ws ++ x ∷ zs →
+        ((us : List X) → filter p xs ≡ us ++ x ∷ zs → IsCut p xs us x) → IsCut p (a ∷ xs) ws x
+    go true t [] f again = let h : a ≡ x = cc in
+        record { before = []; after = xs; cut = ap (λ (y : X). y ∷ xs) h; kept = refl }
     go true t (w ∷ ws) f again =
         let h : a ≡ w = cc in
         let r : filter p xs ≡ ws ++ x ∷ zs = cc in
@@ -52,25 +70,33 @@ cut_filter {X} p (a ∷ xs) ys zs x e = go (p a) refl ys e (λ ws f. cut_filter 
 of_hart-entries : (hart : ℕ) (log : List Entry) → of_hart hart (events log) ≡ events (entries_of hart log)
 of_hart-entries hart log = filter-map (λ (x : Entry). x.event) (λ (e : Event). hart == e.id.hart) log
 
-module _ (one other : List Entry) (x : Entry) (same : entries_of x.event.id.hart one ≡ entries_of x.event.id.hart other) where
+module _ (one other : List Entry) (x : Entry)
+    (same : entries_of x.event.id.hart one ≡ entries_of x.event.id.hart other) where
   same_events : of_hart x.event.id.hart (events one) ≡ of_hart x.event.id.hart (events other)
   same_events = of_hart-entries x.event.id.hart one ∙ ap events same ∙ sym (of_hart-entries x.event.id.hart other)
 
   same_expected : expected (events one) x.event ≡ expected (events other) x.event
   same_expected = ap length same_events
 
-  same_named : (seq : ℕ) → named (events one) (record { hart = x.event.id.hart; seq = seq }) ≡ named (events other) (record { hart = x.event.id.hart; seq = seq })
+  same_named : (seq : ℕ) → named (events one) (record { hart = x.event.id.hart; seq = seq }) ≡ named (events other)
+      (record { hart = x.event.id.hart; seq = seq })
   same_named seq =
       let i : Id = record { hart = x.event.id.hart; seq = seq } in
-      named-of_hart (events one) i ∙ ap (find (λ (e : Event). same_id i e.id)) same_events ∙ sym (named-of_hart (events other) i)
+      named-of_hart (events one) i ∙ ap (find (λ (e : Event). same_id i e.id)) same_events ∙
+      sym (named-of_hart (events other) i)
 
   same_dependency : dependency_fault (events one) x.event ≡ dependency_fault (events other) x.event
   same_dependency =
-      ap (λ (f : ℕ → Option Event). fault_if (list_any (λ (d : Dep). not (ltb d.seq x.event.id.seq) || unwrap_or (option_map (λ (m : Event). not (can_be_named m.op)) (f d.seq)) false || not (admits x.event.op d.kind)) x.event.deps) Dependency) (fun_ext same_named)
+      ap (λ (f : ℕ → Option Event). fault_if
+      (list_any (λ (d : Dep). not (ltb d.seq x.event.id.seq) ||
+      unwrap_or (option_map (λ (m : Event). not (can_be_named m.op)) (f d.seq)) false ||
+      not (admits x.event.op d.kind)) x.event.deps) Dependency) (fun_ext same_named)
 
   same_reservation : reservation_fault (events one) x.event ≡ reservation_fault (events other) x.event
   same_reservation =
-      ap (λ (es : List Event). fault_if (is_sc x.event.op && not (unwrap_or (option_map (λ (m : Event). is_lr m.op) (find (λ (m : Event). is_exclusive m.op) (reverse es))) false)) NoReservation) same_events
+      ap (λ (es : List Event). fault_if (is_sc x.event.op &&
+      not (unwrap_or (option_map (λ (m : Event). is_lr m.op)
+      (find (λ (m : Event). is_exclusive m.op) (reverse es))) false)) NoReservation) same_events
 
   other_source : Entry → Bool
   other_source y = (y.event.id.hart == x.event.id.hart) && not (y.source == x.source)
@@ -78,7 +104,10 @@ module _ (one other : List Entry) (x : Entry) (same : entries_of x.event.id.hart
   in_hart : (log : List Entry) → list_any other_source (entries_of x.event.id.hart log) ≡ list_any other_source log
   unfolding other_source
   in_hart log =
-      any-filter_same other_source (λ (y : Entry). x.event.id.hart == y.event.id.hart) true (λ y t. eq-eqb x.event.id.hart y.event.id.hart (sym (eqb-true y.event.id.hart x.event.id.hart (and_parts (y.event.id.hart == x.event.id.hart) (not (y.source == x.source)) t).0))) log
+      any-filter_same other_source (λ (y : Entry). x.event.id.hart == y.event.id.hart) true
+      (λ y t. eq-eqb x.event.id.hart y.event.id.hart
+      (sym (eqb-true y.event.id.hart x.event.id.hart
+      (and_parts (y.event.id.hart == x.event.id.hart) (not (y.source == x.source)) t).0))) log
 
   same_source : source_fault one x ≡ source_fault other x
   unfolding other_source
@@ -116,11 +145,13 @@ module _ (one other : List Entry) (x : Entry) (same : entries_of x.event.id.hart
         ),
       )
 
-pub Contains-filter : {X : Type 0} (p : X → Bool) (xs : List X) (x : X) → Contains xs x → p x ≡ true → Contains (filter p xs) x
+pub Contains-filter : {X : Type 0} (p : X → Bool) (xs : List X) (x : X) → Contains xs x → p x ≡ true →
+    Contains (filter p xs) x
 Contains-filter p [] x (k, l, e) t = absurd (omega arith)
 Contains-filter {X} p (y ∷ ys) x c t = go (p y) refl (Contains-cons y ys x c) (λ d. Contains-filter p ys x d t)
   where
-    go : (b : Bool) → p y ≡ b → (y ≡ x) ⊎ Contains ys x → (Contains ys x → Contains (filter p ys) x) → Contains (cond b (y ∷ filter p ys) (filter p ys)) x
+    go : (b : Bool) → p y ≡ b → (y ≡ x) ⊎ Contains ys x → (Contains ys x → Contains (filter p ys) x) →
+        Contains (cond b (y ∷ filter p ys) (filter p ys)) x
     go true u (inl e) again = Contains-here y (filter p ys) x e
     go true u (inr d) again = Contains-there y (filter p ys) x (again d)
     go false u (inl e) again = absurd (false≢true (sym u ∙ ap p e ∙ t))
@@ -130,20 +161,26 @@ pub Contains-unfilter : {X : Type 0} (p : X → Bool) (xs : List X) (x : X) → 
 Contains-unfilter p [] x (k, l, e) = absurd (omega arith)
 Contains-unfilter {X} p (y ∷ ys) x c = go (p y) c (λ d. Contains-unfilter p ys x d)
   where
-    go : (b : Bool) → Contains (cond b (y ∷ filter p ys) (filter p ys)) x → (Contains (filter p ys) x → Contains ys x) → Contains (y ∷ ys) x
-    go true c again = ⊎_elim (λ e. Contains-here y ys x e) (λ d. Contains-there y ys x (again d)) (Contains-cons y (filter p ys) x c)
+    go : (b : Bool) → Contains (cond b (y ∷ filter p ys) (filter p ys)) x → (Contains (filter p ys) x → Contains ys x) →
+        Contains (y ∷ ys) x
+    go true c again = ⊎_elim (λ e. Contains-here y ys x e) (λ d. Contains-there y ys x (again d))
+        (Contains-cons y (filter p ys) x c)
     go false c again = Contains-there y ys x (again c)
 
 -- an event of a log is one of any log with the same events of its hart
-moved : (one other : List Event) (w : Event) → of_hart w.id.hart one ≡ of_hart w.id.hart other → Contains one w → Contains other w
+moved : (one other : List Event) (w : Event) → of_hart w.id.hart one ≡ of_hart w.id.hart other → Contains one w →
+    Contains other w
 moved one other w same c =
     let p : Event → Bool = λ e. w.id.hart == e.id.hart in
-    Contains-unfilter p other w (subst (λ (es : List Event). Contains es w) same (Contains-filter p one w c (eq-eqb w.id.hart w.id.hart refl)))
+    Contains-unfilter p other w (subst (λ (es : List Event). Contains es w) same
+    (Contains-filter p one w c (eq-eqb w.id.hart w.id.hart refl)))
 
-events-cut : (log before after : List Entry) (x : Entry) → log ≡ before ++ x ∷ after → events log ≡ events before ++ x.event ∷ events after
+events-cut : (log before after : List Entry) (x : Entry) → log ≡ before ++ x ∷ after → events log ≡ events before ++
+    x.event ∷ events after
 events-cut log before after x e = ap events e ∙ map-append (λ (y : Entry). y.event) before (x ∷ after)
 
-module _ (log other : List Entry) (ok : WellFormed log) (same : SameHarts log other) (before' after' : List Entry) (x : Entry) (cut' : other ≡ before' ++ x ∷ after') where
+module _ (log other : List Entry) (ok : WellFormed log) (same : SameHarts log other) (before' after' : List Entry)
+    (x : Entry) (cut' : other ≡ before' ++ x ∷ after') where
   hart_of : Entry → Bool
   hart_of y = x.event.id.hart == y.event.id.hart
 
@@ -153,7 +190,8 @@ module _ (log other : List Entry) (ok : WellFormed log) (same : SameHarts log ot
       let own : hart_of x ≡ true = eq-eqb x.event.id.hart x.event.id.hart refl in
       let rest : entries_of x.event.id.hart (x ∷ after') ≡ x ∷ entries_of x.event.id.hart after' = rw own in
       cut_filter hart_of log (entries_of x.event.id.hart before') (entries_of x.event.id.hart after') x
-      (same x.event.id.hart ∙ ap (filter hart_of) cut' ∙ filter-append hart_of before' (x ∷ after') ∙ ap (λ (l : List Entry). entries_of x.event.id.hart before' ++ l) rest)
+      (same x.event.id.hart ∙ ap (filter hart_of) cut' ∙ filter-append hart_of before' (x ∷ after') ∙
+      ap (λ (l : List Entry). entries_of x.event.id.hart before' ++ l) rest)
 
   none_before : fault_of there.before x ≡ None
   none_before = ok there.before there.after x there.cut
@@ -170,23 +208,36 @@ module _ (log other : List Entry) (ok : WellFormed log) (same : SameHarts log ot
   no_writer s w e =
       let known = indexed_from_WellFormed log ok in
       let is = writer-is (events before') x.event.word x.event.wrote w e in
-      let in_other : Contains (events other) w = subst (λ (es : List Event). Contains es w) (sym (events-cut other before' after' x cut')) (Contains-append_left (events before') (x.event ∷ events after') w is.of_log) in
+      let in_other : Contains (events other) w =
+      subst (λ (es : List Event). Contains es w) (sym (events-cut other before' after' x cut'))
+      (Contains-append_left (events before') (x.event ∷ events after') w is.of_log) in
       let in_log : Contains (events log) w = moved (events other) (events log) w (same_events_of w.id.hart) in_other in
-      let x_in_log : Contains (events log) x.event = subst (λ (es : List Event). Contains es x.event) (sym (events-cut log there.before there.after x there.cut)) (Contains-append_right (events there.before) (x.event ∷ events there.after) x.event (Contains-here x.event (events there.after) x.event refl)) in
+      let x_in_log : Contains (events log) x.event = subst (λ (es : List Event). Contains es x.event)
+      (sym (events-cut log there.before there.after x there.cut))
+      (Contains-append_right (events there.before) (x.event ∷ events there.after) x.event
+      (Contains-here x.event (events there.after) x.event refl)) in
       let theirs : writer (events log) w.word w.wrote ≡ Some w = known.written w in_log is.store in
       let own : writer (events log) x.event.word x.event.wrote ≡ Some x.event = known.written x.event x_in_log s in
-      let it : w ≡ x.event = same_Some w x.event (sym theirs ∙ ap₂ (λ (a b : ℕ). writer (events log) a b) (sym is.word) (sym is.version) ∙ own) in
-      let in_before : Contains (events before') x.event = subst (λ (y : Event). Contains (events before') y) it is.of_log in
-      let in_there : Contains (events there.before) x.event = moved (events before') (events there.before) x.event (sym (same_events there.before before' x same_before)) in_before in
-      let front : WellFormed there.before = WellFormed-front there.before (x ∷ there.after) (subst WellFormed there.cut ok) in
+      let it : w ≡ x.event = same_Some w x.event (sym theirs ∙ ap₂ (λ (a b : ℕ). writer (events log) a b) (sym is.word)
+      (sym is.version) ∙ own) in
+      let in_before : Contains (events before') x.event =
+      subst (λ (y : Event). Contains (events before') y) it is.of_log in
+      let in_there : Contains (events there.before) x.event = moved (events before') (events there.before) x.event
+      (sym (same_events there.before before' x same_before)) in_before in
+      let front : WellFormed there.before = WellFormed-front there.before (x ∷ there.after)
+      (subst WellFormed there.cut ok) in
       let low = (indexed_from_WellFormed there.before front).below x.event in_there in
-      let at = (sound_from_none (events there.before) x.event (source_fault there.before x ∷ deps_fault x.event ∷ []) none_before).seq in
+      let at = (sound_from_none (events there.before) x.event (source_fault there.before x ∷ deps_fault x.event ∷ [])
+      none_before).seq in
       omega arith
 
   no_fault : fault_of before' x ≡ None
-  no_fault = same_fault there.before before' x same_before none_before (go (is_store x.event.op) refl (writer (events before') x.event.word x.event.wrote) refl)
+  no_fault = same_fault there.before before' x same_before none_before
+      (go (is_store x.event.op) refl (writer (events before') x.event.word x.event.wrote) refl)
     where
-      go : (b : Bool) → is_store x.event.op ≡ b → (o : Option Event) → writer (events before') x.event.word x.event.wrote ≡ o → cond b (option_map (λ (w : Event). VersionTaken w.id) o) None ≡ None
+      go : (b : Bool) → is_store x.event.op ≡ b → (o : Option Event) →
+          writer (events before') x.event.word x.event.wrote ≡ o →
+          cond b (option_map (λ (w : Event). VersionTaken w.id) o) None ≡ None
       go true s None e = refl
       go true s (Some w) e = absurd (no_writer s w e)
       go false s o e = refl

@@ -1,11 +1,13 @@
 -- A well formed log with one more entry.
-use Rattle.std.proofs.Common.{◌≡◌, List, [], ◌∷◌, ◌++◌, length, ◌⊎◌, inl, inr, refl, ap, ◌∙◌, arith, append_assoc, subst, None, length-append}
+use Rattle.std.proofs.Common.{◌≡◌, List, [], ◌∷◌, ◌++◌, length, ◌⊎◌, inl, inr, refl, ap, ◌∙◌, arith}
+use Rattle.std.proofs.Common.{append_assoc, subst, None, length-append}
 use Rattle.rv_event.specs.Faults.{fault_of}
 use Rattle.rv_event.specs.WellFormed.{WellFormed}
 use Rattle.rv_event.specs.declared.event.Entry.{Entry}
 
 -- a list with one more at its end is cut at that one, or before it
-pub split_push : {X : Type 0} (xs : List X) (x : X) (before after : List X) (y : X) → xs ++ x ∷ [] ≡ before ++ y ∷ after → ((xs ≡ before) × (x ≡ y)) ⊎ ((rest : List X) × (xs ≡ before ++ y ∷ rest))
+pub split_push : {X : Type 0} (xs : List X) (x : X) (before after : List X) (y : X) → xs ++ x ∷ [] ≡ before ++ y ∷
+    after → ((xs ≡ before) × (x ≡ y)) ⊎ ((rest : List X) × (xs ≡ before ++ y ∷ rest))
 split_push [] x [] after y e = inl (refl, cc)
 split_push [] x (b ∷ bs) after y e = absurd (omega (arith, ap length e, length-append bs (y ∷ after)))
 split_push (a ∷ as') x [] after y e = let h : a ≡ y = cc in inr (as', rw h)
@@ -14,18 +16,21 @@ split_push {X} (a ∷ as') x (b ∷ bs) after y e =
     let tail : as' ++ x ∷ [] ≡ bs ++ y ∷ after = cc in
     go head (split_push as' x bs after y tail)
   where
-    go : a ≡ b → ((as' ≡ bs) × (x ≡ y)) ⊎ ((rest : List X) × (as' ≡ bs ++ y ∷ rest)) → ((a ∷ as' ≡ b ∷ bs) × (x ≡ y)) ⊎ ((rest : List X) × (a ∷ as' ≡ b ∷ bs ++ y ∷ rest))
+    go : a ≡ b → ((as' ≡ bs) × (x ≡ y)) ⊎ ((rest : List X) × (as' ≡ bs ++ y ∷ rest)) → ((a ∷ as' ≡ b ∷ bs) × (x ≡ y)) ⊎
+        ((rest : List X) × (a ∷ as' ≡ b ∷ bs ++ y ∷ rest))
     go h (inl (s, t)) = inl (cc, t)
     go h (inr (rest, s)) = inr (rest, cc)
 
 pub WellFormed-nil : WellFormed []
 WellFormed-nil before after x e = absurd (omega (arith, ap length e, length-append before (x ∷ after)))
 
-pub WellFormed-push : (log : List Entry) (x : Entry) → WellFormed log → fault_of log x ≡ None → WellFormed (log ++ x ∷ [])
+pub WellFormed-push : (log : List Entry) (x : Entry) → WellFormed log → fault_of log x ≡ None →
+    WellFormed (log ++ x ∷ [])
 WellFormed-push log x ok none before after y e = go (split_push log x before after y e)
   where
     go : ((log ≡ before) × (x ≡ y)) ⊎ ((rest : List Entry) × (log ≡ before ++ y ∷ rest)) → fault_of before y ≡ None
-    go (inl (s, t)) = subst (λ (l : List Entry). fault_of l y ≡ None) s (subst (λ (z : Entry). fault_of log z ≡ None) t none)
+    go (inl (s, t)) = subst (λ (l : List Entry). fault_of l y ≡ None) s
+        (subst (λ (z : Entry). fault_of log z ≡ None) t none)
     go (inr (rest, s)) = ok before rest y s
 
 pub WellFormed-front : (log more : List Entry) → WellFormed (log ++ more) → WellFormed log

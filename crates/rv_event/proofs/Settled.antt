@@ -1,64 +1,124 @@
 -- An edge between two events of a log is decided for good: no later event adds one or takes one away.
 use Rattle.rv_event.specs.declared.memory_model.MemoryModel.{MemoryModel}
-use Rattle.std.proofs.Common.{◌≡◌, ℕ, List, [], ◌∷◌, ◌++◌, Contains, All, Any, Some, ◌⊎◌, inl, inr, sym, ap, ◌∙◌, IsFalse, IsTrue, ◌≢◌, ◌==◌}
+use Rattle.std.proofs.Common.{◌≡◌, ℕ, List, [], ◌∷◌, ◌++◌, Contains, All, Any, Some, ◌⊎◌, inl, inr, sym, ap}
+use Rattle.std.proofs.Common.{◌∙◌, IsFalse, IsTrue, ◌≢◌, ◌==◌}
 use Rattle.std.proofs.lemmas.List.Elements.{All-contains, filter-append, Contains-push_cases}
 use Rattle.rv_event.proofs.Names.{named-is, writer-is}
 use Rattle.rv_event.proofs.Indexed.{Indexed, Sound, indexed-push}
-use Rattle.rv_event.proofs.Growing.{Grows, Any-contains, Any-from_contains, All-from_contains, Contains-grows, earlier_old}
+use Rattle.rv_event.proofs.Growing.{Grows, Any-contains, Any-from_contains, All-from_contains, Contains-grows}
+use Rattle.rv_event.proofs.Growing.{earlier_old}
 use Rattle.rv_event.specs.Operations.{IsStore, is_exclusive}
 use Rattle.rv_event.specs.Log.{of_hart, writer, Earlier, Between}
 use Rattle.rv_event.specs.Relations.{Paired, DependsOn, fence_orders}
-use Rattle.rv_event.specs.Preserved.{Condition, overlapping_store, different_reads, reads_atomic_write, fenced, after_acquire, before_release, both_rcsc, paired, address, data_of, control, reads_dependent_write, after_dependent_address, IsDependentWrite}
+use Rattle.rv_event.specs.Preserved.{Condition, overlapping_store, different_reads, reads_atomic_write}
+use Rattle.rv_event.specs.Preserved.{fenced, after_acquire, before_release, both_rcsc, paired, address}
+use Rattle.rv_event.specs.Preserved.{data_of, control, reads_dependent_write, after_dependent_address}
+use Rattle.rv_event.specs.Preserved.{IsDependentWrite}
 use Rattle.rv_event.specs.Edges.{HasReason, IsEdge}
 use Rattle.rv_event.specs.declared.event.Op.TheVariants.{Branch}
 use Rattle.rv_event.specs.declared.event.DepKind.TheVariants.{Addr, Ctrl}
 use Rattle.rv_event.specs.declared.event.Id.{Id}
 use Rattle.rv_event.specs.declared.event.Event.{Event}
 use Rattle.rv_event.specs.declared.reason.Reason.{Reason}
-use Rattle.rv_event.specs.declared.reason.Reason.TheVariants.{Preserved, Coherence, ReadsFrom, FromRead, AtomicIn, AtomicOut}
+use Rattle.rv_event.specs.declared.reason.Reason.TheVariants.{Preserved, Coherence, ReadsFrom, FromRead}
+use Rattle.rv_event.specs.declared.reason.Reason.TheVariants.{AtomicIn, AtomicOut}
 
-module _ (model : MemoryModel) (old new : List Event) (grows : Grows old new) (known : Indexed old) (known' : Indexed new) where
-  Any-settled : (b : Event) → Contains old b → (P : Event → Type 0) → ((m : Event) → P m → Earlier m b) → Any P new → Any P old
+module _ (model : MemoryModel) (old new : List Event) (grows : Grows old new) (known : Indexed old)
+    (known' : Indexed new) where
+  Any-settled : (b : Event) → Contains old b → (P : Event → Type 0) → ((m : Event) → P m → Earlier m b) →
+      Any P new → Any P old
   Any-settled b cb P early any =
       let a = Any-contains P new any in
       Any-from_contains P old a.0 (earlier_old model old new grows known known' a.0 b cb a.1 (early a.0 a.2)) a.2
 
   All-settled : (P : Event → Type 0) → All P new → All P old
-  All-settled P all = All-from_contains P old (λ m c. All-contains P new m all (Contains-grows model old new grows known known' m c))
+  All-settled P all = All-from_contains P old
+      (λ m c. All-contains P new m all (Contains-grows model old new grows known known' m c))
 
-  writer-settled : (word version : ℕ) (w : Event) → Contains old w → writer new word version ≡ Some w → writer old word version ≡ Some w
+  writer-settled : (word version : ℕ) (w : Event) → Contains old w → writer new word version ≡ Some w →
+      writer old word version ≡ Some w
   writer-settled word version w c e =
       let is = writer-is new word version w e in
       rw (is.word, is.version) (known.written w c is.store)
 
   Paired-settled : (lr sc : Event) → Paired new lr sc → Paired old lr sc
-  Paired-settled lr sc p = record { is_lr = p.is_lr; is_sc = p.is_sc; earlier = p.earlier; none_between = All-settled (λ m. Between lr m sc → IsFalse (is_exclusive m.op)) p.none_between }
+  Paired-settled lr sc p = record {
+    is_lr = p.is_lr;
+    is_sc = p.is_sc;
+    earlier = p.earlier;
+    none_between = All-settled (λ m. Between lr m sc → IsFalse (is_exclusive m.op)) p.none_between;
+  }
 
   Condition-settled : (a b : Event) → Contains old b → (k : ℕ) → Condition model new a b k → Condition model old a b k
   Condition-settled a b cb k (overlapping_store h) = overlapping_store h
-  Condition-settled a b cb k (different_reads h) = different_reads (record { first = h.first; second = h.second; word = h.word; versions = h.versions; none_between = All-settled (λ m. Between a m b → IsStore m → m.word ≢ a.word) h.none_between })
+  Condition-settled a b cb k (different_reads h) =
+      different_reads (record {
+        first = h.first;
+        second = h.second;
+        word = h.word;
+        versions = h.versions;
+        none_between = All-settled (λ m. Between a m b → IsStore m → m.word ≢ a.word) h.none_between;
+      })
   Condition-settled a b cb k (reads_atomic_write h) = reads_atomic_write h
-  Condition-settled a b cb k (fenced h) = fenced (Any-settled b cb (λ f. Between a f b × IsTrue (fence_orders f.op a.op b.op)) (λ m p. p.0.before) h)
+  Condition-settled a b cb k (fenced h) =
+      fenced (Any-settled b cb (λ f. Between a f b × IsTrue (fence_orders f.op a.op b.op)) (λ m p. p.0.before) h)
   Condition-settled a b cb k (after_acquire h) = after_acquire h
   Condition-settled a b cb k (before_release h) = before_release h
   Condition-settled a b cb k (both_rcsc h g) = both_rcsc h g
   Condition-settled a b cb k (paired h) = paired (Paired-settled a b h)
   Condition-settled a b cb k (address h) = address h
   Condition-settled a b cb k (data_of h) = data_of h
-  Condition-settled a b cb k (control s h) = control s (Any-settled b cb (λ m. Between a m b × (m.op ≡ Branch) × DependsOn Ctrl m a) (λ m p. p.0.before) h)
-  Condition-settled a b cb k (reads_dependent_write h) = reads_dependent_write (record { load = h.load; through = Any-settled b cb (IsDependentWrite a b) (λ m p. p.between.before) h.through })
-  Condition-settled a b cb k (after_dependent_address h) = after_dependent_address (record { store = h.store; through = Any-settled b cb (λ m. Between a m b × DependsOn Addr m a) (λ m p. p.0.before) h.through })
+  Condition-settled a b cb k (control s h) =
+      control s (Any-settled b cb (λ m. Between a m b × (m.op ≡ Branch) × DependsOn Ctrl m a) (λ m p. p.0.before) h)
+  Condition-settled a b cb k (reads_dependent_write h) =
+      reads_dependent_write (record {
+        load = h.load;
+        through = Any-settled b cb (IsDependentWrite a b)
+            (λ m p. p.between.before) h.through;
+      })
+  Condition-settled a b cb k (after_dependent_address h) =
+      after_dependent_address (record {
+        store = h.store;
+        through = Any-settled b cb (λ m. Between a m b × DependsOn Addr m a) (λ m p. p.0.before) h.through;
+      })
 
-  pub HasReason-settled : (a b : Event) → Contains old a → Contains old b → (reason : Reason) → HasReason model new reason a b → HasReason model old reason a b
-  HasReason-settled a b ca cb (Preserved k) h = record { from = ca; to = cb; from_memory = h.from_memory; to_memory = h.to_memory; earlier = h.earlier; condition = Condition-settled a b cb k h.condition }
+  pub HasReason-settled : (a b : Event) → Contains old a → Contains old b → (reason : Reason) →
+      HasReason model new reason a b → HasReason model old reason a b
+  HasReason-settled a b ca cb (Preserved k) h =
+      record {
+        from = ca;
+        to = cb;
+        from_memory = h.from_memory;
+        to_memory = h.to_memory;
+        earlier = h.earlier;
+        condition = Condition-settled a b cb k h.condition;
+      }
   HasReason-settled a b ca cb Coherence h = h
-  HasReason-settled a b ca cb ReadsFrom h = record { load = h.load; is_writer = writer-settled b.word b.read a ca h.is_writer; not_earlier = h.not_earlier }
+  HasReason-settled a b ca cb ReadsFrom h =
+      record { load = h.load; is_writer = writer-settled b.word b.read a ca h.is_writer; not_earlier = h.not_earlier }
   HasReason-settled a b ca cb FromRead h = h
-  HasReason-settled a b ca cb AtomicIn h = record { lr = h.lr; of_log = earlier_old model old new grows known known' h.lr b cb h.of_log h.paired.earlier; paired = Paired-settled h.lr b h.paired; is_writer = writer-settled h.lr.word h.lr.read a ca h.is_writer }
-  HasReason-settled a b ca cb AtomicOut h = record { lr = h.lr; of_log = earlier_old model old new grows known known' h.lr a ca h.of_log h.paired.earlier; paired = Paired-settled h.lr a h.paired; store = h.store; word = h.word; other_hart = h.other_hart; versions = h.versions }
+  HasReason-settled a b ca cb AtomicIn h =
+      record {
+        lr = h.lr;
+        of_log = earlier_old model old new grows known known' h.lr b cb h.of_log h.paired.earlier;
+        paired = Paired-settled h.lr b h.paired;
+        is_writer = writer-settled h.lr.word h.lr.read a ca h.is_writer;
+      }
+  HasReason-settled a b ca cb AtomicOut h =
+      record {
+        lr = h.lr;
+        of_log = earlier_old model old new grows known known' h.lr a ca h.of_log h.paired.earlier;
+        paired = Paired-settled h.lr a h.paired;
+        store = h.store;
+        word = h.word;
+        other_hart =
+            h.other_hart;
+        versions = h.versions;
+      }
 
   -- an edge of the new log between two old events is one of the old log
-  pub IsEdge-settled : (i j : Id) (reason : Reason) (e : IsEdge model new i reason j) → Contains old e.a → Contains old e.b → IsEdge model old i reason j
+  pub IsEdge-settled : (i j : Id) (reason : Reason) (e : IsEdge model new i reason j) → Contains old e.a →
+      Contains old e.b → IsEdge model old i reason j
   IsEdge-settled i j reason e ca cb =
       let from = named-is new i e.a e.from_named in
       let to = named-is new j e.b e.to_named in
@@ -77,7 +137,9 @@ pub grows-push : (log : List Event) (e : Event) → Grows log (log ++ e ∷ [])
 grows-push log e hart = (of_hart hart (e ∷ []), filter-append (λ (x : Event). hart == x.id.hart) log (e ∷ []))
 
 -- each edge of the grown log is an old one, or has the new event at an end
-pub edge-push : (model : MemoryModel) (log : List Event) (e : Event) → Indexed log → Sound log e → (i j : Id) (reason : Reason) → IsEdge model (log ++ e ∷ []) i reason j → IsEdge model log i reason j ⊎ ((i ≡ e.id) ⊎ (j ≡ e.id))
+pub edge-push : (model : MemoryModel) (log : List Event) (e : Event) → Indexed log → Sound log e →
+    (i j : Id) (reason : Reason) → IsEdge model (log ++ e ∷ []) i reason j → IsEdge model log i reason j ⊎
+    ((i ≡ e.id) ⊎ (j ≡ e.id))
 edge-push model log e known sound i j reason edge =
     go (Contains-push_cases log e edge.a from.0) (Contains-push_cases log e edge.b to.0)
   where
@@ -90,7 +152,9 @@ edge-push model log e known sound i j reason edge =
     to : Contains new edge.b × (j ≡ edge.b.id)
     to = named-is new j edge.b edge.to_named
 
-    go : Contains log edge.a ⊎ (e ≡ edge.a) → Contains log edge.b ⊎ (e ≡ edge.b) → IsEdge model log i reason j ⊎ ((i ≡ e.id) ⊎ (j ≡ e.id))
+    go : Contains log edge.a ⊎ (e ≡ edge.a) → Contains log edge.b ⊎ (e ≡ edge.b) → IsEdge model log i reason j ⊎
+        ((i ≡ e.id) ⊎ (j ≡ e.id))
     go (inr is) _ = inr (inl (from.1 ∙ ap (λ (x : Event). x.id) (sym is)))
     go (inl ca) (inr is) = inr (inr (to.1 ∙ ap (λ (x : Event). x.id) (sym is)))
-    go (inl ca) (inl cb) = inl (IsEdge-settled model log new (grows-push log e) known (indexed-push log e known sound) i j reason edge ca cb)
+    go (inl ca) (inl cb) = inl (IsEdge-settled model log new (grows-push log e) known (indexed-push log e known sound) i
+        j reason edge ca cb)

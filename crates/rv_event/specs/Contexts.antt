@@ -1,9 +1,11 @@
 -- What the faults of an event ask of the log that it is to follow.
-use Rattle.std.specs.Prelude.{ℕ, Bool, not, ◌&&◌, ◌||◌, ◌==◌, ◌≡◌, nat_lt, nat_le, List, [], ◌∷◌, Option, None, false, option_map, unwrap_or, if◌then◌else◌}
+use Rattle.std.specs.Prelude.{ℕ, Bool, not, ◌&&◌, ◌||◌, ◌==◌, ◌≡◌, nat_lt, nat_le, List, [], ◌∷◌, Option}
+use Rattle.std.specs.Prelude.{None, false, option_map, unwrap_or, if◌then◌else◌}
 use Rattle.std.specs.List.{list_any}
 use Rattle.rv_event.specs.Operations.{is_store}
 use Rattle.rv_event.specs.Log.{writer}
-use Rattle.rv_event.specs.Faults.{fault_if, expected, can_be_named, admits, is_bad_dependency, is_sc, is_reserved, hart_fault, zero_fault}
+use Rattle.rv_event.specs.Faults.{fault_if, expected, can_be_named, admits, is_bad_dependency, is_sc}
+use Rattle.rv_event.specs.Faults.{is_reserved, hart_fault, zero_fault}
 use Rattle.rv_event.specs.declared.context.Context.{Context}
 use Rattle.rv_event.specs.declared.event.Id.{Id}
 use Rattle.rv_event.specs.declared.event.Dep.{Dep}
@@ -21,7 +23,8 @@ pub record IsContext (log : List Event) (e : Event) (context : Context) : Type 0
 -- whether a dependency is bad, by the event that it names, if there is one
 abbrev pub is_bad_on : Event → Dep → Option Event → Bool
 is_bad_on e d on =
-    not (nat_lt d.seq e.id.seq) || unwrap_or (option_map (λ m. not (can_be_named m.op)) on) false || not (admits e.op d.kind)
+    not (nat_lt d.seq e.id.seq) || unwrap_or (option_map (λ m. not (can_be_named m.op)) on) false ||
+    not (admits e.op d.kind)
 
 -- the seven first faults, by the context
 

@@ -1,5 +1,7 @@
 -- What is wrong with an entry over the entries before it. The faults are this project's own.
-use Rattle.std.specs.Prelude.{ℕ, Bool, true, false, not, ◌&&◌, ◌||◌, ◌==◌, ◌++◌, nat_lt, nat_le, List, [], ◌∷◌, reverse, find, length, Option, None, Some, option_map, unwrap_or, if◌then◌else◌}
+use Rattle.std.specs.Prelude.{ℕ, Bool, true, false, not, ◌&&◌, ◌||◌, ◌==◌, ◌++◌, nat_lt, nat_le, List, []}
+use Rattle.std.specs.Prelude.{◌∷◌, reverse, find, length, Option, None, Some, option_map, unwrap_or}
+use Rattle.std.specs.Prelude.{if◌then◌else◌}
 use Rattle.std.specs.List.{list_any}
 use Rattle.rv_event.specs.Operations.{is_store, is_exclusive}
 use Rattle.rv_event.specs.Log.{events, named, of_hart, writer}
@@ -11,7 +13,9 @@ use Rattle.rv_event.specs.declared.event.Entry.{Entry}
 use Rattle.rv_event.specs.declared.event.Op.{Op}
 use Rattle.rv_event.specs.declared.event.Op.TheVariants.{Load, Store, Lr, Sc, ScFailed, Amo, Branch}
 use Rattle.rv_event.specs.declared.fault.Fault.{Fault}
-use Rattle.rv_event.specs.declared.fault.Fault.TheVariants.{Hart, Sequence, Dependency, VersionZero, VersionTaken, NoReservation, Full, OtherSource, TooManyDeps}
+use Rattle.rv_event.specs.declared.fault.Fault.TheVariants.{Hart, Sequence, Dependency, VersionZero}
+use Rattle.rv_event.specs.declared.fault.Fault.TheVariants.{VersionTaken, NoReservation, Full, OtherSource}
+use Rattle.rv_event.specs.declared.fault.Fault.TheVariants.{TooManyDeps}
 
 -- the fault, where the test passes
 abbrev pub fault_if : Bool → Fault → Option Fault

@@ -2,8 +2,11 @@
 //!
 //! `docs/TRACE.md` has the words bit by bit. Whether words are a chunk text is decided by reading them and writing them
 //! anew: they are one exactly where that gives the same words.
-ghost use Rattle.std.specs.Prelude.{◌≡◌, ◌↔◌, ℕ, ◌<◌, ◌≤◌, ◌+◌, ◌*◌, ◌^◌, ◌++◌, All, IfOk, IfSome, IfNone, IsTrue, IsSome, length, take, drop, MatchOption, vec_len};
-ghost use Rattle.rv_event.specs.Chunks.{chunk_text, is_chunk_text, IsPackable, IsTyped, IsChunkText, source_of, number_of, count_of, events_of, rewritten, event_words, bits};
+ghost use Rattle.std.specs.Prelude.{◌≡◌, ◌↔◌, ℕ, ◌<◌, ◌≤◌, ◌+◌, ◌*◌, ◌^◌, ◌++◌, All, IfOk, IfSome, IfNone};
+ghost use Rattle.std.specs.Prelude.{IsTrue, IsSome, length, take, drop, MatchOption, vec_len};
+ghost use Rattle.rv_event.specs.Chunks.{chunk_text, is_chunk_text, IsPackable, IsTyped, IsChunkText};
+ghost use Rattle.rv_event.specs.Chunks.{source_of, number_of, count_of, events_of, rewritten, event_words};
+ghost use Rattle.rv_event.specs.Chunks.{bits};
 ghost use Rattle.rv_event.specs.Packing.{Content, content_of, IsPacked};
 ghost use Rattle.rv_event.specs.ChunkTexts.{TestTells, TextsDiffer};
 

@@ -1,6 +1,10 @@
 //! The fields of a chunk's words: how events are written as numbers, and read back.
-ghost use Rattle.std.specs.Prelude.{◌≡◌, ◌↔◌, ℕ, ◌<◌, ◌≤◌, ◌+◌, ◌*◌, ◌^◌, IfOk, IsTrue, length, slice_index, List, drop};
-ghost use Rattle.rv_event.specs.Chunks.{set_code, op_code, pred_code, succ_code, kind_code, flag_code, two, head_word, dep_code, dep_at, event_words, bits, set_of, op_of, kind_of, dep_of, deps_of, dep_halves, head_op, event_of, IsPackable, IsTyped, AreSmall};
+ghost use Rattle.std.specs.Prelude.{◌≡◌, ◌↔◌, ℕ, ◌<◌, ◌≤◌, ◌+◌, ◌*◌, ◌^◌, IfOk, IsTrue, length, slice_index};
+ghost use Rattle.std.specs.Prelude.{List, drop};
+ghost use Rattle.rv_event.specs.Chunks.{set_code, op_code, pred_code, succ_code, kind_code, flag_code, two};
+ghost use Rattle.rv_event.specs.Chunks.{head_word, dep_code, dep_at, event_words, bits, set_of, op_of};
+ghost use Rattle.rv_event.specs.Chunks.{kind_of, dep_of, deps_of, dep_halves, head_op, event_of, IsPackable};
+ghost use Rattle.rv_event.specs.Chunks.{IsTyped, AreSmall};
 
 use crate::event::{Dep, DepKind, Deps, Event, Id, Op, Set};
 use crate::no_memory::NoMemory;

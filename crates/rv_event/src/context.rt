@@ -1,8 +1,10 @@
 //! What the faults of an event ask of the log that it is to follow: the faults by the answers.
 ghost use Rattle.std.specs.Prelude.{◌≡◌, ◌==◌, ◌&&◌, not, false, option_map, unwrap_or, List};
 ghost use Rattle.std.specs.Option.{option_copied};
-ghost use Rattle.rv_event.specs.Faults.{can_be_named, admits, hart_fault, zero_fault, deps_fault, first_faults, fault_if, lowest};
-ghost use Rattle.rv_event.specs.Contexts.{IsContext, is_bad_on, sequence_in, taken_in, reservation_in, full_in, faults_in};
+ghost use Rattle.rv_event.specs.Faults.{can_be_named, admits, hart_fault, zero_fault, deps_fault};
+ghost use Rattle.rv_event.specs.Faults.{first_faults, fault_if, lowest};
+ghost use Rattle.rv_event.specs.Contexts.{IsContext, is_bad_on, sequence_in, taken_in, reservation_in};
+ghost use Rattle.rv_event.specs.Contexts.{full_in, faults_in};
 ghost use Rattle.rv_event.specs.declared.event.Event.{Event};
 ghost use Rattle.rv_event.specs.declared.fault.Fault.TheVariants.{Dependency};
 

@@ -3,7 +3,8 @@ ghost use Rattle.std.specs.Prelude.{◌≡◌, ◌↔◌, ◌<◌, IsTrue, IfSom
 ghost use Rattle.rv_event.specs.Log.{events, named, writer};
 ghost use Rattle.rv_event.specs.Operations.{IsStore};
 ghost use Rattle.rv_event.specs.Relations.{Paired};
-ghost use Rattle.rv_event.specs.Edges.{IsCoherence, IsReadsFrom, IsFromRead, IsAtomicIn, IsAtomicOut, HasReason, IsEdge, IsLowest, IsStale};
+ghost use Rattle.rv_event.specs.Edges.{IsCoherence, IsReadsFrom, IsFromRead, IsAtomicIn, IsAtomicOut};
+ghost use Rattle.rv_event.specs.Edges.{HasReason, IsEdge, IsLowest, IsStale};
 ghost use Rattle.rv_event.specs.declared.reason.Reason.{Reason};
 
 use crate::event::{Entry, Event, Id};
@@ -37,14 +38,18 @@ fn is_from_read(a: &Event, b: &Event) -> bool
 
 /// Whether an LR that read what a wrote is paired with b.
 fn is_atomic_in(log: &[Entry], a: &Event, b: &Event) -> bool
-    ensures { IsTrue result ↔ Any (λ lr. Paired (events log.now) lr b.now × (writer (events log.now) lr.word lr.read ≡ Some a.now)) (events log.now) }
+    ensures { IsTrue result ↔
+        Any (λ lr. Paired (events log.now) lr b.now × (writer (events log.now) lr.word lr.read ≡ Some a.now))
+        (events log.now) }
 {
     log.iter().any(|x| is_paired(log, &x.event, b) && is_writer(log, x.event.word, x.event.read, a))
 }
 
 /// Whether an LR of the word of b that read an older version is paired with a.
 fn has_older_reservation(log: &[Entry], a: &Event, b: &Event) -> bool
-    ensures { IsTrue result ↔ Any (λ lr. Paired (events log.now) lr a.now × (b.now.word ≡ lr.word) × (lr.read < b.now.wrote)) (events log.now) }
+    ensures { IsTrue result ↔
+        Any (λ lr. Paired (events log.now) lr a.now × (b.now.word ≡ lr.word) × (lr.read < b.now.wrote))
+        (events log.now) }
 {
     log.iter().any(|x| is_paired(log, &x.event, a)
         && b.word == x.event.word

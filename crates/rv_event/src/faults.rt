@@ -4,7 +4,8 @@ ghost use Rattle.std.specs.List.{list_any};
 ghost use Rattle.rv_event.specs.Log.{events};
 ghost use Rattle.rv_event.specs.Operations.{is_exclusive};
 ghost use Rattle.rv_event.specs.WellFormed.{WellFormed};
-ghost use Rattle.rv_event.specs.Faults.{expected, is_bad_dependency, is_lr, is_reserved, source_fault, first_faults, lowest, event_fault, fault_of};
+ghost use Rattle.rv_event.specs.Faults.{expected, is_bad_dependency, is_lr, is_reserved, source_fault};
+ghost use Rattle.rv_event.specs.Faults.{first_faults, lowest, event_fault, fault_of};
 ghost use Rattle.rv_event.specs.Contexts.{IsContext};
 
 use crate::context::{Context, find_deps_fault, first_fault, is_bad_dependency};
@@ -46,7 +47,8 @@ fn has_bad_dependency(log: &[Entry], event: &Event) -> bool
 
 /// Whether the hart has a reservation after one more event.
 fn is_reserved_after(reserved: bool, hart: u8, event: &Event) -> bool
-    ensures { result ≡ (if (hart == event.now.id.hart) && is_exclusive event.now.op then is_lr event.now.op else reserved) }
+    ensures { result ≡
+        (if (hart == event.now.id.hart) && is_exclusive event.now.op then is_lr event.now.op else reserved) }
 {
     if hart == event.id.hart && event.op.is_exclusive() {
         event.op == Op::Lr
@@ -68,7 +70,8 @@ fn has_reservation(log: &[Entry], hart: u8) -> bool
 
 /// Whether an event of the hart came from another source.
 fn has_other_source(log: &[Entry], entry: &Entry) -> bool
-    ensures { result ≡ list_any (λ y. (y.event.id.hart == entry.now.event.id.hart) && not (y.source == entry.now.source)) log.now }
+    ensures { result ≡
+        list_any (λ y. (y.event.id.hart == entry.now.event.id.hart) && not (y.source == entry.now.source)) log.now }
 {
     log.iter().any(|y| y.event.id.hart == entry.event.id.hart && !(y.source == entry.source))
 }

@@ -1,5 +1,6 @@
 //! Laws over the definitions alone. Each function does nothing: its contract is the law.
-ghost use Rattle.rv_event.specs.Laws.{MergesAreWellFormed, MergesShareOrders, LogsAreBounded, EdgesStay, NewEdgesEndAtTheNewEvent};
+ghost use Rattle.rv_event.specs.Laws.{MergesAreWellFormed, MergesShareOrders, LogsAreBounded, EdgesStay};
+ghost use Rattle.rv_event.specs.Laws.{NewEdgesEndAtTheNewEvent};
 
 /// Whether sources are well formed does not depend on how they are merged.
 pub fn merges_are_well_formed()

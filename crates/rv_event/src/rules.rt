@@ -4,7 +4,9 @@ ghost use Rattle.rv_event.specs.Log.{events, Between};
 ghost use Rattle.rv_event.specs.Operations.{IsStore, Returns};
 ghost use Rattle.rv_event.specs.Relations.{DependsOn};
 ghost use Rattle.rv_event.specs.declared.event.DepKind.TheVariants.{Addr};
-ghost use Rattle.rv_event.specs.Preserved.{OverlappingStore, DifferentReads, ReadsAtomicWrite, IsDependentWrite, ReadsDependentWrite, AfterDependentAddress, Condition, Rule};
+ghost use Rattle.rv_event.specs.Preserved.{OverlappingStore, DifferentReads, ReadsAtomicWrite};
+ghost use Rattle.rv_event.specs.Preserved.{IsDependentWrite, ReadsDependentWrite, AfterDependentAddress};
+ghost use Rattle.rv_event.specs.Preserved.{Condition, Rule};
 
 use crate::event::{DepKind, Entry, Event, Op};
 use crate::memory_model::MemoryModel;

@@ -1,5 +1,7 @@
 -- The row of a new event from the links into it.
-use Rattle.std.proofs.Common.{◌≡◌, ℕ, ◌+◌, ◌<◌, ◌||◌, ◌↔◌, List, [], ◌∷◌, ◌++◌, length, get_or, take, Contains, ◌⊎◌, inl, inr, sym, refl, ap, ◌∙◌, arith, subst, eqb-true, eq-eqb, ◌==◌, ◌≤◌, false, zero, suc, All}
+use Rattle.std.proofs.Common.{◌≡◌, ℕ, ◌+◌, ◌<◌, ◌||◌, ◌↔◌, List, [], ◌∷◌, ◌++◌, length, get_or, take}
+use Rattle.std.proofs.Common.{Contains, ◌⊎◌, inl, inr, sym, refl, ap, ◌∙◌, arith, subst, eqb-true, eq-eqb}
+use Rattle.std.proofs.Common.{◌==◌, ◌≤◌, false, zero, suc, All}
 use Rattle.std.proofs.lemmas.Bool.{or_cases, or_left, or_right}
 use Rattle.std.proofs.lemmas.List.{take_more}
 use Rattle.std.proofs.lemmas.List.Elements.{Contains-push_cases, Contains-push, Contains-append_left, All-contains}
@@ -20,7 +22,8 @@ use Rattle.rv_hart.specs.Linked.{IsLinked, HaveRows, HasOwn}
 use Rattle.rv_hart.specs.Rows.{IsOrderedBy, IsBefore, RowsMean}
 use Rattle.rv_hart.specs.RuleLinks.{AreEnoughLinks}
 use Rattle.rv_hart.proofs.Knowing.{Known, Fits, same_event, old_new}
-use Rattle.rv_hart.proofs.Tying.{LastStep, last_step, Leads, leads-rule, leads-grows, leads-settled, rows_closed, rule-old, end_is}
+use Rattle.rv_hart.proofs.Tying.{LastStep, last_step, Leads, leads-rule, leads-grows, leads-settled}
+use Rattle.rv_hart.proofs.Tying.{rows_closed, rule-old, end_is}
 use Rattle.rv_hart.proofs.Linking.{ordered_of}
 
 -- the row has what the old one has and what the links say
@@ -28,9 +31,14 @@ abbrev pub IsJoined : List (List ℕ) → List Link → List ℕ → List ℕ �
 IsJoined rows links old row = (s : ℕ) → Has row s ↔ (Has old s ⊎ IsLinked rows links s)
 
 pub joined-none : (rows : List (List ℕ)) (row : List ℕ) → IsJoined rows [] row row
-joined-none rows row s = (λ x. inl x, λ x. elim x [ inl y ↦ y | inr y ↦ absurd (let c = y.is_listed in let low = c.1 in omega arith) ])
+joined-none rows row s = (
+  λ x. inl x,
+  λ x. elim x
+      [ inl y ↦ y | inr y ↦ absurd (let c = y.is_listed in let low = c.1 in omega arith) ],
+)
 
-module _ (rows : List (List ℕ)) (links : List Link) (i : ℕ) (l : Link) (low : i < length links) (at : l ≡ get_or links i l) (old row : List ℕ) (so : IsJoined rows (take i links) old row) where
+module _ (rows : List (List ℕ)) (links : List Link) (i : ℕ) (l : Link) (low : i < length links)
+    (at : l ≡ get_or links i l) (old row : List ℕ) (so : IsJoined rows (take i links) old row) where
   taken : take (i + 1) links ≡ take i links ++ l ∷ []
   taken = take_more links i l low ∙ ap (λ (x : Link). take i links ++ x ∷ []) (sym at)
 
@@ -38,7 +46,8 @@ module _ (rows : List (List ℕ)) (links : List Link) (i : ℕ) (l : Link) (low 
   grown s x = record {
     l = x.l;
     rule = x.rule;
-    is_listed = subst (λ (ls : List Link). Contains ls x.l) (sym taken) (Contains-append_left (take i links) (l ∷ []) x.l x.is_listed);
+    is_listed = subst (λ (ls : List Link). Contains ls x.l) (sym taken)
+        (Contains-append_left (take i links) (l ∷ []) x.l x.is_listed);
     reason = x.reason;
     has = x.has;
   }
@@ -68,8 +77,10 @@ module _ (rows : List (List ℕ)) (links : List Link) (i : ℕ) (l : Link) (low 
       keeps y = more s ∙ or_left (has_bit row s) (has_bit (get_or rows l.id.seq []) s) y
 
       here : (x : IsLinked rows (take (i + 1) links) s) → Contains (take i links) x.l ⊎ (l ≡ x.l) → Has row' s
-      here x (inl c) = keeps ((so s).1 (inr (record { l = x.l; rule = x.rule; is_listed = c; reason = x.reason; has = x.has })))
-      here x (inr is) = more s ∙ or_right (has_bit row s) (has_bit (get_or rows l.id.seq []) s) (subst (λ (m : Link). RowHas rows m.id.seq s) (sym is) x.has)
+      here x (inl c) = keeps ((so s).1 (inr
+          (record { l = x.l; rule = x.rule; is_listed = c; reason = x.reason; has = x.has })))
+      here x (inr is) = more s ∙ or_right (has_bit row s) (has_bit (get_or rows l.id.seq []) s)
+          (subst (λ (m : Link). RowHas rows m.id.seq s) (sym is) x.has)
 
       from : Has old s ⊎ IsLinked rows (take (i + 1) links) s → Has row' s
       from (inl y) = keeps ((so s).1 (inl y))
@@ -140,24 +151,45 @@ module _ (h : Hart) (e : Event) (rows : List (List ℕ)) (links : List Link) (g 
       }
 
   -- what leads to an event in a linked row is in it
-  linked_on : (a c : Event) → Contains log a → Contains log c → IsMemory c → Leads h.model log a c → IsLinked rows links c.id.seq → IsLinked rows links a.id.seq
+  linked_on : (a c : Event) → Contains log a → Contains log c → IsMemory c → Leads h.model log a c →
+      IsLinked rows links c.id.seq → IsLinked rows links a.id.seq
   linked_on a c ca cc memory leads x = record {
     l = x.l;
     rule = x.rule;
     is_listed = x.is_listed;
     reason = x.reason;
     has = (rows_closed h rows known g.mean).closed x.l.id.seq c.id.seq a.id.seq x.has
-        ((g.mean c.id.seq a.id.seq).1 (record { a = a; b = c; a_of_hart = ca; b_of_hart = cc; a_at = refl; b_at = refl; memory = memory; leads = leads }));
+        ((g.mean c.id.seq a.id.seq).1 (record {
+          a = a;
+          b = c;
+          a_of_hart = ca;
+          b_of_hart = cc;
+          a_at = refl;
+          b_at = refl;
+          memory = memory;
+          leads = leads;
+        }));
   }
 
   -- what stands in the row so far stands before the new event
-  pub row_sound : (row : List ℕ) → ((s : ℕ) → Has row s ↔ ((s ≡ e.id.seq) ⊎ IsLinked rows links s)) → (s : ℕ) → Has row s → IsBefore (hart_with h e) s e.id.seq
+  pub row_sound : (row : List ℕ) → ((s : ℕ) → Has row s ↔ ((s ≡ e.id.seq) ⊎ IsLinked rows links s)) → (s : ℕ) →
+      Has row s → IsBefore (hart_with h e) s e.id.seq
   row_sound row is s x = elim ((is s).0 x) [
-    | inl same ↦ record { a = e; b = e; a_of_hart = Contains-push log e; b_of_hart = Contains-push log e; a_at = sym same; b_at = refl; memory = g.memory; leads = inl refl }
+    | inl same ↦ record {
+      a = e;
+      b = e;
+      a_of_hart = Contains-push log e;
+      b_of_hart = Contains-push log e;
+      a_at = sym same;
+      b_at = refl;
+      memory = g.memory;
+      leads = inl refl;
+    }
     | inr y ↦ linked_before s y
   ]
 
-  module _ (row : List ℕ) (is : (s : ℕ) → Has row s ↔ ((s ≡ e.id.seq) ⊎ IsLinked rows links s)) (own : All (HasOwn row h.number) links) where
+  module _ (row : List ℕ) (is : (s : ℕ) → Has row s ↔ ((s ≡ e.id.seq) ⊎ IsLinked rows links s))
+      (own : All (HasOwn row h.number) links) where
     -- an old event that a link names
     linked_named : (c : Event) → Contains log c → Names links c.id → IsLinked rows links c.id.seq
     linked_named c cc (l, listed, same) = go ((is l.id.seq).0 has)
@@ -173,7 +205,8 @@ module _ (h : Hart) (e : Event) (rows : List (List ℕ)) (links : List Link) (g 
         go (inr x) = subst (IsLinked rows links) at x
 
     -- what a rule orders before the new event is in a linked row; the number is how many events are later at most
-    linked_by : (n k : ℕ) (c : Event) → length log ≤ n + c.id.seq → Rule h.model new k c e → IsLinked rows links c.id.seq
+    linked_by : (n k : ℕ) (c : Event) → length log ≤ n + c.id.seq → Rule h.model new k c e →
+        IsLinked rows links c.id.seq
     linked_by zero k c later r =
         let low = known.below c (rule-old h e g.fits k c r) in
         absurd (omega arith)
@@ -209,10 +242,13 @@ module _ (h : Hart) (e : Event) (rows : List (List ℕ)) (links : List Link) (g 
 
             go : Leads h.model new b.a b.b → (s ≡ e.id.seq) ⊎ IsLinked rows links s
             go (inl same) = inl (sym b.a_at ∙ ap (λ (y : Event). y.id.seq) (same ∙ end))
-            go (inr p) = inr (subst (IsLinked rows links) b.a_at (linked_from b.a (last_step h.model new b.a e (subst (λ (y : Event). Reaches h.model new b.a y) end p))))
+            go (inr p) = inr (subst (IsLinked rows links) b.a_at
+                (linked_from b.a (last_step h.model new b.a e
+                (subst (λ (y : Event). Reaches h.model new b.a y) end p))))
 
 -- an empty row into which the event was put, and then the rows that the links say
-pub row-begun : (rows : List (List ℕ)) (links : List Link) (n : ℕ) (empty one row : List ℕ) → ((s : ℕ) → has_bit empty s ≡ false) →
+pub row-begun : (rows : List (List ℕ)) (links : List Link) (n : ℕ) (empty one row : List ℕ) →
+    ((s : ℕ) → has_bit empty s ≡ false) →
     ((s : ℕ) → has_bit one s ≡ (has_bit empty s || (n == s))) → IsJoined rows links one row →
     (s : ℕ) → Has row s ↔ ((s ≡ n) ⊎ IsLinked rows links s)
 row-begun rows links n empty one row none with_n joined s = (

@@ -1,5 +1,6 @@
 -- The candidates, to which each rule has added what it orders, are enough.
-use Rattle.std.proofs.Common.{◌≡◌, ℕ, ◌+◌, ◌<◌, ◌≤◌, Bool, ◌||◌, ◌&&◌, ◌↔◌, IsTrue, List, length, Contains, ◌⊎◌, inl, inr, sym, refl, ◌∙◌, arith, subst}
+use Rattle.std.proofs.Common.{◌≡◌, ℕ, ◌+◌, ◌<◌, ◌≤◌, Bool, ◌||◌, ◌&&◌, ◌↔◌, IsTrue, List, length, Contains}
+use Rattle.std.proofs.Common.{◌⊎◌, inl, inr, sym, refl, ◌∙◌, arith, subst}
 use Rattle.std.proofs.lemmas.Bool.{or_cases, or_left, or_right, and_parts, and_from, cases_lt, cases_eq}
 use Rattle.rv_event.proofs.Conditions.{Condition-number, Condition-above}
 use Rattle.rv_event.specs.Operations.{IsLoad}
@@ -93,7 +94,8 @@ enough-added h e f first row overlaps added = record { sound = sound; enough = e
         }
 
 -- a candidate has a row, and stands in it
-pub candidates-own : (h : Hart) (e : Event) (f : Fits h e) (rows : List (List ℕ)) (all : List ℕ) → RowsMean h rows → length rows ≡ length h.events → IsEnough h e all → (b : ℕ) → Has all b → (b < length rows) × RowHas rows b b
+pub candidates-own : (h : Hart) (e : Event) (f : Fits h e) (rows : List (List ℕ)) (all : List ℕ) → RowsMean h rows →
+    length rows ≡ length h.events → IsEnough h e all → (b : ℕ) → Has all b → (b < length rows) × RowHas rows b b
 candidates-own h e f rows all mean count enough b x =
     let o = (enough.sound b x).1 in
     let low = f.known.below o.a o.of_hart in

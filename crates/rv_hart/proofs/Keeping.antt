@@ -1,5 +1,7 @@
 -- What is kept, with one more event and with one less.
-use Rattle.std.proofs.Common.{◌≡◌, ◌≢◌, ℕ, suc, ◌+◌, ◌-◌, ◌<◌, ◌≤◌, ◌↔◌, List, [], ◌∷◌, ◌++◌, length, get_or, take, Contains, All, sym, refl, ap, ◌∙◌, arith, subst, drop, take-append-drop, drop-cons, append_assoc, length-append}
+use Rattle.std.proofs.Common.{◌≡◌, ◌≢◌, ℕ, suc, ◌+◌, ◌-◌, ◌<◌, ◌≤◌, ◌↔◌, List, [], ◌∷◌, ◌++◌, length, get_or}
+use Rattle.std.proofs.Common.{take, Contains, All, sym, refl, ap, ◌∙◌, arith, subst, drop, take-append-drop}
+use Rattle.std.proofs.Common.{drop-cons, append_assoc, length-append}
 use Rattle.std.proofs.lemmas.List.{length_push, take_at}
 use Rattle.std.proofs.lemmas.List.Elements.{Contains-get_or, Contains-append_left}
 use Rattle.rv_event.specs.declared.event.Event.{Event}
@@ -16,7 +18,8 @@ use Rattle.rv_rows.specs.Closure.{RowHas}
 use Rattle.rv_hart.proofs.Tying.{rows-push, rows-front, none_has}
 
 -- what is kept of a hart, put together
-pub kept_from : (k : Kept) (h : Hart) → hart_of k ≡ h → IsHart h → RowsMean h k.rows → length k.rows ≡ length h.events → AreSets h k.sets → AreWords h.events k.words → IsKept k
+pub kept_from : (k : Kept) (h : Hart) → hart_of k ≡ h → IsHart h → RowsMean h k.rows → length k.rows ≡ length h.events →
+    AreSets h k.sets → AreWords h.events k.words → IsKept k
 kept_from k h is hart rows count sets words = record {
   hart = subst IsHart (sym is) hart;
   rows = subst (λ (x : Hart). RowsMean x k.rows) (sym is) rows;
@@ -26,21 +29,29 @@ kept_from k h is hart rows count sets words = record {
 }
 
 -- the same events and rows
-pub kept-same : (k k' : Kept) → IsKept k → hart_of k' ≡ hart_of k → k'.rows ≡ k.rows → k'.sets ≡ k.sets → AreWords k.events.items k'.words → IsKept k'
+pub kept-same : (k k' : Kept) → IsKept k → hart_of k' ≡ hart_of k → k'.rows ≡ k.rows → k'.sets ≡ k.sets →
+    AreWords k.events.items k'.words → IsKept k'
 kept-same k k' kept is rows sets words =
-    kept_from k' (hart_of k) is kept.hart (subst (RowsMean (hart_of k)) (sym rows) kept.rows) (ap (λ (rs : List (List ℕ)). length rs) rows ∙ kept.count) (subst (AreSets (hart_of k)) (sym sets) kept.sets) words
+    kept_from k' (hart_of k) is kept.hart (subst (RowsMean (hart_of k)) (sym rows) kept.rows)
+    (ap (λ (rs : List (List ℕ)). length rs) rows ∙ kept.count)
+    (subst (AreSets (hart_of k)) (sym sets) kept.sets) words
 
 -- one event more
-pub kept-pushed : (k k' : Kept) (e : Event) (row : List ℕ) → IsKept k → Follows (hart_of k) e → hart_of k' ≡ hart_with (hart_of k) e → k'.rows ≡ k.rows ++ row ∷ [] →
-    ((s : ℕ) → Has row s ↔ IsBefore (hart_with (hart_of k) e) s e.id.seq) → AreSets (hart_with (hart_of k) e) k'.sets → AreWords (k.events.items ++ e ∷ []) k'.words → IsKept k'
+pub kept-pushed : (k k' : Kept) (e : Event) (row : List ℕ) → IsKept k → Follows (hart_of k) e →
+    hart_of k' ≡ hart_with (hart_of k) e → k'.rows ≡ k.rows ++ row ∷ [] →
+    ((s : ℕ) → Has row s ↔ IsBefore (hart_with (hart_of k) e) s e.id.seq) → AreSets (hart_with (hart_of k) e) k'.sets →
+    AreWords (k.events.items ++ e ∷ []) k'.words → IsKept k'
 kept-pushed k k' e row kept follows is rows mean sets words =
     kept_from k' (hart_with (hart_of k) e) is (hart-push (hart_of k) e kept.hart follows)
-    (subst (RowsMean (hart_with (hart_of k) e)) (sym rows) (rows-push (hart_of k) e (fits_of (hart_of k) e kept.hart follows) k.rows row kept.count kept.rows mean))
-    (ap (λ (rs : List (List ℕ)). length rs) rows ∙ length_push k.rows row ∙ ap (λ (n : ℕ). n + 1) kept.count ∙ sym (length_push k.events.items e))
+    (subst (RowsMean (hart_with (hart_of k) e)) (sym rows)
+    (rows-push (hart_of k) e (fits_of (hart_of k) e kept.hart follows) k.rows row kept.count kept.rows mean))
+    (ap (λ (rs : List (List ℕ)). length rs) rows ∙ length_push k.rows row ∙ ap (λ (n : ℕ). n + 1) kept.count ∙
+    sym (length_push k.events.items e))
     sets words
 
 -- the numbers of the new event's row are at most its own
-pub row-low : (h : Hart) (e : Event) (f : Fits h e) (rows : List (List ℕ)) (row : List ℕ) → length rows ≡ length h.events →
+pub row-low : (h : Hart) (e : Event) (f : Fits h e) (rows : List (List ℕ)) (row : List ℕ) →
+    length rows ≡ length h.events →
     ((s : ℕ) → Has row s ↔ IsBefore (hart_with h e) s e.id.seq) → (j : ℕ) → Has row j → j ≤ length rows
 row-low h e f rows row count mean j x =
     let b = (mean j).0 x in
@@ -54,8 +65,11 @@ pub means-same : (h : Hart) (j : ℕ) (row last : List ℕ) → ((s : ℕ) → h
 means-same h j row last same mean s = (λ x. (mean s).0 (sym (same s) ∙ x), λ b. same s ∙ (mean s).1 b)
 
 -- one event less
-pub kept-popped : (k k' : Kept) (front : List Event) (e : Event) (before : List (List ℕ)) (row : List ℕ) → IsKept k → k.events.items ≡ front ++ e ∷ [] → k.rows ≡ before ++ row ∷ [] →
-    hart_of k' ≡ record { model = k.model; number = k.number; events = front } → k'.rows ≡ before → AreSets (record { model = k.model; number = k.number; events = front }) k'.sets → AreWords front k'.words → IsKept k'
+pub kept-popped : (k k' : Kept) (front : List Event) (e : Event) (before : List (List ℕ)) (row : List ℕ) → IsKept k →
+    k.events.items ≡ front ++ e ∷ [] → k.rows ≡ before ++ row ∷ [] →
+    hart_of k' ≡ record { model = k.model; number = k.number; events = front } → k'.rows ≡ before →
+    AreSets (record { model = k.model; number = k.number; events = front }) k'.sets →
+    AreWords front k'.words → IsKept k'
 kept-popped k k' front e before row kept events rows is rows' sets words =
     kept_from k' h is (hart-front (hart_of k) front e kept.hart events)
     (subst (RowsMean h) (sym rows') (rows-front h e fits before row count mean))
@@ -65,13 +79,23 @@ kept-popped k k' front e before row kept events rows is rows' sets words =
     h = record { model = k.model; number = k.number; events = front }
 
     fits : Fits (record { model = k.model; number = k.number; events = front }) e
-    fits = fits_of (record { model = k.model; number = k.number; events = front }) e (hart-front (hart_of k) front e kept.hart events) (hart-last (hart_of k) front e kept.hart events)
+    fits = fits_of (record { model = k.model; number = k.number; events = front }) e
+        (hart-front (hart_of k) front e kept.hart events) (hart-last (hart_of k) front e kept.hart events)
 
     count : length before ≡ length front
-    count = omega (arith, kept.count, ap (λ (rs : List (List ℕ)). length rs) rows, ap (λ (es : List Event). length es) events, length_push before row, length_push front e)
+    count = omega (
+      arith,
+      kept.count,
+      ap (λ (rs : List (List ℕ)). length rs) rows,
+      ap (λ (es : List Event). length es) events,
+      length_push before row,
+      length_push front e,
+    )
 
     mean : RowsMean (hart_with (record { model = k.model; number = k.number; events = front }) e) (before ++ row ∷ [])
-    mean = subst (RowsMean (hart_with (record { model = k.model; number = k.number; events = front }) e)) rows (subst (λ (es : List Event). RowsMean (record { model = k.model; number = k.number; events = es }) k.rows) events kept.rows)
+    mean = subst (RowsMean (hart_with (record { model = k.model; number = k.number; events = front }) e)) rows
+        (subst (λ (es : List Event). RowsMean (record { model = k.model; number = k.number; events = es }) k.rows)
+        events kept.rows)
 
 -- a list that is not empty has a last element
 pub split_last : {X : Type 0} (xs : List X) → 0 < length xs → (front : List X) × (x : X) × (xs ≡ front ++ x ∷ [])
@@ -86,13 +110,16 @@ some_length [] some = absurd (some refl)
 some_length (x ∷ xs) some = omega arith
 
 -- what is left when the last one is taken off
-pub rest-is : {X : Type 0} (xs front rest : List X) (x : X) (n : ℕ) → xs ≡ front ++ x ∷ [] → n ≡ length xs → rest ≡ take (n - 1) xs → rest ≡ front
+pub rest-is : {X : Type 0} (xs front rest : List X) (x : X) (n : ℕ) → xs ≡ front ++ x ∷ [] → n ≡ length xs →
+    rest ≡ take (n - 1) xs → rest ≡ front
 rest-is {X} xs front rest x n is count taken =
     let low : length front ≡ n - 1 = omega (arith, ap (λ (ys : List X). length ys) is, length_push front x) in
     taken ∙ ap (take (n - 1)) is ∙ take_at front (x ∷ []) (n - 1) low
 
 -- numbers and dependencies of a hart's events are below the limit
-pub small-events : (h : Hart) → Known h → (front : List Event) → ((a : Event) → Contains front a → Contains h.events a) → All (λ e. (e.id.seq < 4096) × All (λ d. d.seq < 4096) e.deps) front
+pub small-events : (h : Hart) → Known h → (front : List Event) →
+    ((a : Event) → Contains front a → Contains h.events a) →
+    All (λ e. (e.id.seq < 4096) × All (λ d. d.seq < 4096) e.deps) front
 small-events h known front sub k d low =
     let a : Event = get_or front k d in
     let ca : Contains h.events a = sub a (Contains-get_or front k d low) in
@@ -100,22 +127,30 @@ small-events h known front sub k d low =
     let few = known.few in
     (omega arith, deps-few h known a ca)
 
-pub in-front : (front : List Event) (e : Event) (xs : List Event) → xs ≡ front ++ e ∷ [] → (a : Event) → Contains front a → Contains xs a
-in-front front e xs is a c = subst (λ (es : List Event). Contains es a) (sym is) (Contains-append_left front (e ∷ []) a c)
+pub in-front : (front : List Event) (e : Event) (xs : List Event) → xs ≡ front ++ e ∷ [] → (a : Event) →
+    Contains front a → Contains xs a
+in-front front e xs is a c = subst (λ (es : List Event). Contains es a) (sym is)
+    (Contains-append_left front (e ∷ []) a c)
 
 -- the first events of a hart are a hart's, and each follows those before it
-pub hart-take : (h : Hart) → IsHart h → (i : ℕ) (e : Event) → i < length h.events → e ≡ get_or h.events i e → Follows (record h { events = take i h.events }) e
-hart-take h ok i e low is = ok (take i h.events) (drop (suc i) h.events) e (sym (take-append-drop i h.events) ∙ ap (λ (r : List Event). take i h.events ++ r) (drop-cons h.events i e low ∙ ap (λ (x : Event). x ∷ drop (suc i) h.events) (sym is)))
+pub hart-take : (h : Hart) → IsHart h → (i : ℕ) (e : Event) → i < length h.events → e ≡ get_or h.events i e →
+    Follows (record h { events = take i h.events }) e
+hart-take h ok i e low is = ok (take i h.events) (drop (suc i) h.events) e (sym (take-append-drop i h.events) ∙
+    ap (λ (r : List Event). take i h.events ++ r)
+    (drop-cons h.events i e low ∙ ap (λ (x : Event). x ∷ drop (suc i) h.events) (sym is)))
 
 pub hart-first : (h : Hart) → IsHart h → (i : ℕ) → IsHart (record h { events = take i h.events })
 hart-first h ok i before after x is =
-    ok before (after ++ drop i h.events) x (sym (take-append-drop i h.events) ∙ ap (λ (es : List Event). es ++ drop i h.events) is ∙ append_assoc before (x ∷ after) (drop i h.events))
+    ok before (after ++ drop i h.events) x (sym (take-append-drop i h.events) ∙
+    ap (λ (es : List Event). es ++ drop i h.events) is ∙ append_assoc before (x ∷ after) (drop i h.events))
 
 -- ---- no events
 pub hart-none : (model : MemoryModel) (number : ℕ) → IsHart (record { model = model; number = number; events = [] })
-hart-none model number before after e is = absurd (omega (arith, ap (λ (es : List Event). length es) is, length-append before (e ∷ after)))
+hart-none model number before after e is =
+    absurd (omega (arith, ap (λ (es : List Event). length es) is, length-append before (e ∷ after)))
 
-pub rows-none : (model : MemoryModel) (number : ℕ) (rows : List (List ℕ)) → rows ≡ [] → RowsMean (record { model = model; number = number; events = [] }) rows
+pub rows-none : (model : MemoryModel) (number : ℕ) (rows : List (List ℕ)) → rows ≡ [] →
+    RowsMean (record { model = model; number = number; events = [] }) rows
 rows-none model number rows nil j s = (
   λ x. absurd (none_has s (subst (λ (rs : List (List ℕ)). RowHas rs j s) nil x)),
   λ b. absurd (let c = b.b_of_hart in let low = c.1 in omega arith),

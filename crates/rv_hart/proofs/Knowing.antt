@@ -1,14 +1,18 @@
 -- What is known of the events of a hart, and of one that follows them.
-use Rattle.std.proofs.Common.{◌≡◌, ℕ, suc, ◌+◌, ◌<◌, ◌≤◌, ◌==◌, Bool, true, false, not, ◌||◌, nat_lt, List, [], ◌∷◌, ◌++◌, length, get_or, Contains, All, None, ◌⊎◌, inl, inr, refl, sym, ap, ◌∙◌, arith, subst, append-nil, append_assoc, eq-eqb}
+use Rattle.std.proofs.Common.{◌≡◌, ℕ, suc, ◌+◌, ◌<◌, ◌≤◌, ◌==◌, Bool, true, false, not, ◌||◌, nat_lt, List}
+use Rattle.std.proofs.Common.{[], ◌∷◌, ◌++◌, length, get_or, Contains, All, None, ◌⊎◌, inl, inr, refl, sym}
+use Rattle.std.proofs.Common.{ap, ◌∙◌, arith, subst, append-nil, append_assoc, eq-eqb}
 use Rattle.std.specs.List.{list_any}
 use Rattle.std.proofs.lemmas.Bool.{or_parts, not-false, ltb-true, cases_lt}
 use Rattle.std.proofs.lemmas.List.{get_or_at, get_or_append_left, length_push}
 use Rattle.std.proofs.lemmas.List.Elements.{Contains-get_or, Contains-push_cases, Contains-append_left}
 use Rattle.std.proofs.lemmas.Option.{same_Some}
 use Rattle.rv_event.proofs.Names.{Contains-cons, Contains-here, Contains-there}
-use Rattle.rv_event.proofs.Indexed.{Indexed, Sound, NoneOf, indexed-nil, lowest-none, fault_if-none, indexed-push, sound_of}
+use Rattle.rv_event.proofs.Indexed.{Indexed, Sound, NoneOf, indexed-nil, lowest-none, fault_if-none}
+use Rattle.rv_event.proofs.Indexed.{indexed-push, sound_of}
 use Rattle.rv_event.proofs.Pushed.{split_push}
-use Rattle.rv_event.specs.Faults.{event_fault, expected, first_faults, deps_fault, is_bad_dependency, names_no_value, admits}
+use Rattle.rv_event.specs.Faults.{event_fault, expected, first_faults, deps_fault, is_bad_dependency}
+use Rattle.rv_event.specs.Faults.{names_no_value, admits}
 use Rattle.rv_event.specs.Log.{of_hart, named, Earlier}
 use Rattle.rv_event.specs.declared.fault.Fault.TheVariants.{Dependency}
 use Rattle.rv_event.specs.declared.event.Dep.{Dep}
@@ -41,19 +45,27 @@ none_passes : {X : Type 0} (p : X → Bool) (xs : List X) (x : X) → list_any p
 none_passes p [] x e (k, l, is) = absurd (omega arith)
 none_passes {X} p (y ∷ ys) x e c =
     let parts : (p y ≡ false) × (list_any p ys ≡ false) = or_parts (p y) (list_any p ys) e in
-    elim (Contains-cons y ys x c) [ inl is ↦ subst (λ (z : X). p z ≡ false) is parts.0 | inr d ↦ none_passes p ys x parts.1 d ]
+    elim (Contains-cons y ys x c) [
+      | inl is ↦ subst (λ (z : X). p z ≡ false) is parts.0
+      | inr d ↦ none_passes p ys
+          x parts.1 d
+    ]
 
 -- without a fault an event depends on earlier numbers alone
 depends_below : (log : List Event) (e : Event) → event_fault log e ≡ None → DependsBelow e
 depends_below log e none d c =
-    let each : NoneOf (first_faults log e ++ deps_fault e ∷ []) = lowest-none (first_faults log e ++ deps_fault e ∷ []) none in
-    let off : is_bad_dependency log e d ≡ false = none_passes (is_bad_dependency log e) e.deps d (fault_if-none (list_any (is_bad_dependency log e) e.deps) Dependency each.1.1.0) c in
-    let first = (or_parts (not (nat_lt d.seq e.id.seq) || names_no_value log e.id.hart d.seq) (not (admits e.op d.kind)) off).0 in
+    let each : NoneOf (first_faults log e ++ deps_fault e ∷ []) =
+    lowest-none (first_faults log e ++ deps_fault e ∷ []) none in
+    let off : is_bad_dependency log e d ≡ false = none_passes (is_bad_dependency log e) e.deps d
+    (fault_if-none (list_any (is_bad_dependency log e) e.deps) Dependency each.1.1.0) c in
+    let first = (or_parts (not (nat_lt d.seq e.id.seq) || names_no_value log e.id.hart d.seq)
+    (not (admits e.op d.kind)) off).0 in
     let low = (or_parts (not (nat_lt d.seq e.id.seq)) (names_no_value log e.id.hart d.seq) first).0 in
     ltb-true d.seq e.id.seq (not-false (nat_lt d.seq e.id.seq) low)
 
 -- where all events are of one hart, they are the hart's events
-own-length : (hart : ℕ) (xs : List Event) → ((a : Event) → Contains xs a → a.id.hart ≡ hart) → length (of_hart hart xs) ≡ length xs
+own-length : (hart : ℕ) (xs : List Event) → ((a : Event) → Contains xs a → a.id.hart ≡ hart) →
+    length (of_hart hart xs) ≡ length xs
 own-length hart [] own = refl
 own-length hart (x ∷ xs) own =
     let again : length (of_hart hart xs) ≡ length xs = own-length hart xs (λ a c. own a (Contains-there x xs a c)) in
@@ -63,7 +75,8 @@ own-length hart (x ∷ xs) own =
 pub fits_from : (h : Hart) (e : Event) → Known h → Follows h e → Fits h e
 fits_from h e known follows =
     let sound : Sound h.events e = sound_of h.events e follows.sound in
-    let count : expected h.events e ≡ length h.events = ap (λ (n : ℕ). length (of_hart n h.events)) follows.hart ∙ own-length h.number h.events known.own in
+    let count : expected h.events e ≡ length h.events = ap (λ (n : ℕ). length (of_hart n h.events)) follows.hart ∙
+    own-length h.number h.events known.own in
     let seq : e.id.seq ≡ expected h.events e = sound.seq in
     let room : expected h.events e < 4096 = sound.room in
     record {
@@ -80,7 +93,8 @@ module _ (h : Hart) (e : Event) (f : Fits h e) where
   grown = length_push h.events e
 
   own' : (a : Event) → Contains (followed h e) a → a.id.hart ≡ h.number
-  own' a c = elim (Contains-push_cases h.events e a c) [ inl old ↦ f.known.own a old | inr is ↦ subst (λ (x : Event). x.id.hart ≡ h.number) is f.hart ]
+  own' a c = elim (Contains-push_cases h.events e a c)
+      [ inl old ↦ f.known.own a old | inr is ↦ subst (λ (x : Event). x.id.hart ≡ h.number) is f.hart ]
 
   at' : (s : ℕ) (d : Event) → s < length (followed h e) → (get_or (followed h e) s d).id.seq ≡ s
   at' s d low = go (cases_lt s (length h.events))
@@ -96,10 +110,12 @@ module _ (h : Hart) (e : Event) (f : Fits h e) where
     where
       go : Contains h.events a ⊎ (e ≡ a) → a.id.seq < length (followed h e)
       go (inl old) = let low = f.known.below a old in omega (arith, grown)
-      go (inr is) = let same : e.id.seq ≡ a.id.seq = ap (λ (x : Event). x.id.seq) is in let at = f.seq in omega (arith, grown)
+      go (inr is) = let same : e.id.seq ≡ a.id.seq = ap (λ (x : Event). x.id.seq) is in let at = f.seq in
+          omega (arith, grown)
 
   deps' : (a : Event) → Contains (followed h e) a → DependsBelow a
-  deps' a c = elim (Contains-push_cases h.events e a c) [ inl old ↦ f.known.deps a old | inr is ↦ subst DependsBelow is f.deps ]
+  deps' a c = elim (Contains-push_cases h.events e a c)
+      [ inl old ↦ f.known.deps a old | inr is ↦ subst DependsBelow is f.deps ]
 
   pub known_with : Known (hart_with h e)
   known_with = record {
@@ -121,11 +137,14 @@ known-nil h = record {
   deps = λ a c. absurd (let l = c.1 in omega arith);
 }
 
-known_from : (h : Hart) (before rest : List Event) → IsHart h → h.events ≡ before ++ rest → Known (record h { events = before }) → Known h
-known_from h before [] ok is known = subst (λ (es : List Event). Known (record h { events = es })) (sym (is ∙ append-nil before)) known
+known_from : (h : Hart) (before rest : List Event) → IsHart h → h.events ≡ before ++ rest →
+    Known (record h { events = before }) → Known h
+known_from h before [] ok is known = subst (λ (es : List Event). Known (record h { events = es }))
+    (sym (is ∙ append-nil before)) known
 known_from h before (e ∷ rest) ok is known =
     known_from h (before ++ e ∷ []) rest ok (is ∙ sym (append_assoc before (e ∷ []) rest))
-    (known_with (record h { events = before }) e (fits_from (record h { events = before }) e known (ok before rest e is)))
+    (known_with (record h { events = before }) e
+    (fits_from (record h { events = before }) e known (ok before rest e is)))
 
 pub known_of : (h : Hart) → IsHart h → Known h
 known_of h ok = known_from h [] h.events ok refl (known-nil h)
@@ -136,19 +155,25 @@ fits_of h e ok follows = fits_from h e (known_of h ok) follows
 pub hart-push : (h : Hart) (e : Event) → IsHart h → Follows h e → IsHart (hart_with h e)
 hart-push h e ok follows before after x is = go (split_push h.events e before after x is)
   where
-    go : ((h.events ≡ before) × (e ≡ x)) ⊎ ((rest : List Event) × (h.events ≡ before ++ x ∷ rest)) → Follows (record h { events = before }) x
-    go (inl (same, new)) = subst (λ (y : Event). Follows (record h { events = before }) y) new (subst (λ (es : List Event). Follows (record h { events = es }) e) same follows)
+    go : ((h.events ≡ before) × (e ≡ x)) ⊎ ((rest : List Event) × (h.events ≡ before ++ x ∷ rest)) →
+        Follows (record h { events = before }) x
+    go (inl (same, new)) = subst (λ (y : Event). Follows (record h { events = before }) y) new
+        (subst (λ (es : List Event). Follows (record h { events = es }) e) same follows)
     go (inr (rest, same)) = ok before rest x same
 
-pub hart-front : (h : Hart) (front : List Event) (e : Event) → IsHart h → h.events ≡ front ++ e ∷ [] → IsHart (record h { events = front })
+pub hart-front : (h : Hart) (front : List Event) (e : Event) → IsHart h → h.events ≡ front ++ e ∷ [] →
+    IsHart (record h { events = front })
 hart-front h front e ok is before after x cut =
-    ok before (after ++ e ∷ []) x (is ∙ ap (λ (es : List Event). es ++ e ∷ []) cut ∙ append_assoc before (x ∷ after) (e ∷ []))
+    ok before (after ++ e ∷ []) x (is ∙ ap (λ (es : List Event). es ++ e ∷ []) cut ∙
+    append_assoc before (x ∷ after) (e ∷ []))
 
-pub hart-last : (h : Hart) (front : List Event) (e : Event) → IsHart h → h.events ≡ front ++ e ∷ [] → Follows (record h { events = front }) e
+pub hart-last : (h : Hart) (front : List Event) (e : Event) → IsHart h → h.events ≡ front ++ e ∷ [] →
+    Follows (record h { events = front }) e
 hart-last h front e ok is = ok front [] e is
 
 -- events of one number are one event
-pub same_event : (h : Hart) → Known h → (a b : Event) → Contains h.events a → Contains h.events b → a.id.seq ≡ b.id.seq → a ≡ b
+pub same_event : (h : Hart) → Known h → (a b : Event) → Contains h.events a → Contains h.events b →
+    a.id.seq ≡ b.id.seq → a ≡ b
 same_event h known a b ca cb seq =
     let hart : a.id.hart ≡ b.id.hart = known.own a ca ∙ sym (known.own b cb) in
     let same : a.id ≡ b.id = grind arith in
@@ -158,7 +183,8 @@ same_event h known a b ca cb seq =
 pub event_at : (h : Hart) → Known h → (a d : Event) → Contains h.events a → get_or h.events a.id.seq d ≡ a
 event_at h known a d ca =
     let low = known.below a ca in
-    same_event h known (get_or h.events a.id.seq d) a (Contains-get_or h.events a.id.seq d low) ca (known.at a.id.seq d low)
+    same_event h known (get_or h.events a.id.seq d) a (Contains-get_or h.events a.id.seq d low) ca
+    (known.at a.id.seq d low)
 
 -- what follows is after each event
 pub follows_all : (h : Hart) (e : Event) → Fits h e → (a : Event) → Contains h.events a → Earlier a e
@@ -168,17 +194,20 @@ follows_all h e f a c =
     record { hart = f.known.own a c ∙ sym f.hart; seq = omega arith }
 
 -- an event that is earlier than what follows is an old one
-pub earlier_old : (h : Hart) (e : Event) → Fits h e → (m : Event) → Contains (followed h e) m → Earlier m e → Contains h.events m
+pub earlier_old : (h : Hart) (e : Event) → Fits h e → (m : Event) → Contains (followed h e) m → Earlier m e →
+    Contains h.events m
 earlier_old h e f m c earlier = elim (Contains-push_cases h.events e m c) [
   | inl old ↦ old
-  | inr is ↦ (let same : e.id.seq ≡ m.id.seq = ap (λ (x : Event). x.id.seq) is in let low = earlier.seq in absurd (omega arith))
+  | inr is ↦ (let same : e.id.seq ≡ m.id.seq = ap (λ (x : Event). x.id.seq) is in let low = earlier.seq in
+      absurd (omega arith))
 ]
 
 pub old_new : (h : Hart) (e a : Event) → Contains h.events a → Contains (followed h e) a
 old_new h e a c = Contains-append_left h.events (e ∷ []) a c
 
 -- what is read at an event's number is the event
-pub read_is : (h : Hart) → Known h → (w x : Event) (n : ℕ) → Contains h.events w → w.id.seq ≡ n → x ≡ get_or h.events n x → x ≡ w
+pub read_is : (h : Hart) → Known h → (w x : Event) (n : ℕ) → Contains h.events w → w.id.seq ≡ n →
+    x ≡ get_or h.events n x → x ≡ w
 read_is h known w x n cw at read = read ∙ ap (λ (k : ℕ). get_or h.events k x) (sym at) ∙ event_at h known w x cw
 
 -- an event's number is below the limit on numbers
@@ -191,7 +220,8 @@ number-few h known a ca =
 -- dependencies stand below the limit on numbers
 pub deps-few : (h : Hart) → Known h → (w : Event) → Contains h.events w → All (λ d. d.seq < 4096) w.deps
 deps-few h known w cw k d low =
-    let below : (get_or w.deps k d).seq < w.id.seq = known.deps w cw (get_or w.deps k d) (Contains-get_or w.deps k d low) in
+    let below : (get_or w.deps k d).seq < w.id.seq =
+    known.deps w cw (get_or w.deps k d) (Contains-get_or w.deps k d low) in
     let within = known.below w cw in
     let few = known.few in
     omega arith

@@ -1,5 +1,7 @@
 -- The lowest rules of candidates, and the links of the listed ones.
-use Rattle.std.proofs.Common.{◌≡◌, ℕ, ◌+◌, ◌<◌, ◌≤◌, false, ◌||◌, ◌==◌, ◌↔◌, List, [], ◌∷◌, ◌++◌, length, get_or, Contains, ◌⊎◌, Some, None, inl, inr, sym, refl, ap, ◌∙◌, arith, subst, eqb-true, eq-eqb}
+use Rattle.std.proofs.Common.{◌≡◌, ℕ, ◌+◌, ◌<◌, ◌≤◌, false, ◌||◌, ◌==◌, ◌↔◌, List, [], ◌∷◌, ◌++◌, length}
+use Rattle.std.proofs.Common.{get_or, Contains, ◌⊎◌, Some, None, inl, inr, sym, refl, ap, ◌∙◌, arith, subst}
+use Rattle.std.proofs.Common.{eqb-true, eq-eqb}
 use Rattle.std.proofs.lemmas.Bool.{or_cases, or_left, or_right, false≢true, cases_lt}
 use Rattle.std.proofs.lemmas.List.Elements.{Contains-push_cases, Contains-push, Contains-append_left}
 use Rattle.std.proofs.lemmas.Option.{same_Some}
@@ -82,21 +84,32 @@ links-none h e links nil = record {
   all = λ n c. absurd (let low = c.1 in omega arith);
 }
 
-links-more : (h : Hart) (e : Event) (taken : List ℕ) (n k : ℕ) (links links' : List Link) → AreLinksOf h e taken links → IsLowestRule h e n k →
-    links' ≡ links ++ record { id = record { hart = h.number; seq = n }; reason = Preserved k } ∷ [] → AreLinksOf h e (taken ++ n ∷ []) links'
+links-more : (h : Hart) (e : Event) (taken : List ℕ) (n k : ℕ) (links links' : List Link) → AreLinksOf h e taken links →
+    IsLowestRule h e n k →
+    links' ≡ links ++ record { id = record { hart = h.number; seq = n }; reason = Preserved k } ∷ [] →
+    AreLinksOf h e (taken ++ n ∷ []) links'
 links-more h e taken n k links links' so lowest more = record { each = each; all = all }
   where
     mine : IsLinkOf h e (taken ++ n ∷ []) (record { id = record { hart = h.number; seq = n }; reason = Preserved k })
     mine = record { rule = k; reason = refl; hart = refl; is_taken = Contains-push taken n; lowest = lowest }
 
     old : (l : Link) → IsLinkOf h e taken l → IsLinkOf h e (taken ++ n ∷ []) l
-    old l x = record { rule = x.rule; reason = x.reason; hart = x.hart; is_taken = Contains-append_left taken (n ∷ []) l.id.seq x.is_taken; lowest = x.lowest }
+    old l x = record {
+      rule = x.rule;
+      reason = x.reason;
+      hart = x.hart;
+      is_taken = Contains-append_left taken
+          (n ∷ []) l.id.seq x.is_taken;
+      lowest = x.lowest;
+    }
 
     each : (l : Link) → Contains links' l → IsLinkOf h e (taken ++ n ∷ []) l
-    each l c = elim (Contains-push_cases links (record { id = record { hart = h.number; seq = n }; reason = Preserved k }) l (subst (λ (ls : List Link). Contains ls l) more c)) [
-      | inl before ↦ old l (so.each l before)
-      | inr same ↦ subst (IsLinkOf h e (taken ++ n ∷ [])) same mine
-    ]
+    each l c = elim (Contains-push_cases links
+        (record { id = record { hart = h.number; seq = n }; reason = Preserved k }) l
+        (subst (λ (ls : List Link). Contains ls l) more c)) [
+          | inl before ↦ old l (so.each l before)
+          | inr same ↦ subst (IsLinkOf h e (taken ++ n ∷ [])) same mine
+        ]
 
     grown : (l : Link) → Contains links l → Contains links' l
     grown l c = subst (λ (ls : List Link). Contains ls l) (sym more) (Contains-append_left links _ l c)
@@ -104,7 +117,13 @@ links-more h e taken n k links links' so lowest more = record { each = each; all
     all : (m : ℕ) → Contains (taken ++ n ∷ []) m → Names links' (record { hart = h.number; seq = m })
     all m c = elim (Contains-push_cases taken n m c) [
       | inl before ↦ (let x = so.all m before in (x.0, grown x.0 x.1, x.2))
-      | inr same ↦ (record { id = record { hart = h.number; seq = n }; reason = Preserved k }, subst (λ (ls : List Link). Contains ls (record { id = record { hart = h.number; seq = n }; reason = Preserved k })) (sym more) (Contains-push links _), ap (λ (x : ℕ). record { hart = h.number; seq = x }) same)
+      | inr same ↦ (
+        record { id = record { hart = h.number; seq = n }; reason = Preserved k },
+        subst (λ (ls : List Link). Contains ls
+            (record { id = record { hart = h.number; seq = n }; reason = Preserved k })) (sym more)
+            (Contains-push links _),
+        ap (λ (x : ℕ). record { hart = h.number; seq = x }) same,
+      )
     ]
 
 -- ---- a rule between numbers and between names
@@ -136,20 +155,34 @@ module _ (h : Hart) (e : Event) (f : Fits h e) where
       record { a = p.a; of_hart = rule-old h e f k p.a rule; at = ap (λ (x : Id). x.seq) (sym first.1); rule = rule }
 
 -- ---- all links
-module _ (h : Hart) (e : Event) (f : Fits h e) (memory : IsMemory e) (rows : List (List ℕ)) (mean : RowsMean h rows) (candidates taken : List ℕ) (enough : IsEnough h e candidates) (thinned : IsThinned rows candidates taken) where
+module _ (h : Hart) (e : Event) (f : Fits h e) (memory : IsMemory e) (rows : List (List ℕ)) (mean : RowsMean h rows)
+    (candidates taken : List ℕ) (enough : IsEnough h e candidates) (thinned : IsThinned rows candidates taken) where
   links-are : (links : List Link) → AreLinksOf h e taken links → AreRuleLinks h e links
   links-are links so = record {
-    rules = λ l c. (let x = so.each l c in record { rule = x.rule; reason = x.reason; preserved = preserved_of h e f x.rule l.id x.hart x.lowest.ordered });
-    lowest = λ l c. (let x = so.each l c in subst (λ (r : Reason). IsLowest h.model (followed h e) l.id r e.id) (sym x.reason) (λ j low p. x.lowest.lowest j low (ordered_of h e f j l.id p)));
+    rules = λ l c. (let x = so.each l c in
+        record {
+          rule = x.rule;
+          reason = x.reason;
+          preserved = preserved_of h e f x.rule l.id x.hart x.lowest.ordered;
+        });
+    lowest = λ l c. (let x = so.each l c in subst (λ (r : Reason). IsLowest h.model (followed h e) l.id r e.id)
+        (sym x.reason) (λ j low p. x.lowest.lowest j low (ordered_of h e f j l.id p)));
     carried = λ k a ca r. elim (carried h e f rows candidates taken memory mean enough thinned k a ca r) [
-      | inl c ↦ inl (let x = so.all a.id.seq c in (x.0, x.1, x.2 ∙ (let hart : h.number ≡ a.id.hart = sym (f.known.own a ca) in ap (λ (n : ℕ). record { hart = n; seq = a.id.seq }) hart)))
+      | inl c ↦ inl (let x = so.all a.id.seq c in (
+        x.0,
+        x.1,
+        x.2 ∙ (let hart : h.number ≡ a.id.hart = sym (f.known.own a ca) in
+            ap (λ (n : ℕ). record { hart = n; seq = a.id.seq }) hart),
+      ))
       | inr s ↦ inr s
     ];
-    unsplit = λ k a c ca cc l r q. unsplit h e f rows candidates taken memory mean enough thinned a c cc (so.each (record { id = a.id; reason = Preserved k }) l).is_taken r q;
+    unsplit = λ k a c ca cc l r q. unsplit h e f rows candidates taken memory mean enough thinned a c cc
+        (so.each (record { id = a.id; reason = Preserved k }) l).is_taken r q;
   }
 
   -- a row with the new event into which the rows of what was taken are joined
-  row-swept : (old one row : List ℕ) → ((s : ℕ) → has_bit one s ≡ (has_bit old s || (e.id.seq == s))) → Gathers rows one taken row →
+  row-swept : (old one row : List ℕ) → ((s : ℕ) → has_bit one s ≡ (has_bit old s || (e.id.seq == s))) →
+      Gathers rows one taken row →
       (s : ℕ) → Has row s ↔ (Has old s ⊎ IsBefore (hart_with h e) s e.id.seq)
   row-swept old one row more gathers s = (to, from)
     where
@@ -167,7 +200,8 @@ module _ (h : Hart) (e : Event) (f : Fits h e) (memory : IsMemory e) (rows : Lis
 
       before : IsReached rows taken s ⊎ (s ≡ e.id.seq) → Has row s
       before (inl y) = (gathers s).1 (inr y)
-      before (inr y) = (gathers s).1 (inl (more s ∙ or_right (has_bit old s) (e.id.seq == s) (eq-eqb e.id.seq s (sym y))))
+      before (inr y) = (gathers s).1 (inl
+          (more s ∙ or_right (has_bit old s) (e.id.seq == s) (eq-eqb e.id.seq s (sym y))))
 
       from : Has old s ⊎ IsBefore (hart_with h e) s e.id.seq → Has row s
       from (inl y) = (gathers s).1 (inl (more s ∙ or_left (has_bit old s) (e.id.seq == s) y))
@@ -183,7 +217,8 @@ pub record Sweeping (h : Hart) (e : Event) (rows : List (List ℕ)) (first : Lis
   pub enough : IsEnough h e first
 
 -- what the sweep has taken so far has these links
-pub record IsListing (h : Hart) (e : Event) (rows : List (List ℕ)) (first left : List ℕ) (top : ℕ) (links : List Link) : Type 0 where
+pub record IsListing (h : Hart) (e : Event) (rows : List (List ℕ)) (first left : List ℕ) (top : ℕ)
+    (links : List Link) : Type 0 where
   pub taken : List ℕ
   pub swept : Swept rows first left taken top
   pub within : top ≤ length rows
@@ -206,17 +241,27 @@ module _ (h : Hart) (e : Event) (rows : List (List ℕ)) (first : List ℕ) (g :
   begun : Swept rows first first [] (length rows)
   begun = swept-init rows first (length rows) (λ b x. (own b x).0)
 
-  next : (left left' taken : List ℕ) (top b : ℕ) → Swept rows first left taken top → IsTaken rows left (Some b) left' → Swept rows first left' (taken ++ b ∷ []) b
-  next left left' taken top b swept is = swept-step rows first left left' taken top b (rows_closed h rows g.fits.known g.mean) (λ j x. (own j x).1) swept is.0 is.1
+  next : (left left' taken : List ℕ) (top b : ℕ) → Swept rows first left taken top → IsTaken rows left (Some b) left' →
+      Swept rows first left' (taken ++ b ∷ []) b
+  next left left' taken top b swept is = swept-step rows first left left' taken top b
+      (rows_closed h rows g.fits.known g.mean) (λ j x. (own j x).1) swept is.0 is.1
 
   pub listing-begun : (links : List Link) → links ≡ [] → IsListing h e rows first first (length rows) links
-  listing-begun links nil = record { taken = []; swept = begun; within = omega arith; listed = links-none h e links nil }
+  listing-begun links nil = record {
+    taken = [];
+    swept = begun;
+    within = omega arith;
+    listed = links-none h e links nil;
+  }
 
-  pub listing-candidate : (left left' : List ℕ) (top b : ℕ) (links : List Link) → IsListing h e rows first left top links → IsTaken rows left (Some b) left' → IsCandidate h e b
+  pub listing-candidate : (left left' : List ℕ) (top b : ℕ) (links : List Link) →
+      IsListing h e rows first left top links → IsTaken rows left (Some b) left' → IsCandidate h e b
   listing-candidate left left' top b links so is = g.enough.sound b (so.swept.sub b is.0.1)
 
-  pub listing-more : (left left' : List ℕ) (top b k : ℕ) (links links' : List Link) → IsListing h e rows first left top links → IsTaken rows left (Some b) left' → IsLowestRule h e b k →
-      links' ≡ links ++ record { id = record { hart = h.number; seq = b }; reason = Preserved k } ∷ [] → IsListing h e rows first left' b links'
+  pub listing-more : (left left' : List ℕ) (top b k : ℕ) (links links' : List Link) →
+      IsListing h e rows first left top links → IsTaken rows left (Some b) left' → IsLowestRule h e b k →
+      links' ≡ links ++ record { id = record { hart = h.number; seq = b }; reason = Preserved k } ∷ [] →
+      IsListing h e rows first left' b links'
   listing-more left left' top b k links links' so is lowest more = record {
     taken = so.taken ++ b ∷ [];
     swept = next left left' so.taken top b so.swept is;
@@ -224,15 +269,19 @@ module _ (h : Hart) (e : Event) (rows : List (List ℕ)) (first : List ℕ) (g :
     listed = links-more h e so.taken b k links links' so.listed lowest more;
   }
 
-  pub listing-done : (left left' : List ℕ) (top : ℕ) (links : List Link) → IsListing h e rows first left top links → IsTaken rows left None left' → AreRuleLinks h e links
+  pub listing-done : (left left' : List ℕ) (top : ℕ) (links : List Link) → IsListing h e rows first left top links →
+      IsTaken rows left None left' → AreRuleLinks h e links
   listing-done left left' top links so is =
-      links-are h e g.fits g.memory rows g.mean first so.taken g.enough (swept-done rows first left so.taken top so.swept is.0) links so.listed
+      links-are h e g.fits g.memory rows g.mean first so.taken g.enough
+      (swept-done rows first left so.taken top so.swept is.0) links so.listed
 
   pub gathering-begun : (row : List ℕ) → IsGathering rows first first (length rows) row row
   gathering-begun row = record { taken = []; swept = begun; within = omega arith; gathers = gathers-none rows row }
 
-  pub gathering-more : (left left' : List ℕ) (top b : ℕ) (base row row' : List ℕ) → IsGathering rows first left top base row → IsTaken rows left (Some b) left' →
-      ((s : ℕ) → has_bit row' s ≡ (has_bit row s || has_bit (get_or rows b []) s)) → IsGathering rows first left' b base row'
+  pub gathering-more : (left left' : List ℕ) (top b : ℕ) (base row row' : List ℕ) →
+      IsGathering rows first left top base row → IsTaken rows left (Some b) left' →
+      ((s : ℕ) → has_bit row' s ≡ (has_bit row s || has_bit (get_or rows b []) s)) →
+      IsGathering rows first left' b base row'
   gathering-more left left' top b base row row' so is more = record {
     taken = so.taken ++ b ∷ [];
     swept = next left left' so.taken top b so.swept is;
@@ -240,10 +289,13 @@ module _ (h : Hart) (e : Event) (rows : List (List ℕ)) (first : List ℕ) (g :
     gathers = gathers-step rows base so.taken row row' b so.gathers more;
   }
 
-  pub gathering-done : (left left' : List ℕ) (top : ℕ) (old one row : List ℕ) → IsGathering rows first left top one row → IsTaken rows left None left' →
-      ((s : ℕ) → has_bit one s ≡ (has_bit old s || (e.id.seq == s))) → (s : ℕ) → Has row s ↔ (Has old s ⊎ IsBefore (hart_with h e) s e.id.seq)
+  pub gathering-done : (left left' : List ℕ) (top : ℕ) (old one row : List ℕ) →
+      IsGathering rows first left top one row → IsTaken rows left None left' →
+      ((s : ℕ) → has_bit one s ≡ (has_bit old s || (e.id.seq == s))) → (s : ℕ) → Has row s ↔
+      (Has old s ⊎ IsBefore (hart_with h e) s e.id.seq)
   gathering-done left left' top old one row so is more =
-      row-swept h e g.fits g.memory rows g.mean first so.taken g.enough (swept-done rows first left so.taken top so.swept is.0) old one row more so.gathers
+      row-swept h e g.fits g.memory rows g.mean first so.taken g.enough
+      (swept-done rows first left so.taken top so.swept is.0) old one row more so.gathers
 
 -- what is no memory operation has no links and an empty row
 module _ (h : Hart) (e : Event) (f : Fits h e) (none : IsMemory e → ⊥) where
@@ -258,8 +310,10 @@ module _ (h : Hart) (e : Event) (f : Fits h e) (none : IsMemory e → ⊥) where
       empty : (l : Link) → Contains links l → ⊥
       empty l c = let d = subst (λ (ls : List Link). Contains ls l) nil c in let low = d.1 in omega arith
 
-  pub row-nothing : (row : List ℕ) → ((s : ℕ) → has_bit row s ≡ false) → (s : ℕ) → Has row s ↔ IsBefore (hart_with h e) s e.id.seq
+  pub row-nothing : (row : List ℕ) → ((s : ℕ) → has_bit row s ≡ false) → (s : ℕ) → Has row s ↔
+      IsBefore (hart_with h e) s e.id.seq
   row-nothing row lacks s = (
     λ x. absurd (false≢true (sym (lacks s) ∙ x)),
-    λ b. absurd (none (subst IsMemory (same_event (hart_with h e) (known_with h e f) b.b e b.b_of_hart (Contains-push h.events e) b.b_at) b.memory)),
+    λ b. absurd (none (subst IsMemory (same_event (hart_with h e) (known_with h e f) b.b e b.b_of_hart
+        (Contains-push h.events e) b.b_at) b.memory)),
   )

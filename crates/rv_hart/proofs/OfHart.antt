@@ -1,5 +1,7 @@
 -- What the rules say of two events of one hart, they say over the hart's events alone.
-use Rattle.std.proofs.Common.{◌≡◌, ◌≢◌, ℕ, Bool, true, false, ◌==◌, cond, List, [], ◌∷◌, ◌++◌, filter, find, Contains, All, Any, Some, None, refl, sym, ap, ◌∙◌, subst, eqb-true, eq-eqb, IsFalse, IsTrue, option_map}
+use Rattle.std.proofs.Common.{◌≡◌, ◌≢◌, ℕ, Bool, true, false, ◌==◌, cond, List, [], ◌∷◌, ◌++◌, filter, find}
+use Rattle.std.proofs.Common.{Contains, All, Any, Some, None, refl, sym, ap, ◌∙◌, subst, eqb-true, eq-eqb}
+use Rattle.std.proofs.Common.{IsFalse, IsTrue, option_map}
 use Rattle.std.specs.List.{list_any}
 use Rattle.std.proofs.lemmas.Option.{none-some}
 use Rattle.std.proofs.lemmas.List.Elements.{All-contains, All-filter, filter_passes, filter-append}
@@ -9,9 +11,14 @@ use Rattle.rv_event.proofs.Growing.{Any-contains, Any-from_contains, All-from_co
 use Rattle.rv_event.specs.Operations.{IsStore, is_store, is_exclusive}
 use Rattle.rv_event.specs.Log.{same_id, named, of_hart, writer, did_write, Between}
 use Rattle.rv_event.specs.Relations.{Paired, DependsOn, fence_orders}
-use Rattle.rv_event.specs.Preserved.{Condition, overlapping_store, different_reads, reads_atomic_write, fenced, after_acquire, before_release, both_rcsc, paired, address, data_of, control, reads_dependent_write, after_dependent_address, IsDependentWrite, Rule, IsPreserved}
+use Rattle.rv_event.specs.Preserved.{Condition, overlapping_store, different_reads, reads_atomic_write}
+use Rattle.rv_event.specs.Preserved.{fenced, after_acquire, before_release, both_rcsc, paired, address}
+use Rattle.rv_event.specs.Preserved.{data_of, control, reads_dependent_write, after_dependent_address}
+use Rattle.rv_event.specs.Preserved.{IsDependentWrite, Rule, IsPreserved}
 use Rattle.rv_event.specs.Edges.{IsLowest, IsStale}
-use Rattle.rv_event.specs.Faults.{first_faults, deps_fault, event_fault, is_bad_dependency, taken_fault, is_reserved, dependency_fault, sequence_fault, reservation_fault, full_fault}
+use Rattle.rv_event.specs.Faults.{first_faults, deps_fault, event_fault, is_bad_dependency, taken_fault}
+use Rattle.rv_event.specs.Faults.{is_reserved, dependency_fault, sequence_fault, reservation_fault}
+use Rattle.rv_event.specs.Faults.{full_fault}
 use Rattle.rv_event.specs.declared.event.Id.{Id}
 use Rattle.rv_event.specs.declared.event.Dep.{Dep}
 use Rattle.rv_event.specs.declared.event.DepKind.TheVariants.{Addr, Ctrl}
@@ -24,24 +31,30 @@ use Rattle.rv_cover.specs.Paths.{AnyRule, Reaches}
 use Rattle.rv_cover.proofs.Covering.{path-map}
 
 -- what a hart's events are
-pub own_contains : (log : List Event) (h : ℕ) (a : Event) → Contains (of_hart h log) a → Contains log a × (a.id.hart ≡ h)
+pub own_contains : (log : List Event) (h : ℕ) (a : Event) → Contains (of_hart h log) a → Contains log a ×
+    (a.id.hart ≡ h)
 own_contains log h a c =
     let p : Event → Bool = λ x. h == x.id.hart in
     let in_log : Contains log a =
-    All-contains (λ x. Contains log x) (filter p log) a (All-filter p (λ x. Contains log x) log (All-from_contains (λ x. Contains log x) log (λ x d. d))) c in
+    All-contains (λ x. Contains log x) (filter p log) a
+    (All-filter p (λ x. Contains log x) log (All-from_contains (λ x. Contains log x) log (λ x d. d))) c in
     let passes : (h == a.id.hart) ≡ true = All-contains (λ x. p x ≡ true) (filter p log) a (filter_passes p log) c in
     (in_log, sym (eqb-true h a.id.hart passes))
 
-pub contains_own : (log : List Event) (h : ℕ) (a : Event) → Indexed log → Contains log a → a.id.hart ≡ h → Contains (of_hart h log) a
+pub contains_own : (log : List Event) (h : ℕ) (a : Event) → Indexed log → Contains log a → a.id.hart ≡ h →
+    Contains (of_hart h log) a
 contains_own log h a known c same =
-    let found : find (λ (x : Event). same_id a.id x.id) (of_hart a.id.hart log) ≡ Some a = sym (named-of_hart log a.id) ∙ known.own a c in
-    subst (λ (n : ℕ). Contains (of_hart n log) a) same (find-found (λ (x : Event). same_id a.id x.id) (of_hart a.id.hart log) a found).0
+    let found : find (λ (x : Event). same_id a.id x.id) (of_hart a.id.hart log) ≡ Some a =
+    sym (named-of_hart log a.id) ∙ known.own a c in
+    subst (λ (n : ℕ). Contains (of_hart n log) a) same
+    (find-found (λ (x : Event). same_id a.id x.id) (of_hart a.id.hart log) a found).0
 
 filter-again : {X : Type 0} (p : X → Bool) (xs : List X) → filter p (filter p xs) ≡ filter p xs
 filter-again p [] = refl
 filter-again {X} p (x ∷ xs) = go (p x) refl (filter-again p xs)
   where
-    go : (b : Bool) → p x ≡ b → filter p (filter p xs) ≡ filter p xs → filter p (cond b (x ∷ filter p xs) (filter p xs)) ≡ cond b (x ∷ filter p xs) (filter p xs)
+    go : (b : Bool) → p x ≡ b → filter p (filter p xs) ≡ filter p xs →
+        filter p (cond b (x ∷ filter p xs) (filter p xs)) ≡ cond b (x ∷ filter p xs) (filter p xs)
     go true e again = rw (e, again)
     go false e again = again
 
@@ -53,15 +66,18 @@ pub named-own : (log : List Event) (h : ℕ) (i : Id) → i.hart ≡ h → named
 named-own log h i same =
     let all : (n : ℕ) → i.hart ≡ n → named (of_hart n log) i ≡ named log i = λ n e.
     named-of_hart (of_hart n log) i ∙ ap (λ m. find (λ (x : Event). same_id i x.id) (of_hart m (of_hart n log))) e
-    ∙ ap (find (λ (x : Event). same_id i x.id)) (own_again log n) ∙ ap (λ m. find (λ (x : Event). same_id i x.id) (of_hart m log)) (sym e) ∙ sym (named-of_hart log i) in
+    ∙ ap (find (λ (x : Event). same_id i x.id)) (own_again log n) ∙
+    ap (λ m. find (λ (x : Event). same_id i x.id) (of_hart m log)) (sym e) ∙ sym (named-of_hart log i) in
     all h same
 
 -- the hart's events and one more of it
-pub own-push : (log : List Event) (e : Event) (h : ℕ) → e.id.hart ≡ h → of_hart h (log ++ e ∷ []) ≡ of_hart h log ++ e ∷ []
+pub own-push : (log : List Event) (e : Event) (h : ℕ) → e.id.hart ≡ h →
+    of_hart h (log ++ e ∷ []) ≡ of_hart h log ++ e ∷ []
 own-push log e h same =
     let p : Event → Bool = λ x. h == x.id.hart in
     let one : (b : Bool) → b ≡ true → cond b (e ∷ []) [] ≡ e ∷ [] = λ b t. rw t in
-    filter-append p log (e ∷ []) ∙ ap (λ (ys : List Event). of_hart h log ++ ys) (one (h == e.id.hart) (eq-eqb h e.id.hart (sym same)))
+    filter-append p log (e ∷ []) ∙ ap (λ (ys : List Event). of_hart h log ++ ys)
+    (one (h == e.id.hart) (eq-eqb h e.id.hart (sym same)))
 
 module _ (model : MemoryModel) (log : List Event) (h : ℕ) (known : Indexed log) where
   abbrev own : List Event
@@ -71,41 +87,80 @@ module _ (model : MemoryModel) (log : List Event) (h : ℕ) (known : Indexed log
   All-to P all = All-filter (λ x. h == x.id.hart) P log all
 
   -- what holds of each event of the hart, and of no other, holds of all
-  All-from : (a b : Event) → a.id.hart ≡ h → (P : Event → Type 0) → All (λ m. Between a m b → P m) own → All (λ m. Between a m b → P m) log
+  All-from : (a b : Event) → a.id.hart ≡ h → (P : Event → Type 0) → All (λ m. Between a m b → P m) own →
+      All (λ m. Between a m b → P m) log
   All-from a b at P all =
       All-from_contains (λ m. Between a m b → P m) log
-      (λ m c between. All-contains (λ m. Between a m b → P m) own m all (contains_own log h m known c (sym between.after.hart ∙ at)) between)
+      (λ m c between. All-contains (λ m. Between a m b → P m) own m all
+      (contains_own log h m known c (sym between.after.hart ∙ at)) between)
 
   Any-to : (P : Event → Type 0) → ((m : Event) → P m → m.id.hart ≡ h) → Any P log → Any P own
-  Any-to P at any = let x = Any-contains P log any in Any-from_contains P own x.0 (contains_own log h x.0 known x.1 (at x.0 x.2)) x.2
+  Any-to P at any = let x = Any-contains P log any in
+      Any-from_contains P own x.0 (contains_own log h x.0 known x.1 (at x.0 x.2)) x.2
 
   Any-from : (P : Event → Type 0) → Any P own → Any P log
   Any-from P any = let x = Any-contains P own any in Any-from_contains P log x.0 (own_contains log h x.0 x.1).0 x.2
 
   pub paired_to : (lr sc : Event) → Paired log lr sc → Paired own lr sc
-  paired_to lr sc p = record { is_lr = p.is_lr; is_sc = p.is_sc; earlier = p.earlier; none_between = All-to (λ m. Between lr m sc → IsFalse (is_exclusive m.op)) p.none_between }
+  paired_to lr sc p = record {
+    is_lr = p.is_lr;
+    is_sc = p.is_sc;
+    earlier = p.earlier;
+    none_between = All-to (λ m. Between lr m sc → IsFalse (is_exclusive m.op)) p.none_between;
+  }
 
   pub paired_from : (lr sc : Event) → lr.id.hart ≡ h → Paired own lr sc → Paired log lr sc
-  paired_from lr sc at p = record { is_lr = p.is_lr; is_sc = p.is_sc; earlier = p.earlier; none_between = All-from lr sc at (λ m. IsFalse (is_exclusive m.op)) p.none_between }
+  paired_from lr sc at p = record {
+    is_lr = p.is_lr;
+    is_sc = p.is_sc;
+    earlier = p.earlier;
+    none_between = All-from lr sc at (λ m. IsFalse (is_exclusive m.op)) p.none_between;
+  }
 
   condition_to : (a b : Event) → a.id.hart ≡ h → (k : ℕ) → Condition model log a b k → Condition model own a b k
   condition_to a b at k (overlapping_store p) = overlapping_store p
-  condition_to a b at k (different_reads p) = different_reads (record { first = p.first; second = p.second; word = p.word; versions = p.versions; none_between = All-to (λ m. Between a m b → IsStore m → m.word ≢ a.word) p.none_between })
+  condition_to a b at k (different_reads p) =
+      different_reads (record {
+        first = p.first;
+        second = p.second;
+        word = p.word;
+        versions = p.versions;
+        none_between = All-to (λ m. Between a m b → IsStore m → m.word ≢ a.word) p.none_between;
+      })
   condition_to a b at k (reads_atomic_write p) = reads_atomic_write p
-  condition_to a b at k (fenced p) = fenced (Any-to (λ f. Between a f b × IsTrue (fence_orders f.op a.op b.op)) (λ m q. sym q.0.after.hart ∙ at) p)
+  condition_to a b at k (fenced p) = fenced (Any-to (λ f. Between a f b × IsTrue (fence_orders f.op a.op b.op))
+      (λ m q. sym q.0.after.hart ∙ at) p)
   condition_to a b at k (after_acquire p) = after_acquire p
   condition_to a b at k (before_release p) = before_release p
   condition_to a b at k (both_rcsc p q) = both_rcsc p q
   condition_to a b at k (paired p) = paired (paired_to a b p)
   condition_to a b at k (address p) = address p
   condition_to a b at k (data_of p) = data_of p
-  condition_to a b at k (control s p) = control s (Any-to (λ m. Between a m b × (m.op ≡ Branch) × DependsOn Ctrl m a) (λ m q. sym q.0.after.hart ∙ at) p)
-  condition_to a b at k (reads_dependent_write p) = reads_dependent_write (record { load = p.load; through = Any-to (IsDependentWrite a b) (λ m q. sym q.between.after.hart ∙ at) p.through })
-  condition_to a b at k (after_dependent_address p) = after_dependent_address (record { store = p.store; through = Any-to (λ m. Between a m b × DependsOn Addr m a) (λ m q. sym q.0.after.hart ∙ at) p.through })
+  condition_to a b at k (control s p) = control s (Any-to (λ m. Between a m b × (m.op ≡ Branch) × DependsOn Ctrl m a)
+      (λ m q. sym q.0.after.hart ∙ at) p)
+  condition_to a b at k (reads_dependent_write p) =
+      reads_dependent_write (record {
+        load = p.load;
+        through = Any-to (IsDependentWrite a b)
+            (λ m q. sym q.between.after.hart ∙ at) p.through;
+      })
+  condition_to a b at k (after_dependent_address p) =
+      after_dependent_address (record {
+        store = p.store;
+        through = Any-to (λ m. Between a m b × DependsOn Addr m a)
+            (λ m q. sym q.0.after.hart ∙ at) p.through;
+      })
 
   condition_from : (a b : Event) → a.id.hart ≡ h → (k : ℕ) → Condition model own a b k → Condition model log a b k
   condition_from a b at k (overlapping_store p) = overlapping_store p
-  condition_from a b at k (different_reads p) = different_reads (record { first = p.first; second = p.second; word = p.word; versions = p.versions; none_between = All-from a b at (λ m. IsStore m → m.word ≢ a.word) p.none_between })
+  condition_from a b at k (different_reads p) =
+      different_reads (record {
+        first = p.first;
+        second = p.second;
+        word = p.word;
+        versions = p.versions;
+        none_between = All-from a b at (λ m. IsStore m → m.word ≢ a.word) p.none_between;
+      })
   condition_from a b at k (reads_atomic_write p) = reads_atomic_write p
   condition_from a b at k (fenced p) = fenced (Any-from (λ f. Between a f b × IsTrue (fence_orders f.op a.op b.op)) p)
   condition_from a b at k (after_acquire p) = after_acquire p
@@ -114,9 +169,15 @@ module _ (model : MemoryModel) (log : List Event) (h : ℕ) (known : Indexed log
   condition_from a b at k (paired p) = paired (paired_from a b at p)
   condition_from a b at k (address p) = address p
   condition_from a b at k (data_of p) = data_of p
-  condition_from a b at k (control s p) = control s (Any-from (λ m. Between a m b × (m.op ≡ Branch) × DependsOn Ctrl m a) p)
-  condition_from a b at k (reads_dependent_write p) = reads_dependent_write (record { load = p.load; through = Any-from (IsDependentWrite a b) p.through })
-  condition_from a b at k (after_dependent_address p) = after_dependent_address (record { store = p.store; through = Any-from (λ m. Between a m b × DependsOn Addr m a) p.through })
+  condition_from a b at k (control s p) =
+      control s (Any-from (λ m. Between a m b × (m.op ≡ Branch) × DependsOn Ctrl m a) p)
+  condition_from a b at k (reads_dependent_write p) =
+      reads_dependent_write (record { load = p.load; through = Any-from (IsDependentWrite a b) p.through })
+  condition_from a b at k (after_dependent_address p) =
+      after_dependent_address (record {
+        store = p.store;
+        through = Any-from (λ m. Between a m b × DependsOn Addr m a) p.through;
+      })
 
   pub rule_to : (k : ℕ) (a b : Event) → a.id.hart ≡ h → Rule model log k a b → Rule model own k a b
   rule_to k a b at r = record {
@@ -173,7 +234,8 @@ module _ (model : MemoryModel) (log : List Event) (h : ℕ) (known : Indexed log
         rule = rule_from k p.a p.b p.rule;
       }
 
-  pub lowest_from : (k : ℕ) (i j : Id) → i.hart ≡ h → IsLowest model own i (Preserved k) j → IsLowest model log i (Preserved k) j
+  pub lowest_from : (k : ℕ) (i j : Id) → i.hart ≡ h → IsLowest model own i (Preserved k) j →
+      IsLowest model log i (Preserved k) j
   lowest_from k i j at low n less p = low n less (preserved_to n i j at p)
 
   pub stale_to : (i j : Id) → i.hart ≡ h → IsStale log i j → IsStale own i j
@@ -222,21 +284,25 @@ find-none {X} p q (x ∷ xs) e = go (p x) refl (q x) e (find-none p q xs)
     go false t true f again = rw t (again f)
     go false t false f again = again f
 
-writer_none : (log : List Event) (h word version : ℕ) → writer log word version ≡ None → writer (of_hart h log) word version ≡ None
+writer_none : (log : List Event) (h word version : ℕ) → writer log word version ≡ None →
+    writer (of_hart h log) word version ≡ None
 writer_none log h word version e = go (version == 0) e
   where
-    go : (b : Bool) → cond b None (find (did_write word version) log) ≡ None → cond b None (find (did_write word version) (of_hart h log)) ≡ None
+    go : (b : Bool) → cond b None (find (did_write word version) log) ≡ None →
+        cond b None (find (did_write word version) (of_hart h log)) ≡ None
     go true f = refl
     go false f = find-none (did_write word version) (λ x. h == x.id.hart) log f
 
 taken_none : (log : List Event) (h : ℕ) (e : Event) → taken_fault log e ≡ None → taken_fault (of_hart h log) e ≡ None
 taken_none log h e none = go (is_store e.op) refl
   where
-    go : (b : Bool) → is_store e.op ≡ b → cond b (option_map (λ (w : Event). VersionTaken w.id) (writer (of_hart h log) e.word e.wrote)) None ≡ None
+    go : (b : Bool) → is_store e.op ≡ b →
+        cond b (option_map (λ (w : Event). VersionTaken w.id) (writer (of_hart h log) e.word e.wrote)) None ≡ None
     go true s = rw (writer_none log h e.word e.wrote (not_taken log e none s))
     go false s = refl
 
-bad-own : (log : List Event) (h : ℕ) (e : Event) (d : Dep) → e.id.hart ≡ h → is_bad_dependency (of_hart h log) e d ≡ is_bad_dependency log e d
+bad-own : (log : List Event) (h : ℕ) (e : Event) (d : Dep) → e.id.hart ≡ h →
+    is_bad_dependency (of_hart h log) e d ≡ is_bad_dependency log e d
 bad-own log h e d at = rw (named-own log h (record { hart = e.id.hart; seq = d.seq }) at)
 
 pub any-same : {X : Type 0} (p q : X → Bool) (xs : List X) → ((x : X) → p x ≡ q x) → list_any p xs ≡ list_any q xs
@@ -247,7 +313,8 @@ any-same p q (x ∷ xs) same = rw (same x, any-same p q xs same)
 pub fault_own : (log : List Event) (e : Event) → event_fault log e ≡ None → event_fault (of_hart e.id.hart log) e ≡ None
 fault_own log e none =
     let own : List Event = of_hart e.id.hart log in
-    let each : NoneOf (first_faults log e ++ deps_fault e ∷ []) = lowest-none (first_faults log e ++ deps_fault e ∷ []) none in
+    let each : NoneOf (first_faults log e ++ deps_fault e ∷ []) =
+    lowest-none (first_faults log e ++ deps_fault e ∷ []) none in
     let same : of_hart e.id.hart own ≡ own = own_again log e.id.hart in
     let sequence : sequence_fault own e ≡ None = rw same each.1.0 in
     let bad : list_any (is_bad_dependency own e) e.deps ≡ list_any (is_bad_dependency log e) e.deps =
@@ -256,7 +323,8 @@ fault_own log e none =
     let taken : taken_fault own e ≡ None = taken_none log e.id.hart e each.1.1.1.1.0 in
     let reservation : reservation_fault own e ≡ None = rw same each.1.1.1.1.1.0 in
     let full : full_fault own e ≡ None = rw same each.1.1.1.1.1.1.0 in
-    none-lowest (first_faults own e ++ deps_fault e ∷ []) (each.0, (sequence, (dependency, (each.1.1.1.0, (taken, (reservation, (full, (each.1.1.1.1.1.1.1.0, tt))))))))
+    none-lowest (first_faults own e ++ deps_fault e ∷ [])
+    (each.0, (sequence, (dependency, (each.1.1.1.0, (taken, (reservation, (full, (each.1.1.1.1.1.1.1.0, tt))))))))
 
 -- nor does it change whether the hart has a reservation
 pub reserved-own : (log : List Event) (h : ℕ) → is_reserved (of_hart h log) h ≡ is_reserved log h

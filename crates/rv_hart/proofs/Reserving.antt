@@ -1,5 +1,7 @@
 -- Whether the hart's last LR, SC or failed SC is an LR, and which event a number names.
-use Rattle.std.proofs.Common.{◌≡◌, ℕ, zero, suc, ◌<◌, ◌≤◌, ◌==◌, ◌&&◌, Bool, true, false, cond, List, [], ◌∷◌, ◌++◌, length, Contains, Option, Some, None, is_some, ◌⊎◌, inl, inr, refl, sym, ap, ◌∙◌, subst, arith, length-append, eq-eqb, slice_get, get_or}
+use Rattle.std.proofs.Common.{◌≡◌, ℕ, zero, suc, ◌<◌, ◌≤◌, ◌==◌, ◌&&◌, Bool, true, false, cond, List, [], ◌∷◌}
+use Rattle.std.proofs.Common.{◌++◌, length, Contains, Option, Some, None, is_some, ◌⊎◌, inl, inr, refl, sym}
+use Rattle.std.proofs.Common.{ap, ◌∙◌, subst, arith, length-append, eq-eqb, slice_get, get_or}
 use Rattle.std.proofs.lemmas.Bool.{false≢true}
 use Rattle.std.proofs.lemmas.Option.{none-some, slice_get_within, get_or_from_slice_get}
 use Rattle.std.proofs.lemmas.List.{get_or_default}
@@ -53,7 +55,8 @@ tells_more h e f t = go (turn e.op)
     mine = eq-eqb h.number e.id.hart (sym f.hart)
 
     push : is_reserved (followed h e) h.number ≡ cond (is_exclusive e.op) (is_lr e.op) (is_reserved h.events h.number)
-    push = is_reserved-push h.events h.number e ∙ ap (λ (b : Bool). cond (b && is_exclusive e.op) (is_lr e.op) (is_reserved h.events h.number)) mine
+    push = is_reserved-push h.events h.number e ∙
+        ap (λ (b : Bool). cond (b && is_exclusive e.op) (is_lr e.op) (is_reserved h.events h.number)) mine
 
     go : Turn e.op → Tells (record h { events = followed h e })
     go (frees free) = record {
@@ -99,18 +102,21 @@ tells_up_to zero h short ok = none_told h (empty h.events short)
     empty (x ∷ xs) l = absurd (omega (arith, l))
 tells_up_to (suc n) h short ok = go (parts h.events) (λ g. tells_up_to n g)
   where
-    go : (h.events ≡ []) ⊎ ((front : List Event) × (y : Event) × (h.events ≡ front ++ y ∷ [])) → ((g : Hart) → length g.events ≤ n → IsHart g → Tells g) → Tells h
+    go : (h.events ≡ []) ⊎ ((front : List Event) × (y : Event) × (h.events ≡ front ++ y ∷ [])) →
+        ((g : Hart) → length g.events ≤ n → IsHart g → Tells g) → Tells h
     go (inl none) again = none_told h none
     go (inr (front, y, is)) again =
         let before : Hart = record h { events = front } in
         let less : length front ≤ n = omega (arith, short, ap length is, length-append front (y ∷ [])) in
         let follows : Follows before y = hart-last h front y ok is in
         let ok' : IsHart before = hart-front h front y ok is in
-        let more : Tells (record h { events = front ++ y ∷ [] }) = tells_more before y (fits_of before y ok' follows) (again before less ok') in
+        let more : Tells (record h { events = front ++ y ∷ [] }) = tells_more before y (fits_of before y ok' follows)
+        (again before less ok') in
         subst (λ (es : List Event). Tells (record h { events = es })) (sym is) more
 
 -- a reservation is there exactly where the last LR, SC or failed SC is an LR
-pub reserved_is : (h : Hart) → IsHart h → (o : Option ℕ) → IsReservation h.events o → is_some o ≡ is_reserved h.events h.number
+pub reserved_is : (h : Hart) → IsHart h → (o : Option ℕ) → IsReservation h.events o →
+    is_some o ≡ is_reserved h.events h.number
 reserved_is h ok o is = same o is (tells_up_to (length h.events) h (omega arith) ok)
   where
     one : (o' p : Option ℕ) → IsReservation h.events o' → IsReservation h.events p → is_some o' ≡ is_some p
@@ -131,14 +137,16 @@ abbrev id_at : Hart → ℕ → Id
 id_at h s = record { hart = h.number; seq = s }
 
 -- a number names the event at its place
-pub named-at : (h : Hart) → IsHart h → (s : ℕ) → named h.events (record { hart = h.number; seq = s }) ≡ slice_get h.events s
+pub named-at : (h : Hart) → IsHart h → (s : ℕ) →
+    named h.events (record { hart = h.number; seq = s }) ≡ slice_get h.events s
 named-at h ok s = go (slice_get h.events s) refl (named h.events (id_at h s)) refl
   where
     known : Known h
     known = known_of h ok
 
     go :
-        (o : Option Event) → slice_get h.events s ≡ o → (p : Option Event) → named h.events (id_at h s) ≡ p → named h.events (id_at h s) ≡ slice_get h.events s
+        (o : Option Event) → slice_get h.events s ≡ o → (p : Option Event) → named h.events (id_at h s) ≡ p →
+        named h.events (id_at h s) ≡ slice_get h.events s
     go (Some x) e p f =
         let low : s < length h.events = slice_get_within h.events s x e in
         let read : get_or h.events s x ≡ x = get_or_from_slice_get h.events s x x e in

@@ -1,15 +1,23 @@
 -- What the conditions of the rules say of a new event, by what is kept of the old ones.
-use Rattle.std.proofs.Common.{◌≡◌, ℕ, Bool, true, false, ◌||◌, ◌&&◌, ◌==◌, ◌<◌, ◌↔◌, List, Contains, IsTrue, IsFalse, ◌⊎◌, inl, inr, sym, refl, ap, ◌∙◌, subst, eqb-true, eq-eqb}
+use Rattle.std.proofs.Common.{◌≡◌, ℕ, Bool, true, false, ◌||◌, ◌&&◌, ◌==◌, ◌<◌, ◌↔◌, List, Contains, IsTrue}
+use Rattle.std.proofs.Common.{IsFalse, ◌⊎◌, inl, inr, sym, refl, ap, ◌∙◌, subst, eqb-true, eq-eqb}
 use Rattle.std.proofs.lemmas.Bool.{or_cases, or_left, or_right, and_parts, and_from, false≢true, cases_order}
 use Rattle.std.proofs.lemmas.Option.{same_Some}
 use Rattle.std.proofs.lemmas.List.Elements.{Contains-push, All-contains}
 use Rattle.rv_event.proofs.Growing.{Any-contains, Any-from_contains, All-from_contains}
-use Rattle.rv_hart.proofs.Conditions.{different_reads_out, reads_atomic_write_out, fenced_out, after_acquire_out, before_release_out, both_rcsc_out, paired_out, address_out, data_of_out, control_out, reads_dependent_write_out, after_dependent_address_out}
-use Rattle.rv_event.specs.Operations.{is_amo, is_load, is_store, is_memory, is_exclusive, IsLoad, IsStore, IsMemory, Returns}
+use Rattle.rv_hart.proofs.Conditions.{different_reads_out, reads_atomic_write_out, fenced_out}
+use Rattle.rv_hart.proofs.Conditions.{after_acquire_out, before_release_out, both_rcsc_out, paired_out}
+use Rattle.rv_hart.proofs.Conditions.{address_out, data_of_out, control_out, reads_dependent_write_out}
+use Rattle.rv_hart.proofs.Conditions.{after_dependent_address_out}
+use Rattle.rv_event.specs.Operations.{is_amo, is_load, is_store, is_memory, is_exclusive, IsLoad, IsStore}
+use Rattle.rv_event.specs.Operations.{IsMemory, Returns}
 use Rattle.rv_event.specs.Annotations.{is_annotated, IsAcquire, IsRelease, IsRcsc}
 use Rattle.rv_event.specs.Log.{Earlier, Between, writer}
 use Rattle.rv_event.specs.Relations.{Paired, in_set, fence_orders, Fenced, DependsOn}
-use Rattle.rv_event.specs.Preserved.{Condition, DifferentReads, different_reads, reads_atomic_write, fenced, after_acquire, before_release, both_rcsc, paired, address, data_of, control, reads_dependent_write, after_dependent_address, IsDependentWrite}
+use Rattle.rv_event.specs.Preserved.{Condition, DifferentReads, different_reads, reads_atomic_write, fenced}
+use Rattle.rv_event.specs.Preserved.{after_acquire, before_release, both_rcsc, paired, address, data_of}
+use Rattle.rv_event.specs.Preserved.{control, reads_dependent_write, after_dependent_address}
+use Rattle.rv_event.specs.Preserved.{IsDependentWrite}
 use Rattle.rv_event.specs.declared.event.Event.{Event}
 use Rattle.rv_event.specs.declared.event.DepKind.{DepKind}
 use Rattle.rv_event.specs.declared.event.DepKind.TheVariants.{Addr, DataOf, Ctrl}
@@ -139,7 +147,8 @@ annotated-memory Branch b t = absurd (false≢true t)
 
 acquire-memory : (model : MemoryModel) (a : Event) → IsAcquire model a → IsMemory a
 acquire-memory Rvwmo a h = annotated-memory a.op a.acquire h
-acquire-memory Ztso a h = elim (or_cases (is_load a.op) (is_annotated a.op && a.acquire) h) [ inl l ↦ load-memory a l | inr t ↦ annotated-memory a.op a.acquire t ]
+acquire-memory Ztso a h = elim (or_cases (is_load a.op) (is_annotated a.op && a.acquire) h)
+    [ inl l ↦ load-memory a l | inr t ↦ annotated-memory a.op a.acquire t ]
 
 amo-memory : (op : Op) → IsTrue (is_amo op) → IsTrue (is_memory op)
 amo-memory Amo t = refl
@@ -154,16 +163,19 @@ amo-memory Branch t = absurd (false≢true t)
 
 rcsc-memory : (model : MemoryModel) (a : Event) → IsRcsc model a → IsMemory a
 rcsc-memory Rvwmo a h = annotated-memory a.op (a.acquire || a.release) h
-rcsc-memory Ztso a h = elim (or_cases (is_amo a.op) (is_annotated a.op && (a.acquire || a.release)) h) [ inl l ↦ amo-memory a.op l | inr t ↦ annotated-memory a.op (a.acquire || a.release) t ]
+rcsc-memory Ztso a h = elim (or_cases (is_amo a.op) (is_annotated a.op && (a.acquire || a.release)) h)
+    [ inl l ↦ amo-memory a.op l | inr t ↦ annotated-memory a.op (a.acquire || a.release) t ]
 
 fence-memory : (f a op : Op) → IsTrue (fence_orders f a op) → IsTrue (is_memory a)
-fence-memory f a op h = elim (or_cases (is_load a && fence_orders f Load op) (is_store a && fence_orders f Store op) (sym (orders_by_kind f a op) ∙ h)) [
-  | inl l ↦ or_left (is_load a) (is_store a) (and_parts (is_load a) (fence_orders f Load op) l).0
-  | inr w ↦ or_right (is_load a) (is_store a) (and_parts (is_store a) (fence_orders f Store op) w).0
-]
+fence-memory f a op h = elim (or_cases (is_load a && fence_orders f Load op) (is_store a && fence_orders f Store op)
+    (sym (orders_by_kind f a op) ∙ h)) [
+      | inl l ↦ or_left (is_load a) (is_store a) (and_parts (is_load a) (fence_orders f Load op) l).0
+      | inr w ↦ or_right (is_load a) (is_store a) (and_parts (is_store a) (fence_orders f Store op) w).0
+    ]
 
 -- ---- what a fence orders before an operation it orders before a load or a store that the operation is
-set_cases : (succ : Set) (b : Op) → IsTrue (in_set succ b) → (IsTrue (is_load b) × IsTrue (in_set succ Load)) ⊎ (IsTrue (is_store b) × IsTrue (in_set succ Store))
+set_cases : (succ : Set) (b : Op) → IsTrue (in_set succ b) → (IsTrue (is_load b) × IsTrue (in_set succ Load)) ⊎
+    (IsTrue (is_store b) × IsTrue (in_set succ Store))
 set_cases R b h = inl (h, refl)
 set_cases W b h = inr (h, refl)
 set_cases Rw b h = elim (or_cases (is_load b) (is_store b) h) [ inl l ↦ inl (l, refl) | inr w ↦ inr (w, refl) ]
@@ -178,13 +190,16 @@ set_store R b l h = absurd (false≢true h)
 set_store W b l h = l
 set_store Rw b l h = or_right (is_load b) (is_store b) l
 
-orders_cases : (f a b : Op) → IsTrue (fence_orders f a b) → (IsTrue (is_load b) × IsTrue (fence_orders f a Load)) ⊎ (IsTrue (is_store b) × IsTrue (fence_orders f a Store))
+orders_cases : (f a b : Op) → IsTrue (fence_orders f a b) → (IsTrue (is_load b) × IsTrue (fence_orders f a Load)) ⊎
+    (IsTrue (is_store b) × IsTrue (fence_orders f a Store))
 orders_cases (Fence pred succ) a b h =
     let p = and_parts (in_set pred a) (in_set succ b) h in
     elim (set_cases succ b p.1) [ inl q ↦ inl (q.0, and_from _ _ p.0 q.1) | inr q ↦ inr (q.0, and_from _ _ p.0 q.1) ]
 orders_cases FenceTso a b h = go (or_cases (is_load a && is_memory b) (is_store a && is_store b) h)
   where
-    go : ((is_load a && is_memory b) ≡ true) ⊎ ((is_store a && is_store b) ≡ true) → (IsTrue (is_load b) × IsTrue (fence_orders FenceTso a Load)) ⊎ (IsTrue (is_store b) × IsTrue (fence_orders FenceTso a Store))
+    go : ((is_load a && is_memory b) ≡ true) ⊎ ((is_store a && is_store b) ≡ true) →
+        (IsTrue (is_load b) × IsTrue (fence_orders FenceTso a Load)) ⊎
+        (IsTrue (is_store b) × IsTrue (fence_orders FenceTso a Store))
     go (inl q) =
         let p = and_parts (is_load a) (is_memory b) q in
         elim (or_cases (is_load b) (is_store b) p.1) [
@@ -197,21 +212,26 @@ orders_cases FenceTso a b h = go (or_cases (is_load a && is_memory b) (is_store 
 orders_cases f a b h = absurd (false≢true h)
 
 orders_load : (f a b : Op) → IsTrue (is_load b) → IsTrue (fence_orders f a Load) → IsTrue (fence_orders f a b)
-orders_load (Fence pred succ) a b l h = let p = and_parts (in_set pred a) (in_set succ Load) h in and_from _ _ p.0 (set_load succ b l p.1)
+orders_load (Fence pred succ) a b l h = let p = and_parts (in_set pred a) (in_set succ Load) h in
+    and_from _ _ p.0 (set_load succ b l p.1)
 orders_load FenceTso a b l h = go (or_cases (is_load a && true) (is_store a && false) h)
   where
     go : ((is_load a && true) ≡ true) ⊎ ((is_store a && false) ≡ true) → IsTrue (fence_orders FenceTso a b)
-    go (inl q) = or_left (is_load a && is_memory b) (is_store a && is_store b) (and_from _ _ (and_parts (is_load a) true q).0 (or_left (is_load b) (is_store b) l))
+    go (inl q) = or_left (is_load a && is_memory b) (is_store a && is_store b)
+        (and_from _ _ (and_parts (is_load a) true q).0 (or_left (is_load b) (is_store b) l))
     go (inr q) = absurd (false≢true (and_parts (is_store a) false q).1)
 orders_load f a b l h = absurd (false≢true h)
 
 orders_store : (f a b : Op) → IsTrue (is_store b) → IsTrue (fence_orders f a Store) → IsTrue (fence_orders f a b)
-orders_store (Fence pred succ) a b l h = let p = and_parts (in_set pred a) (in_set succ Store) h in and_from _ _ p.0 (set_store succ b l p.1)
+orders_store (Fence pred succ) a b l h = let p = and_parts (in_set pred a) (in_set succ Store) h in
+    and_from _ _ p.0 (set_store succ b l p.1)
 orders_store FenceTso a b l h = go (or_cases (is_load a && true) (is_store a && true) h)
   where
     go : ((is_load a && true) ≡ true) ⊎ ((is_store a && true) ≡ true) → IsTrue (fence_orders FenceTso a b)
-    go (inl q) = or_left (is_load a && is_memory b) (is_store a && is_store b) (and_from _ _ (and_parts (is_load a) true q).0 (or_right (is_load b) (is_store b) l))
-    go (inr q) = or_right (is_load a && is_memory b) (is_store a && is_store b) (and_from _ _ (and_parts (is_store a) true q).0 l)
+    go (inl q) = or_left (is_load a && is_memory b) (is_store a && is_store b)
+        (and_from _ _ (and_parts (is_load a) true q).0 (or_right (is_load b) (is_store b) l))
+    go (inr q) = or_right (is_load a && is_memory b) (is_store a && is_store b)
+        (and_from _ _ (and_parts (is_store a) true q).0 l)
 orders_store f a b l h = absurd (false≢true h)
 
 -- ---- each rule
@@ -224,7 +244,19 @@ module _ (h : Hart) (e : Event) (f : Fits h e) (memory : IsMemory e) where
   IsUnder k a = IsMemory a × Condition h.model new a e k
 
   pub ordered : (k : ℕ) (a : Event) → Contains h.events a → IsUnder k a → IsOrderedBy h e k a.id.seq
-  ordered k a ca c = record { a = a; of_hart = ca; at = refl; rule = record { from = old_new h e a ca; to = Contains-push h.events e; from_memory = c.0; to_memory = memory; earlier = follows_all h e f a ca; condition = c.1 } }
+  ordered k a ca c = record {
+    a = a;
+    of_hart = ca;
+    at = refl;
+    rule = record {
+      from = old_new h e a ca;
+      to = Contains-push h.events e;
+      from_memory = c.0;
+      to_memory = memory;
+      earlier = follows_all h e f a ca;
+      condition = c.1;
+    };
+  }
 
   pub adds : (k : ℕ) (P : Event → Type 0) (row row' : List ℕ) → HasMore P h.events row row' →
       ((a : Event) → Contains h.events a → P a ↔ IsUnder k a) → Adds h e k row row'
@@ -293,10 +325,14 @@ module _ (h : Hart) (e : Event) (f : Fits h e) (memory : IsMemory e) where
       ((IsLoad e × IsFencedFor Load h.events a) ⊎ (IsStore e × IsFencedFor Store h.events a)) ↔ IsUnder 4 a
   fenced-is a ca = (to, from)
     where
-      found : (op : Op) → ((g : Op) → IsTrue (fence_orders g a.op op) → IsTrue (fence_orders g a.op e.op)) → IsFencedFor op h.events a → IsUnder 4 a
+      found : (op : Op) → ((g : Op) → IsTrue (fence_orders g a.op op) → IsTrue (fence_orders g a.op e.op)) →
+          IsFencedFor op h.events a → IsUnder 4 a
       found op turn x =
-          let y = Any-contains (λ g. Earlier a g × IsTrue (fence_orders g.op a.op op)) h.events x in
-          (fence-memory y.0.op a.op op y.2.1, fenced (Any-from_contains (λ g. Between a g e × IsTrue (fence_orders g.op a.op e.op)) new y.0 (old_new h e y.0 y.1) (between a y.0 y.1 y.2.0, turn y.0.op y.2.1)))
+          let y = Any-contains (λ g. Earlier a g × IsTrue (fence_orders g.op a.op op)) h.events x in (
+            fence-memory y.0.op a.op op y.2.1,
+            fenced (Any-from_contains (λ g. Between a g e × IsTrue (fence_orders g.op a.op e.op)) new y.0
+                (old_new h e y.0 y.1) (between a y.0 y.1 y.2.0, turn y.0.op y.2.1)),
+          )
 
       to : (IsLoad e × IsFencedFor Load h.events a) ⊎ (IsStore e × IsFencedFor Store h.events a) → IsUnder 4 a
       to (inl x) = found Load (λ g t. orders_load g a.op e.op x.0 t) x.1
@@ -313,7 +349,11 @@ module _ (h : Hart) (e : Event) (f : Fits h e) (memory : IsMemory e) where
               Any-from_contains (λ g. Earlier a g × IsTrue (fence_orders g.op a.op Load))
                   h.events y.0 c (y.2.0.after, l.1),
             )
-            | inr w ↦ inr (w.0, Any-from_contains (λ g. Earlier a g × IsTrue (fence_orders g.op a.op Store)) h.events y.0 c (y.2.0.after, w.1))
+            | inr w ↦ inr (
+              w.0,
+              Any-from_contains (λ g. Earlier a g × IsTrue (fence_orders g.op a.op Store)) h.events
+                  y.0 c (y.2.0.after, w.1),
+            )
           ]
 
       from : IsUnder 4 a → (IsLoad e × IsFencedFor Load h.events a) ⊎ (IsStore e × IsFencedFor Store h.events a)
@@ -357,8 +397,11 @@ module _ (h : Hart) (e : Event) (f : Fits h e) (memory : IsMemory e) where
     where
       to : IsStore e × IsControlling h.events a → IsUnder 11 a
       to x =
-          let y = Any-contains (λ m. (m.op ≡ Branch) × DependsOn Ctrl m a) h.events x.1.1 in
-          (x.1.0, control x.0 (Any-from_contains (λ m. Between a m e × (m.op ≡ Branch) × DependsOn Ctrl m a) new y.0 (old_new h e y.0 y.1) (between a y.0 y.1 y.2.1.0, y.2.0, y.2.1)))
+          let y = Any-contains (λ m. (m.op ≡ Branch) × DependsOn Ctrl m a) h.events x.1.1 in (
+            x.1.0,
+            control x.0 (Any-from_contains (λ m. Between a m e × (m.op ≡ Branch) × DependsOn Ctrl m a) new y.0
+                (old_new h e y.0 y.1) (between a y.0 y.1 y.2.1.0, y.2.0, y.2.1)),
+          )
 
       from : IsUnder 11 a → IsStore e × IsControlling h.events a
       from x =
@@ -378,8 +421,15 @@ module _ (h : Hart) (e : Event) (f : Fits h e) (memory : IsMemory e) where
     where
       to : IsStore e × IsAddressing h.events a → IsUnder 13 a
       to x =
-          let y = Any-contains (λ m. DependsOn Addr m a) h.events x.1.1 in
-          (x.1.0, after_dependent_address (record { store = x.0; through = Any-from_contains (λ m. Between a m e × DependsOn Addr m a) new y.0 (old_new h e y.0 y.1) (between a y.0 y.1 y.2.0, y.2) }))
+          let y = Any-contains (λ m. DependsOn Addr m a) h.events x.1.1 in (
+            x.1.0,
+            after_dependent_address
+                (record {
+                  store = x.0;
+                  through = Any-from_contains (λ m. Between a m e × DependsOn Addr m a) new y.0
+                      (old_new h e y.0 y.1) (between a y.0 y.1 y.2.0, y.2);
+                }),
+          )
 
       from : IsUnder 13 a → IsStore e × IsAddressing h.events a
       from x =
@@ -389,21 +439,27 @@ module _ (h : Hart) (e : Event) (f : Fits h e) (memory : IsMemory e) where
 
   -- ---- rules 3 and 12
   -- a version has one store
-  one_store : (w a : Event) → Contains h.events w → Contains h.events a → IsStore w → IsStore a → Returns e w → Returns e a → w ≡ a
+  one_store : (w a : Event) → Contains h.events w → Contains h.events a → IsStore w → IsStore a → Returns e w →
+      Returns e a → w ≡ a
   one_store w a cw ca sw sa rw' ra =
       let word : w.word ≡ a.word = sym rw'.word ∙ ra.word in
       let version : w.wrote ≡ a.wrote = sym rw'.version ∙ ra.version in
-      same_Some w a (sym (f.known.indexed.written w cw sw) ∙ ap (λ (x : ℕ). writer h.events x w.wrote) word ∙ ap (λ (v : ℕ). writer h.events a.word v) version ∙ f.known.indexed.written a ca sa)
+      same_Some w a (sym (f.known.indexed.written w cw sw) ∙ ap (λ (x : ℕ). writer h.events x w.wrote) word ∙
+      ap (λ (v : ℕ). writer h.events a.word v) version ∙ f.known.indexed.written a ca sa)
 
   atomic-store : (a : Event) → (a.op ≡ Amo) ⊎ (a.op ≡ Sc) → IsStore a
   atomic-store a (inl is) = ap is_store is
   atomic-store a (inr is) = ap is_store is
 
-  pub atomic-is : (w : Event) → IsOwnStore h e w → (a : Event) → Contains h.events a → (((w.op ≡ Amo) ⊎ (w.op ≡ Sc)) × (w ≡ a)) ↔ IsUnder 3 a
+  pub atomic-is : (w : Event) → IsOwnStore h e w → (a : Event) → Contains h.events a →
+      (((w.op ≡ Amo) ⊎ (w.op ≡ Sc)) × (w ≡ a)) ↔ IsUnder 3 a
   atomic-is w own a ca = (to, from)
     where
       to : ((w.op ≡ Amo) ⊎ (w.op ≡ Sc)) × (w ≡ a) → IsUnder 3 a
-      to x = subst (IsUnder 3) x.1 (store-memory w own.store, reads_atomic_write (record { atomic = x.0; load = own.load; returns = own.returns }))
+      to x = subst (IsUnder 3) x.1 (
+        store-memory w own.store,
+        reads_atomic_write (record { atomic = x.0; load = own.load; returns = own.returns }),
+      )
 
       from : IsUnder 3 a → ((w.op ≡ Amo) ⊎ (w.op ≡ Sc)) × (w ≡ a)
       from x =
@@ -424,7 +480,20 @@ module _ (h : Hart) (e : Event) (f : Fits h e) (memory : IsMemory e) where
   dependent-is w own a ca = (to, from)
     where
       found : IsMemory a → DependsOn Addr w a ⊎ DependsOn DataOf w a → Earlier a w → IsUnder 12 a
-      found m d earlier = (m, reads_dependent_write (record { load = own.load; through = Any-from_contains (IsDependentWrite a e) new w (old_new h e w own.of_hart) (record { between = between a w own.of_hart earlier; store = own.store; returns = own.returns; depends = d }) }))
+      found m d earlier = (
+        m,
+        reads_dependent_write
+            (record {
+              load = own.load;
+              through = Any-from_contains (IsDependentWrite a e) new w
+                  (old_new h e w own.of_hart) (record {
+                    between = between a w own.of_hart earlier;
+                    store = own.store;
+                    returns = own.returns;
+                    depends = d;
+                  });
+            }),
+      )
 
       to : (IsMemory a × DependsOn Addr w a) ⊎ (IsMemory a × DependsOn DataOf w a) → IsUnder 12 a
       to (inl x) = found x.0 (inl x.1) x.1.0
@@ -433,7 +502,8 @@ module _ (h : Hart) (e : Event) (f : Fits h e) (memory : IsMemory e) where
       from : IsUnder 12 a → (IsMemory a × DependsOn Addr w a) ⊎ (IsMemory a × DependsOn DataOf w a)
       from x =
           let y = Any-contains (IsDependentWrite a e) new (reads_dependent_write_out h.model new a e x.1).through in
-          let same : y.0 ≡ w = one_store y.0 w (old y.0 y.1 y.2.between.before) own.of_hart y.2.store own.store y.2.returns own.returns in
+          let same : y.0 ≡ w = one_store y.0 w (old y.0 y.1 y.2.between.before) own.of_hart y.2.store own.store
+          y.2.returns own.returns in
           elim y.2.depends [
             | inl d ↦ inl (x.0, subst (λ (z : Event). DependsOn Addr z a) same d)
             | inr d ↦ inr (x.0, subst (λ (z : Event). DependsOn DataOf z a) same d)
@@ -445,43 +515,69 @@ module _ (h : Hart) (e : Event) (f : Fits h e) (memory : IsMemory e) where
     λ x. (
         let r = reads_dependent_write_out h.model new a e x.1 in
         let y = Any-contains (IsDependentWrite a e) new r.through in
-        none y.0 (record { of_hart = old y.0 y.1 y.2.between.before; store = y.2.store; load = r.load; returns = y.2.returns })),
+        none y.0 (record {
+          of_hart = old y.0 y.1 y.2.between.before;
+          store = y.2.store;
+          load = r.load;
+          returns = y.2.returns;
+        })),
   )
 
 -- ---- rule 8
 module _ (h : Hart) (e : Event) (f : Fits h e) where
   -- a reserving LR is paired with an SC
-  pub reserving-paired : (a : Event) → Contains h.events a → IsReserving h.events a → e.op ≡ Sc → Paired (followed h e) a e
+  pub reserving-paired : (a : Event) → Contains h.events a → IsReserving h.events a → e.op ≡ Sc →
+      Paired (followed h e) a e
   reserving-paired a ca r sc = record {
     is_lr = r.0;
     is_sc = sc;
     earlier = follows_all h e f a ca;
-    none_between = All-from_contains (λ m. Between a m e → IsFalse (is_exclusive m.op)) (followed h e) (λ m c between. All-contains (λ m. Earlier a m → IsFalse (is_exclusive m.op)) h.events m r.1 (earlier_old h e f m c between.before) between.after);
+    none_between = All-from_contains (λ m. Between a m e → IsFalse (is_exclusive m.op)) (followed h e)
+        (λ m c between. All-contains (λ m. Earlier a m → IsFalse (is_exclusive m.op)) h.events m r.1
+        (earlier_old h e f m c between.before) between.after);
   }
 
   -- and what is paired reserves
   pub paired-reserving : (a : Event) → Paired (followed h e) a e → IsReserving h.events a
-  paired-reserving a p = (p.is_lr, All-from_contains (λ m. Earlier a m → IsFalse (is_exclusive m.op)) h.events (λ m c earlier. All-contains (λ m. Between a m e → IsFalse (is_exclusive m.op)) (followed h e) m p.none_between (old_new h e m c) (record { after = earlier; before = follows_all h e f m c })))
+  paired-reserving a p = (
+    p.is_lr,
+    All-from_contains (λ m. Earlier a m → IsFalse (is_exclusive m.op)) h.events
+        (λ m c earlier. All-contains (λ m. Between a m e → IsFalse (is_exclusive m.op))
+        (followed h e) m p.none_between (old_new h e m c)
+        (record { after = earlier; before = follows_all h e f m c })),
+  )
 
   later-none : (a b : Event) → Contains h.events b → IsReserving h.events a → IsReserving h.events b → Earlier a b → ⊥
-  later-none a b cb ra rb earlier = false≢true (sym (All-contains (λ m. Earlier a m → IsFalse (is_exclusive m.op)) h.events b ra.1 cb earlier) ∙ ap is_exclusive rb.0)
+  later-none a b cb ra rb earlier = false≢true
+      (sym (All-contains (λ m. Earlier a m → IsFalse (is_exclusive m.op)) h.events b ra.1 cb earlier) ∙
+      ap is_exclusive rb.0)
 
   -- one LR reserves
-  pub one_reserving : (a b : Event) → Contains h.events a → Contains h.events b → IsReserving h.events a → IsReserving h.events b → a ≡ b
+  pub one_reserving : (a b : Event) → Contains h.events a → Contains h.events b → IsReserving h.events a →
+      IsReserving h.events b → a ≡ b
   one_reserving a b ca cb ra rb = elim (cases_order a.id.seq b.id.seq) [
     | inl same ↦ same_event h f.known a b ca cb same
-    | inr (inl low) ↦ absurd (later-none a b cb ra rb (record { hart = f.known.own a ca ∙ sym (f.known.own b cb); seq = low }))
-    | inr (inr high) ↦ absurd (later-none b a ca rb ra (record { hart = f.known.own b cb ∙ sym (f.known.own a ca); seq = high }))
+    | inr (inl low) ↦ absurd (later-none a b cb ra rb
+        (record { hart = f.known.own a ca ∙ sym (f.known.own b cb); seq = low }))
+    | inr (inr high) ↦ absurd (later-none b a ca rb ra
+        (record { hart = f.known.own b cb ∙ sym (f.known.own a ca); seq = high }))
   ]
 
-  pub paired-is : (lr : Event) → Contains h.events lr → IsReserving h.events lr → (a : Event) → Contains h.events a → ((e.op ≡ Sc) × (lr ≡ a)) ↔ (IsMemory a × Condition h.model (followed h e) a e 8)
+  pub paired-is : (lr : Event) → Contains h.events lr → IsReserving h.events lr → (a : Event) → Contains h.events a →
+      ((e.op ≡ Sc) × (lr ≡ a)) ↔ (IsMemory a × Condition h.model (followed h e) a e 8)
   paired-is lr cl r a ca = (to, from)
     where
       to : (e.op ≡ Sc) × (lr ≡ a) → IsMemory a × Condition h.model (followed h e) a e 8
-      to x = subst (λ (y : Event). IsMemory y × Condition h.model (followed h e) y e 8) x.1 (ap is_memory r.0, paired (reserving-paired lr cl r x.0))
+      to x = subst (λ (y : Event). IsMemory y × Condition h.model (followed h e) y e 8) x.1
+          (ap is_memory r.0, paired (reserving-paired lr cl r x.0))
 
       from : IsMemory a × Condition h.model (followed h e) a e 8 → (e.op ≡ Sc) × (lr ≡ a)
-      from x = let p = paired_out h.model (followed h e) a e x.1 in (p.is_sc, one_reserving lr a cl ca r (paired-reserving a p))
+      from x = let p = paired_out h.model (followed h e) a e x.1 in
+          (p.is_sc, one_reserving lr a cl ca r (paired-reserving a p))
 
-  pub paired-none : ((a : Event) → Contains h.events a → IsReserving h.events a → ⊥) → (a : Event) → Contains h.events a → ⊥ ↔ (IsMemory a × Condition h.model (followed h e) a e 8)
-  paired-none none a ca = (λ n. absurd n, λ x. none a ca (paired-reserving a (paired_out h.model (followed h e) a e x.1)))
+  pub paired-none : ((a : Event) → Contains h.events a → IsReserving h.events a → ⊥) → (a : Event) →
+      Contains h.events a → ⊥ ↔ (IsMemory a × Condition h.model (followed h e) a e 8)
+  paired-none none a ca = (
+    λ n. absurd n,
+    λ x. none a ca (paired-reserving a (paired_out h.model (followed h e) a e x.1)),
+  )

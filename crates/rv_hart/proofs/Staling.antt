@@ -25,22 +25,28 @@ module _ (h : Hart) (e : Event) (f : Fits h e) where
 
   -- the store of a stale pair is an old one
   store_old : (s : Id) (p : IsStale (followed h e) e.id s) → Contains h.events p.b
-  store_old s p = earlier_old h e f p.b (named-is (followed h e) s p.b p.store_named).0 (subst (λ (x : Event). Earlier p.b x) (load_is s p) p.earlier)
+  store_old s p = earlier_old h e f p.b (named-is (followed h e) s p.b p.store_named).0
+      (subst (λ (x : Event). Earlier p.b x) (load_is s p) p.earlier)
 
   -- the hart has no store of the word
   pub stale-none : IsHighestStore h.events e.word (length h.events) None → (s : Id) → IsStale (followed h e) e.id s → ⊥
-  stale-none none s p = none p.b (store_old s p) p.is_store (p.word ∙ ap (λ (x : Event). x.word) (load_is s p)) (f.known.below p.b (store_old s p))
+  stale-none none s p = none p.b (store_old s p) p.is_store (p.word ∙ ap (λ (x : Event). x.word) (load_is s p))
+      (f.known.below p.b (store_old s p))
 
   -- its highest version is no higher than what was returned
-  pub stale-low : (n : ℕ) (x : IsHighestStore h.events e.word (length h.events) (Some n)) → x.1.a.wrote ≤ e.read → (s : Id) → IsStale (followed h e) e.id s → ⊥
+  pub stale-low : (n : ℕ) (x : IsHighestStore h.events e.word (length h.events) (Some n)) → x.1.a.wrote ≤ e.read →
+      (s : Id) → IsStale (followed h e) e.id s → ⊥
   stale-low n x low s p =
-      let most : p.b.wrote ≤ x.1.a.wrote = x.1.holds.2 p.b (store_old s p) p.is_store (p.word ∙ ap (λ (y : Event). y.word) (load_is s p)) (f.known.below p.b (store_old s p)) in
+      let most : p.b.wrote ≤ x.1.a.wrote =
+      x.1.holds.2 p.b (store_old s p) p.is_store (p.word ∙ ap (λ (y : Event). y.word) (load_is s p))
+      (f.known.below p.b (store_old s p)) in
       let read : p.a.read ≡ e.read = ap (λ (y : Event). y.read) (load_is s p) in
       let versions = p.versions in
       omega arith
 
   -- it is higher
-  pub stale-high : IsLoad e → (n : ℕ) (x : IsHighestStore h.events e.word (length h.events) (Some n)) → e.read < x.1.a.wrote → IsStale (followed h e) e.id x.1.a.id
+  pub stale-high : IsLoad e → (n : ℕ) (x : IsHighestStore h.events e.word (length h.events) (Some n)) →
+      e.read < x.1.a.wrote → IsStale (followed h e) e.id x.1.a.id
   stale-high load n x high = record {
     a = e;
     b = x.1.a;

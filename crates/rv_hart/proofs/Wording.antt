@@ -1,5 +1,7 @@
 -- The links of words with one more event, and with one less.
-use Rattle.std.proofs.Common.{◌≡◌, ◌≢◌, ℕ, ◌+◌, ◌<◌, ◌≤◌, List, [], ◌∷◌, ◌++◌, length, get_or, Contains, Option, Some, None, nat_eq, slice_get, ◌-◌, ◌⊎◌, inl, inr, sym, refl, ap, ◌∙◌, arith, subst}
+use Rattle.std.proofs.Common.{◌≡◌, ◌≢◌, ℕ, ◌+◌, ◌<◌, ◌≤◌, List, [], ◌∷◌, ◌++◌, length, get_or, Contains}
+use Rattle.std.proofs.Common.{Option, Some, None, nat_eq, slice_get, ◌-◌, ◌⊎◌, inl, inr, sym, refl, ap, ◌∙◌}
+use Rattle.std.proofs.Common.{arith, subst}
 use Rattle.std.proofs.lemmas.Bool.{cases_order, cases_eq, or_right}
 use Rattle.std.specs.HashMap.{get}
 use Rattle.std.proofs.lemmas.Option.{same_Some, slice_get-get_or}
@@ -7,34 +9,50 @@ use Rattle.std.proofs.lemmas.List.{length_push, get_or_append_left, get_or_at, g
 use Rattle.std.proofs.lemmas.List.Elements.{Contains-push_cases, Contains-push, Contains-append_left}
 use Rattle.rv_event.specs.Operations.{is_load, is_store, IsMemory, IsStore}
 use Rattle.rv_event.specs.declared.event.Event.{Event}
-use Rattle.rv_hart.specs.Words.{AreNumbered, IsOfWord, IsAbove, NamesOfWord, IsLastBelow, IsBeforeRun, IsWordLink, IsHighestStore, link_at, AreWords}
+use Rattle.rv_hart.specs.Words.{AreNumbered, IsOfWord, IsAbove, NamesOfWord, IsLastBelow, IsBeforeRun}
+use Rattle.rv_hart.specs.Words.{IsWordLink, IsHighestStore, link_at, AreWords}
 use Rattle.rv_hart.specs.declared.words.WordLink.{WordLink}
 use Rattle.rv_hart.specs.declared.words.Words.{Words}
 
 -- an event of a numbered list has a number below the list's length
-pub numbered-below : (events : List Event) → AreNumbered events → (a : Event) → Contains events a → a.id.seq < length events
+pub numbered-below : (events : List Event) → AreNumbered events → (a : Event) → Contains events a →
+    a.id.seq < length events
 numbered-below events numbered a (k, low, is) =
     let at : (get_or events k a).id.seq ≡ k = numbered k a low in
     let same : (get_or events k a).id.seq ≡ a.id.seq = ap (λ (x : Event). x.id.seq) is in
     omega arith
 
-pub numbered-at : (events : List Event) → AreNumbered events → (a d : Event) → Contains events a → get_or events a.id.seq d ≡ a
+pub numbered-at : (events : List Event) → AreNumbered events → (a d : Event) → Contains events a →
+    get_or events a.id.seq d ≡ a
 numbered-at events numbered a d (k, low, is) =
     let at : (get_or events k a).id.seq ≡ k = numbered k a low in
     let same : a.id.seq ≡ k = ap (λ (x : Event). x.id.seq) (sym is) ∙ at in
     ap (λ (n : ℕ). get_or events n d) same ∙ get_or_default events k d a low ∙ is
 
-pub numbered-same : (events : List Event) → AreNumbered events → (a b : Event) → Contains events a → Contains events b → a.id.seq ≡ b.id.seq → a ≡ b
+pub numbered-same : (events : List Event) → AreNumbered events → (a b : Event) → Contains events a → Contains events b →
+    a.id.seq ≡ b.id.seq → a ≡ b
 numbered-same events numbered a b ca cb same =
-    sym (numbered-at events numbered a a ca) ∙ ap (λ (n : ℕ). get_or events n a) same ∙ numbered-at events numbered b a cb
+    sym (numbered-at events numbered a a ca) ∙ ap (λ (n : ℕ). get_or events n a) same ∙
+    numbered-at events numbered b a cb
 
 -- a name holds on under a higher limit
-names-weaker : (events more : List Event) (word limit limit' : ℕ) (o : Option ℕ) → ((a : Event) → Contains events a → Contains more a) → limit ≤ limit' → NamesOfWord events word limit o → NamesOfWord more word limit' o
+names-weaker : (events more : List Event) (word limit limit' : ℕ) (o : Option ℕ) →
+    ((a : Event) → Contains events a → Contains more a) → limit ≤ limit' → NamesOfWord events word limit o →
+    NamesOfWord more word limit' o
 names-weaker events more word limit limit' None grows le names = tt
-names-weaker events more word limit limit' (Some p) grows le names = (let low = names.0 in omega arith, record { a = names.1.a; of_list = grows names.1.a names.1.of_list; at = names.1.at; holds = names.1.holds })
+names-weaker events more word limit limit' (Some p) grows le names = (
+  let low = names.0 in omega arith,
+  record {
+    a = names.1.a;
+    of_list = grows names.1.a names.1.of_list;
+    at = names.1.at;
+    holds = names.1.holds;
+  },
+)
 
 -- what is named of another number's event
-names-word : (events : List Event) (word word' limit : ℕ) (o : Option ℕ) → word ≡ word' → NamesOfWord events word limit o → NamesOfWord events word' limit o
+names-word : (events : List Event) (word word' limit : ℕ) (o : Option ℕ) → word ≡ word' →
+    NamesOfWord events word limit o → NamesOfWord events word' limit o
 names-word events word word' limit o same names = subst (λ (w : ℕ). NamesOfWord events w limit o) same names
 
 -- ---- the link of the next event
@@ -45,19 +63,25 @@ module _ (events : List Event) (e : Event) (numbered : AreNumbered events) (next
 
   -- a walk may always go on at the previous one
   pub run-previous : (o : Option ℕ) → IsLastBelow events e.word (length events) o → IsBeforeRun events e o
-  run-previous o last = let p = previous-is o last in record { names = p.names; run = λ m c w above low. absurd (p.none_later m c w above low) }
+  run-previous o last = let p = previous-is o last in
+      record { names = p.names; run = λ m c w above low. absurd (p.none_later m c w above low) }
 
   -- or where it goes on from the previous one, where that returned the same
-  pub run-longer : (p : ℕ) (o : Option ℕ) (a : Event) → Contains events a → a.id.seq ≡ p → IsLastBelow events e.word (length events) (Some p) → IsBeforeRun events a o → (IsStore a → ⊥) → a.read ≡ e.read → IsBeforeRun events e o
+  pub run-longer : (p : ℕ) (o : Option ℕ) (a : Event) → Contains events a → a.id.seq ≡ p →
+      IsLastBelow events e.word (length events) (Some p) → IsBeforeRun events a o → (IsStore a → ⊥) → a.read ≡ e.read →
+      IsBeforeRun events e o
   run-longer p o a ca at last before plain same = record {
-    names = names-weaker events events e.word a.id.seq e.id.seq o (λ x c. c) (let low = last.names.0 in omega arith) (names-word events a.word e.word a.id.seq o word before.names);
+    names = names-weaker events events e.word a.id.seq e.id.seq o (λ x c. c) (let low = last.names.0 in omega arith)
+        (names-word events a.word e.word a.id.seq o word before.names);
     run = λ m c w above low. go m c w above low (cases_order m.id.seq p);
   }
     where
       word : a.word ≡ e.word
-      word = ap (λ (x : Event). x.word) (numbered-same events numbered a last.names.1.a ca last.names.1.of_list (at ∙ sym last.names.1.at)) ∙ last.names.1.holds.1
+      word = ap (λ (x : Event). x.word) (numbered-same events numbered a last.names.1.a ca last.names.1.of_list
+          (at ∙ sym last.names.1.at)) ∙ last.names.1.holds.1
 
-      go : (m : Event) → Contains events m → IsOfWord e.word m → IsAbove o m.id.seq → m.id.seq < e.id.seq → (m.id.seq ≡ p) ⊎ ((m.id.seq < p) ⊎ (p < m.id.seq)) → (IsStore m → ⊥) × (m.read ≡ e.read)
+      go : (m : Event) → Contains events m → IsOfWord e.word m → IsAbove o m.id.seq → m.id.seq < e.id.seq →
+          (m.id.seq ≡ p) ⊎ ((m.id.seq < p) ⊎ (p < m.id.seq)) → (IsStore m → ⊥) × (m.read ≡ e.read)
       go m c w above low (inl is) =
           let one : a ≡ m = numbered-same events numbered a m ca c (at ∙ sym is) in
           (λ s. plain (subst IsStore (sym one) s), ap (λ (x : Event). x.read) (sym one) ∙ same)
@@ -70,12 +94,15 @@ module _ (events : List Event) (e : Event) (numbered : AreNumbered events) (next
 store-of-word : (word : ℕ) (m : Event) → IsStore m → m.word ≡ word → IsOfWord word m
 store-of-word word m s w = (or_right (is_load m.op) (is_store m.op) s, w)
 
-pub highest-none : (events : List Event) (word : ℕ) → AreNumbered events → IsLastBelow events word (length events) None → IsHighestStore events word (length events) None
+pub highest-none : (events : List Event) (word : ℕ) → AreNumbered events →
+    IsLastBelow events word (length events) None → IsHighestStore events word (length events) None
 highest-none events word numbered last m c s w low = last.none_later m c (store-of-word word m s w) tt low
 
-module _ (events : List Event) (numbered : AreNumbered events) (word p : ℕ) (a : Event) (ca : Contains events a) (at : a.id.seq ≡ p) (last : IsLastBelow events word (length events) (Some p)) where
+module _ (events : List Event) (numbered : AreNumbered events) (word p : ℕ) (a : Event) (ca : Contains events a)
+    (at : a.id.seq ≡ p) (last : IsLastBelow events word (length events) (Some p)) where
   last-word : a.word ≡ word
-  last-word = ap (λ (x : Event). x.word) (numbered-same events numbered a last.names.1.a ca last.names.1.of_list (at ∙ sym last.names.1.at)) ∙ last.names.1.holds.1
+  last-word = ap (λ (x : Event). x.word) (numbered-same events numbered a last.names.1.a ca last.names.1.of_list
+      (at ∙ sym last.names.1.at)) ∙ last.names.1.holds.1
 
   -- a store of the word is the last operation, or before it
   by-place : (m : Event) → Contains events m → IsStore m → m.word ≡ word → (a ≡ m) ⊎ (m.id.seq < a.id.seq)
@@ -86,7 +113,8 @@ module _ (events : List Event) (numbered : AreNumbered events) (word p : ℕ) (a
   ]
 
   -- the last operation is no store
-  pub highest-before : (o : Option ℕ) → (IsStore a → ⊥) → IsHighestStore events a.word a.id.seq o → IsHighestStore events word (length events) o
+  pub highest-before : (o : Option ℕ) → (IsStore a → ⊥) → IsHighestStore events a.word a.id.seq o →
+      IsHighestStore events word (length events) o
   highest-before None none before = λ m c s w low. elim (by-place m c s w) [
     | inl is ↦ none (subst IsStore (sym is) s)
     | inr under ↦ before m c s (w ∙ sym last-word) under
@@ -109,7 +137,8 @@ module _ (events : List Event) (numbered : AreNumbered events) (word p : ℕ) (a
   )
 
   -- it is the first store
-  pub highest-first : IsStore a → IsHighestStore events a.word a.id.seq None → IsHighestStore events word (length events) (Some p)
+  pub highest-first : IsStore a → IsHighestStore events a.word a.id.seq None →
+      IsHighestStore events word (length events) (Some p)
   highest-first store before = (
     last.names.0,
     record {
@@ -128,7 +157,8 @@ module _ (events : List Event) (numbered : AreNumbered events) (word p : ℕ) (a
   )
 
   -- it is a store of a higher version
-  pub highest-here : IsStore a → (q : ℕ) (b : IsHighestStore events a.word a.id.seq (Some q)) → b.1.a.wrote < a.wrote → IsHighestStore events word (length events) (Some p)
+  pub highest-here : IsStore a → (q : ℕ) (b : IsHighestStore events a.word a.id.seq (Some q)) → b.1.a.wrote < a.wrote →
+      IsHighestStore events word (length events) (Some p)
   highest-here store q b higher = (
     last.names.0,
     record {
@@ -147,7 +177,8 @@ module _ (events : List Event) (numbered : AreNumbered events) (word p : ℕ) (a
   )
 
   -- or of a lower one
-  pub highest-there : (q : ℕ) (b : IsHighestStore events a.word a.id.seq (Some q)) → a.wrote ≤ b.1.a.wrote → IsHighestStore events word (length events) (Some q)
+  pub highest-there : (q : ℕ) (b : IsHighestStore events a.word a.id.seq (Some q)) → a.wrote ≤ b.1.a.wrote →
+      IsHighestStore events word (length events) (Some q)
   highest-there q b lower = (
     (let low = b.0 in let within = numbered-below events numbered a ca in omega arith),
     record {
@@ -183,29 +214,61 @@ module _ (events : List Event) (e : Event) (numbered : AreNumbered events) (next
     | inr is ↦ (let same : e.id.seq ≡ m.id.seq = ap (λ (x : Event). x.id.seq) is in absurd (omega arith))
   ]
 
-  names-less : (word limit : ℕ) (o : Option ℕ) → limit ≤ e.id.seq → NamesOfWord more word limit o → NamesOfWord events word limit o
+  names-less : (word limit : ℕ) (o : Option ℕ) → limit ≤ e.id.seq → NamesOfWord more word limit o →
+      NamesOfWord events word limit o
   names-less word limit None le names = tt
-  names-less word limit (Some p) le names = (names.0, record { a = names.1.a; of_list = settled names.1.a names.1.of_list (let low = names.0 in let at = names.1.at in omega arith); at = names.1.at; holds = names.1.holds })
+  names-less word limit (Some p) le names = (
+    names.0,
+    record {
+      a = names.1.a;
+      of_list = settled names.1.a names.1.of_list
+          (let low = names.0 in let at = names.1.at in omega arith);
+      at = names.1.at;
+      holds = names.1.holds;
+    },
+  )
 
-  last-grows : (word limit : ℕ) (o : Option ℕ) → limit ≤ e.id.seq → IsLastBelow events word limit o → IsLastBelow more word limit o
+  last-grows : (word limit : ℕ) (o : Option ℕ) → limit ≤ e.id.seq → IsLastBelow events word limit o →
+      IsLastBelow more word limit o
   last-grows word limit o le last = record {
     names = names-weaker events more word limit limit o old (omega arith) last.names;
     none_later = λ m c w above low. last.none_later m (settled m c (omega arith)) w above low;
   }
 
-  last-settled : (word limit : ℕ) (o : Option ℕ) → limit ≤ e.id.seq → IsLastBelow more word limit o → IsLastBelow events word limit o
+  last-settled : (word limit : ℕ) (o : Option ℕ) → limit ≤ e.id.seq → IsLastBelow more word limit o →
+      IsLastBelow events word limit o
   last-settled word limit o le last = record {
     names = names-less word limit o le last.names;
     none_later = λ m c w above low. last.none_later m (old m c) w above low;
   }
 
-  highest-grows : (word limit : ℕ) (o : Option ℕ) → limit ≤ e.id.seq → IsHighestStore events word limit o → IsHighestStore more word limit o
+  highest-grows : (word limit : ℕ) (o : Option ℕ) → limit ≤ e.id.seq → IsHighestStore events word limit o →
+      IsHighestStore more word limit o
   highest-grows word limit None le none = λ m c s w low. none m (settled m c (omega arith)) s w low
-  highest-grows word limit (Some p) le has = (has.0, record { a = has.1.a; of_list = old has.1.a has.1.of_list; at = has.1.at; holds = (has.1.holds.0, has.1.holds.1, λ m c s w low. has.1.holds.2 m (settled m c (omega arith)) s w low) })
+  highest-grows word limit (Some p) le has = (
+    has.0,
+    record {
+      a = has.1.a;
+      of_list = old has.1.a has.1.of_list;
+      at = has.1.at;
+      holds = (has.1.holds.0, has.1.holds.1, λ m c s w low. has.1.holds.2 m (settled m c (omega arith)) s w low);
+    },
+  )
 
-  highest-settled : (word limit : ℕ) (o : Option ℕ) → limit ≤ e.id.seq → IsHighestStore more word limit o → IsHighestStore events word limit o
+  highest-settled : (word limit : ℕ) (o : Option ℕ) → limit ≤ e.id.seq → IsHighestStore more word limit o →
+      IsHighestStore events word limit o
   highest-settled word limit None le none = λ m c s w low. none m (old m c) s w low
-  highest-settled word limit (Some p) le has = (has.0, record { a = has.1.a; of_list = settled has.1.a has.1.of_list (let low = has.0 in let at = has.1.at in omega arith); at = has.1.at; holds = (has.1.holds.0, has.1.holds.1, λ m c s w low. has.1.holds.2 m (old m c) s w low) })
+  highest-settled word limit (Some p) le has = (
+    has.0,
+    record {
+      a = has.1.a;
+      of_list = settled has.1.a has.1.of_list (let low = has.0 in let at = has.1.at in
+          omega arith);
+      at = has.1.at;
+      holds =
+          (has.1.holds.0, has.1.holds.1, λ m c s w low. has.1.holds.2 m (old m c) s w low);
+    },
+  )
 
   pub link-grows : (a : Event) (l : WordLink) → a.id.seq ≤ e.id.seq → IsWordLink events a l → IsWordLink more a l
   link-grows a l le link = record {
@@ -230,12 +293,21 @@ module _ (events : List Event) (e : Event) (numbered : AreNumbered events) (next
   -- the new event is the last of its word
   last-new : IsMemory e → IsLastBelow more e.word (length more) (Some e.id.seq)
   last-new memory = record {
-    names = (omega (arith, grown), record { a = e; of_list = Contains-push events e; at = refl; holds = (memory, refl) });
+    names = (
+      omega (arith, grown),
+      record {
+        a = e;
+        of_list = Contains-push events e;
+        at = refl;
+        holds = (memory, refl);
+      },
+    );
     none_later = λ m c w above low. omega (arith, grown);
   }
 
   -- and of no other
-  last-other : (word : ℕ) (o : Option ℕ) → (IsOfWord word e → ⊥) → IsLastBelow events word (length events) o → IsLastBelow more word (length more) o
+  last-other : (word : ℕ) (o : Option ℕ) → (IsOfWord word e → ⊥) → IsLastBelow events word (length events) o →
+      IsLastBelow more word (length more) o
   last-other word o other last = record {
     names = names-weaker events more word (length events) (length more) o old (omega (arith, grown)) last.names;
     none_later = λ m c w above low. elim (Contains-push_cases events e m c) [
@@ -244,7 +316,8 @@ module _ (events : List Event) (e : Event) (numbered : AreNumbered events) (next
     ];
   }
 
-  last-other-settled : (word : ℕ) (o : Option ℕ) → (IsOfWord word e → ⊥) → IsLastBelow more word (length more) o → IsLastBelow events word (length events) o
+  last-other-settled : (word : ℕ) (o : Option ℕ) → (IsOfWord word e → ⊥) → IsLastBelow more word (length more) o →
+      IsLastBelow events word (length events) o
   last-other-settled word o other last = record {
     names = go o last.names;
     none_later = λ m c w above low. last.none_later m (old m c) w above (omega (arith, grown));
@@ -253,90 +326,149 @@ module _ (events : List Event) (e : Event) (numbered : AreNumbered events) (next
       go : (o : Option ℕ) → NamesOfWord more word (length more) o → NamesOfWord events word (length events) o
       go None names = tt
       go (Some p) names = elim (Contains-push_cases events e names.1.a names.1.of_list) [
-        | inl c ↦ (let low = numbered-below events numbered names.1.a c in let at = names.1.at in omega arith, record { a = names.1.a; of_list = c; at = names.1.at; holds = names.1.holds })
+        | inl c ↦ (
+          let low = numbered-below events numbered names.1.a c in let at = names.1.at in omega arith,
+          record { a = names.1.a; of_list = c; at = names.1.at; holds = names.1.holds },
+        )
         | inr is ↦ absurd (other (subst (IsOfWord word) (sym is) names.1.holds))
       ]
 
-  pub words-push : (words words' : Words) (link : WordLink) → AreWords events words → words'.links.items ≡ words.links.items ++ link ∷ [] → (IsMemory e → IsWordLink events e link) →
+  pub words-push : (words words' : Words) (link : WordLink) → AreWords events words →
+      words'.links.items ≡ words.links.items ++ link ∷ [] → (IsMemory e → IsWordLink events e link) →
       ((word : ℕ) → IsLastBelow more word (length more) (get nat_eq words'.lasts word)) → AreWords more words'
   words-push words words' link are is new lasts = record {
     lasts = lasts;
-    links = λ a c memory. subst (λ (ls : List WordLink). IsWordLink more a (link_at ls a.id.seq)) (sym is) (elim (Contains-push_cases events e a c) [
-      | inl c ↦ (
-          let low = numbered-below events numbered a c in
-          let at : link_at (words.links.items ++ link ∷ []) a.id.seq ≡ link_at words.links.items a.id.seq = get_or_append_left words.links.items (link ∷ []) (record { previous = None; before_run = None; highest = None }) a.id.seq (let n = are.count in omega arith) in
-          subst (IsWordLink more a) (sym at) (link-grows a (link_at words.links.items a.id.seq) (omega arith) (are.links a c memory)))
-      | inr same ↦ (
-          let at : link_at (words.links.items ++ link ∷ []) a.id.seq ≡ link = get_or_at words.links.items link [] (record { previous = None; before_run = None; highest = None }) a.id.seq (are.count ∙ sym next ∙ ap (λ (x : Event). x.id.seq) same) in
-          let mine : IsMemory e = subst IsMemory (sym same) memory in
-          subst (IsWordLink more a) (sym at) (subst (λ (x : Event). IsWordLink more x link) same (link-grows e link (omega arith) (new mine))))
-    ]);
-    count = ap (λ (ls : List WordLink). length ls) is ∙ omega (arith, grown, length_push words.links.items link, are.count);
+    links = λ a c memory. subst (λ (ls : List WordLink). IsWordLink more a (link_at ls a.id.seq)) (sym is)
+        (elim (Contains-push_cases events e a c) [
+          | inl c ↦ (
+              let low = numbered-below events numbered a c in
+              let at : link_at (words.links.items ++ link ∷ []) a.id.seq ≡ link_at words.links.items a.id.seq =
+              get_or_append_left words.links.items (link ∷ [])
+              (record { previous = None; before_run = None; highest = None }) a.id.seq
+              (let n = are.count in omega arith) in
+              subst (IsWordLink more a) (sym at)
+              (link-grows a (link_at words.links.items a.id.seq) (omega arith) (are.links a c memory)))
+          | inr same ↦ (
+              let at : link_at (words.links.items ++ link ∷ []) a.id.seq ≡ link =
+              get_or_at words.links.items link [] (record { previous = None; before_run = None; highest = None })
+              a.id.seq (are.count ∙ sym next ∙ ap (λ (x : Event). x.id.seq) same) in
+              let mine : IsMemory e = subst IsMemory (sym same) memory in
+              subst (IsWordLink more a) (sym at)
+              (subst (λ (x : Event). IsWordLink more x link) same (link-grows e link (omega arith) (new mine))))
+        ]);
+    count = ap (λ (ls : List WordLink). length ls) is ∙
+        omega (arith, grown, length_push words.links.items link, are.count);
   }
 
-  pub words-pop : (words words' : Words) (link : WordLink) → AreWords more words → words.links.items ≡ words'.links.items ++ link ∷ [] →
+  pub words-pop : (words words' : Words) (link : WordLink) → AreWords more words →
+      words.links.items ≡ words'.links.items ++ link ∷ [] →
       ((word : ℕ) → IsLastBelow events word (length events) (get nat_eq words'.lasts word)) → AreWords events words'
   words-pop words words' link are is lasts = record {
     lasts = lasts;
     links = λ a c memory.
         let low = numbered-below events numbered a c in
-        let at : link_at words.links.items a.id.seq ≡ link_at words'.links.items a.id.seq = ap (λ (ls : List WordLink). link_at ls a.id.seq) is ∙ get_or_append_left words'.links.items (link ∷ []) (record { previous = None; before_run = None; highest = None }) a.id.seq (omega (arith, counted)) in
-        link-settled a (link_at words'.links.items a.id.seq) (omega arith) (subst (IsWordLink more a) at (are.links a (old a c) memory));
+        let at : link_at words.links.items a.id.seq ≡ link_at words'.links.items a.id.seq =
+        ap (λ (ls : List WordLink). link_at ls a.id.seq) is ∙ get_or_append_left words'.links.items (link ∷ [])
+        (record { previous = None; before_run = None; highest = None }) a.id.seq (omega (arith, counted)) in
+        link-settled a (link_at words'.links.items a.id.seq) (omega arith)
+        (subst (IsWordLink more a) at (are.links a (old a c) memory));
     count = counted;
   }
     where
       counted : length words'.links.items ≡ length events
-      counted = omega (arith, grown, are.count, ap (λ (ls : List WordLink). length ls) is, length_push words'.links.items link)
+      counted = omega (
+        arith,
+        grown,
+        are.count,
+        ap (λ (ls : List WordLink). length ls) is,
+        length_push words'.links.items link,
+      )
 
   -- the link that is taken off leads to the word's last operation before it
-  pub pop-here : (words words' : Words) (link : WordLink) → AreWords more words → words.links.items ≡ words'.links.items ++ link ∷ [] → IsMemory e → IsLastBelow events e.word (length events) link.previous
+  pub pop-here : (words words' : Words) (link : WordLink) → AreWords more words →
+      words.links.items ≡ words'.links.items ++ link ∷ [] → IsMemory e →
+      IsLastBelow events e.word (length events) link.previous
   pop-here words words' link are is memory =
-      let counted : length words'.links.items ≡ e.id.seq = omega (arith, grown, are.count, ap (λ (ls : List WordLink). length ls) is, length_push words'.links.items link) in
-      let at : link_at words.links.items e.id.seq ≡ link = ap (λ (ls : List WordLink). link_at ls e.id.seq) is ∙ get_or_at words'.links.items link [] (record { previous = None; before_run = None; highest = None }) e.id.seq counted in
-      let linked : IsWordLink more e link = subst (IsWordLink more e) at (are.links e (Contains-push events e) memory) in
-      subst (λ (n : ℕ). IsLastBelow events e.word n link.previous) next (last-settled e.word e.id.seq link.previous (omega arith) linked.previous)
+      let counted : length words'.links.items ≡ e.id.seq =
+      omega (
+        arith,
+        grown,
+        are.count,
+        ap (λ (ls : List WordLink). length ls) is,
+        length_push words'.links.items link,
+      ) in
+      let at : link_at words.links.items e.id.seq ≡ link = ap (λ (ls : List WordLink). link_at ls e.id.seq) is ∙
+      get_or_at words'.links.items link [] (record { previous = None; before_run = None; highest = None })
+      e.id.seq counted in
+      let linked : IsWordLink more e link =
+      subst (IsWordLink more e) at (are.links e (Contains-push events e) memory) in
+      subst (λ (n : ℕ). IsLastBelow events e.word n link.previous) next
+      (last-settled e.word e.id.seq link.previous (omega arith) linked.previous)
 
   -- the last operations of the words, where a memory operation came
-  pub lasts-memory : (old new : ℕ → Option ℕ) → IsMemory e → ((word : ℕ) → IsLastBelow events word (length events) (old word)) → new e.word ≡ Some e.id.seq → ((word : ℕ) → e.word ≢ word → new word ≡ old word) → (word : ℕ) → IsLastBelow more word (length more) (new word)
+  pub lasts-memory : (old new : ℕ → Option ℕ) → IsMemory e →
+      ((word : ℕ) → IsLastBelow events word (length events) (old word)) → new e.word ≡ Some e.id.seq →
+      ((word : ℕ) → e.word ≢ word → new word ≡ old word) → (word : ℕ) → IsLastBelow more word (length more) (new word)
   lasts-memory old new memory lasts here others word = elim (cases_eq e.word word) [
-    | inl same ↦ subst (λ (w : ℕ). IsLastBelow more w (length more) (new w)) same (subst (IsLastBelow more e.word (length more)) (sym here) (last-new memory))
-    | inr apart ↦ subst (IsLastBelow more word (length more)) (sym (others word apart)) (last-other word (old word) (λ w. apart w.1) (lasts word))
+    | inl same ↦ subst (λ (w : ℕ). IsLastBelow more w (length more) (new w)) same
+        (subst (IsLastBelow more e.word (length more)) (sym here) (last-new memory))
+    | inr apart ↦ subst (IsLastBelow more word (length more)) (sym (others word apart))
+        (last-other word (old word) (λ w. apart w.1) (lasts word))
   ]
 
   -- and where another event came
-  pub lasts-same : (old new : ℕ → Option ℕ) → (IsMemory e → ⊥) → ((word : ℕ) → IsLastBelow events word (length events) (old word)) → ((word : ℕ) → new word ≡ old word) → (word : ℕ) → IsLastBelow more word (length more) (new word)
-  lasts-same old new none lasts same word = subst (IsLastBelow more word (length more)) (sym (same word)) (last-other word (old word) (λ w. none w.0) (lasts word))
+  pub lasts-same : (old new : ℕ → Option ℕ) → (IsMemory e → ⊥) →
+      ((word : ℕ) → IsLastBelow events word (length events) (old word)) → ((word : ℕ) → new word ≡ old word) →
+      (word : ℕ) → IsLastBelow more word (length more) (new word)
+  lasts-same old new none lasts same word = subst (IsLastBelow more word (length more)) (sym (same word))
+      (last-other word (old word) (λ w. none w.0) (lasts word))
 
   -- and where they go
-  pub lasts-back : (old new : ℕ → Option ℕ) (o : Option ℕ) → ((word : ℕ) → IsLastBelow more word (length more) (old word)) → IsLastBelow events e.word (length events) o → new e.word ≡ o → ((word : ℕ) → e.word ≢ word → new word ≡ old word) → (word : ℕ) → IsLastBelow events word (length events) (new word)
+  pub lasts-back : (old new : ℕ → Option ℕ) (o : Option ℕ) →
+      ((word : ℕ) → IsLastBelow more word (length more) (old word)) → IsLastBelow events e.word (length events) o →
+      new e.word ≡ o → ((word : ℕ) → e.word ≢ word → new word ≡ old word) → (word : ℕ) →
+      IsLastBelow events word (length events) (new word)
   lasts-back old new o lasts last here others word = elim (cases_eq e.word word) [
-    | inl same ↦ subst (λ (w : ℕ). IsLastBelow events w (length events) (new w)) same (subst (IsLastBelow events e.word (length events)) (sym here) last)
-    | inr apart ↦ subst (IsLastBelow events word (length events)) (sym (others word apart)) (last-other-settled word (old word) (λ w. apart w.1) (lasts word))
+    | inl same ↦ subst (λ (w : ℕ). IsLastBelow events w (length events) (new w)) same
+        (subst (IsLastBelow events e.word (length events)) (sym here) last)
+    | inr apart ↦ subst (IsLastBelow events word (length events)) (sym (others word apart))
+        (last-other-settled word (old word) (λ w. apart w.1) (lasts word))
   ]
 
-  pub lasts-kept : (old new : ℕ → Option ℕ) → (IsMemory e → ⊥) → ((word : ℕ) → IsLastBelow more word (length more) (old word)) → ((word : ℕ) → new word ≡ old word) → (word : ℕ) → IsLastBelow events word (length events) (new word)
-  lasts-kept old new none lasts same word = subst (IsLastBelow events word (length events)) (sym (same word)) (last-other-settled word (old word) (λ w. none w.0) (lasts word))
+  pub lasts-kept : (old new : ℕ → Option ℕ) → (IsMemory e → ⊥) →
+      ((word : ℕ) → IsLastBelow more word (length more) (old word)) → ((word : ℕ) → new word ≡ old word) → (word : ℕ) →
+      IsLastBelow events word (length events) (new word)
+  lasts-kept old new none lasts same word = subst (IsLastBelow events word (length events)) (sym (same word))
+      (last-other-settled word (old word) (λ w. none w.0) (lasts word))
 
 -- what `last` gives of a list with an event at its end
-pub last-is : (events front : List Event) (e x : Event) → events ≡ front ++ e ∷ [] → slice_get events (length events - 1) ≡ Some x → e ≡ x
+pub last-is : (events front : List Event) (e x : Event) → events ≡ front ++ e ∷ [] →
+    slice_get events (length events - 1) ≡ Some x → e ≡ x
 last-is events front e x is got =
     let low : length front < length (front ++ e ∷ []) = omega (arith, length_push front e) in
     let n : length (front ++ e ∷ []) - 1 ≡ length front = omega (arith, length_push front e) in
-    let here : slice_get (front ++ e ∷ []) (length front) ≡ Some e = slice_get-get_or (front ++ e ∷ []) (length front) e low ∙ ap Some (get_or_at front e [] e (length front) refl) in
-    same_Some e x (sym here ∙ ap (λ (k : ℕ). slice_get (front ++ e ∷ []) k) (sym n) ∙ ap (λ (es : List Event). slice_get es (length es - 1)) (sym is) ∙ got)
+    let here : slice_get (front ++ e ∷ []) (length front) ≡ Some e =
+    slice_get-get_or (front ++ e ∷ []) (length front) e low ∙
+    ap Some (get_or_at front e [] e (length front) refl) in
+    same_Some e x (sym here ∙ ap (λ (k : ℕ). slice_get (front ++ e ∷ []) k) (sym n) ∙
+    ap (λ (es : List Event). slice_get es (length es - 1)) (sym is) ∙ got)
 
 -- the numbers of a list without its last event
 pub numbered-front : (front : List Event) (e : Event) → AreNumbered (front ++ e ∷ []) → AreNumbered front
 numbered-front front e numbered s d low =
-    ap (λ (x : Event). x.id.seq) (sym (get_or_append_left front (e ∷ []) d s low)) ∙ numbered s d (omega (arith, length_push front e))
+    ap (λ (x : Event). x.id.seq) (sym (get_or_append_left front (e ∷ []) d s low)) ∙
+    numbered s d (omega (arith, length_push front e))
 
 pub numbered-last : (front : List Event) (e : Event) → AreNumbered (front ++ e ∷ []) → e.id.seq ≡ length front
 numbered-last front e numbered =
-    ap (λ (x : Event). x.id.seq) (sym (get_or_at front e [] e (length front) refl)) ∙ numbered (length front) e (omega (arith, length_push front e))
+    ap (λ (x : Event). x.id.seq) (sym (get_or_at front e [] e (length front) refl)) ∙
+    numbered (length front) e (omega (arith, length_push front e))
 
 -- what is read at an event's number is the event
-pub numbered-read : (events : List Event) → AreNumbered events → (w x : Event) (n : ℕ) → Contains events w → w.id.seq ≡ n → x ≡ get_or events n x → x ≡ w
-numbered-read events numbered w x n cw at read = read ∙ ap (λ (k : ℕ). get_or events k x) (sym at) ∙ numbered-at events numbered w x cw
+pub numbered-read : (events : List Event) → AreNumbered events → (w x : Event) (n : ℕ) → Contains events w →
+    w.id.seq ≡ n → x ≡ get_or events n x → x ≡ w
+numbered-read events numbered w x n cw at read = read ∙ ap (λ (k : ℕ). get_or events k x) (sym at) ∙
+    numbered-at events numbered w x cw
 
 -- one event wrote one version
 pub wrote-same : (x y : Event) → x ≡ y → x.wrote ≡ y.wrote

@@ -99,7 +99,8 @@ impl HartOrder {
         requires { self.old.events ≢ [] }
         ensures model { self.new.model ≡ self.old.model }
         ensures number { self.new.number ≡ self.old.number }
-        ensures popped { (front : List Event) (e : Event) → self.old.events ≡ front ++ e ∷ [] → self.new.events ≡ front }
+        ensures popped { (front : List Event) (e : Event) → self.old.events ≡ front ++ e ∷ [] →
+            self.new.events ≡ front }
     {
         self.kept.pop();
     }

@@ -88,7 +88,8 @@ impl Kept {
         ensures kept { IsKept self.new }
         ensures model { self.new.model ≡ self.old.model }
         ensures number { self.new.number ≡ self.old.number }
-        ensures popped { (front : List Event) (e : Event) → self.old.events.items ≡ front ++ e ∷ [] → self.new.events.items ≡ front }
+        ensures popped { (front : List Event) (e : Event) → self.old.events.items ≡ front ++ e ∷ [] →
+            self.new.events.items ≡ front }
     {
         self.words.pop(self.events.as_slice());
         self.events.pop();

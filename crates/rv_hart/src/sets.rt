@@ -55,7 +55,8 @@ impl Sets {
     pub fn absorb(&mut self, model: MemoryModel, event: &Event)
         requires number { event.now.id.seq < 4096 }
         requires dependencies { All (λ d. d.seq < 4096) event.now.deps }
-        ensures { (h : Hart) → IsHart h → Follows h event.now → h.model ≡ model → AreSets h self.old → AreSets (hart_with h event.now) self.new }
+        ensures { (h : Hart) → IsHart h → Follows h event.now → h.model ≡ model → AreSets h self.old →
+            AreSets (hart_with h event.now) self.new }
     {
         let op = event.op;
         let number = event.id.seq as usize;
@@ -130,7 +131,8 @@ fn has_either(one: &Row, other: &Row, number: usize) -> bool
 
 /// The last LR, SC or failed SC after the event, where it is an LR.
 fn reserved_after(reserved: Option<u32>, event: &Event) -> Option<u32>
-    ensures { (h : Hart) → IsHart h → Follows h event.now → IsReservation h.events reserved → IsReservation (followed h event.now) result }
+    ensures { (h : Hart) → IsHart h → Follows h event.now → IsReservation h.events reserved →
+        IsReservation (followed h event.now) result }
 {
     if !event.op.is_exclusive() {
         reserved

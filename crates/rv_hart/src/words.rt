@@ -145,7 +145,8 @@ impl Words {
         requires { IsSome (get nat_eq self.old.lasts word) }
         ensures links { self.new.links ≡ self.old.links }
         ensures here { get nat_eq self.new.lasts word ≡ last }
-        ensures others { (other : ℕ) → word ≢ other → get nat_eq self.new.lasts other ≡ get nat_eq self.old.lasts other }
+        ensures others { (other : ℕ) → word ≢ other →
+            get nat_eq self.new.lasts other ≡ get nat_eq self.old.lasts other }
     {
         match last {
             Some(number) => {

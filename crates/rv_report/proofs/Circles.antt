@@ -14,7 +14,8 @@ unfolding edge_lines
 edge_more start now next rest after all step to end h e t n =
     rw (n, t) (append_assoc now (edge_line step.0 step.1 (start_of after end)) (edge_lines after end) ∙ rw e at h)
 
-pub edges_done : (start now : List ℕ) (rest all : List (Id × Reason)) (first : Id × Reason) (after : List (Id × Reason)) (end : Id)
+pub edges_done : (start now : List ℕ) (rest all : List (Id × Reason)) (first : Id × Reason)
+    (after : List (Id × Reason)) (end : Id)
     → now ++ edge_lines rest end ≡ start ++ edge_lines all end → length rest ≡ 0 → all ≡ first ∷ after → end ≡ first.0
     → now ≡ start ++ circle_lines all
 unfolding edge_lines

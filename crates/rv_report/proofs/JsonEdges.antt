@@ -8,7 +8,8 @@ use Rattle.rv_event.specs.declared.reason.Reason.{Reason}
 use Rattle.rv_cert.specs.Certificates.{start_of}
 use Rattle.rv_report.specs.JsonData.{edge_data, walk_data, edges_data}
 
-pub data_more : (now next : List Value) (v : Value) (rest after all : List (Id × Reason)) (step : Id × Reason) (to end : Id)
+pub data_more : (now next : List Value) (v : Value) (rest after all : List (Id × Reason)) (step : Id × Reason)
+    (to end : Id)
     → map view now ++ walk_data rest end ≡ walk_data all end
     → rest ≡ step ∷ after → to ≡ start_of after end → view v ≡ edge_data step.0 step.1 to → next ≡ now ++ (v ∷ [])
     → map view next ++ walk_data after end ≡ walk_data all end
@@ -18,7 +19,8 @@ data_more now next v rest after all step to end h e t w n =
     rw (n, map-append view now (v ∷ []), one)
     (append_assoc (map view now) (edge_data step.0 step.1 (start_of after end) ∷ []) (walk_data after end) ∙ rw e at h)
 
-pub data_done : (now : List Value) (rest all : List (Id × Reason)) (first : Id × Reason) (after : List (Id × Reason)) (end : Id)
+pub data_done : (now : List Value) (rest all : List (Id × Reason)) (first : Id × Reason)
+    (after : List (Id × Reason)) (end : Id)
     → map view now ++ walk_data rest end ≡ walk_data all end → length rest ≡ 0 → all ≡ first ∷ after → end ≡ first.0
     → map view now ≡ edges_data all
 unfolding walk_data

@@ -1,5 +1,6 @@
 -- The compact text of a report, byte by byte.
-use Rattle.std.proofs.Common.{◌≡◌, ◌∙◌, ℕ, ◌∷◌, [], List, ◌++◌, Bool, true, false, refl, sym, ap, ap₂, append_assoc, codes}
+use Rattle.std.proofs.Common.{◌≡◌, ◌∙◌, ℕ, ◌∷◌, [], List, ◌++◌, Bool, true, false, refl, sym, ap, ap₂}
+use Rattle.std.proofs.Common.{append_assoc, codes}
 use Rattle.json.specs.Print.{escape}
 use Rattle.serde_json.specs.Data.{Data, string, array, object, member, no_members, Items}
 use Rattle.serde_json.specs.View.{items_of}
@@ -11,8 +12,10 @@ use Rattle.rv_event.specs.declared.reason.Reason.{Reason}
 use Rattle.rv_cert.specs.declared.certificate.Certificate.{Certificate}
 use Rattle.rv_cert.specs.declared.certificate.Certificate.TheVariants as certificate
 use Rattle.rv_report.specs.Texts.{refused_text, accepted_count}
-use Rattle.rv_report.specs.Json.{allowed_json, forbidden_json, malformed_json, edge_json, stale_json, circle_json, walk_json, edges_json, certificate_json, json_text}
-use Rattle.rv_report.specs.JsonData.{whole_number, allowed_data, edge_data, walk_data, edges_data, circle_data, certificate_data, forbidden_data, report_data}
+use Rattle.rv_report.specs.Json.{allowed_json, forbidden_json, malformed_json, edge_json, stale_json}
+use Rattle.rv_report.specs.Json.{circle_json, walk_json, edges_json, certificate_json, json_text}
+use Rattle.rv_report.specs.JsonData.{whole_number, allowed_data, edge_data, walk_data, edges_data}
+use Rattle.rv_report.specs.JsonData.{circle_data, certificate_data, forbidden_data, report_data}
 use Rattle.rv_report.specs.declared.outcome.Outcome.{Outcome}
 use Rattle.rv_report.specs.declared.outcome.Outcome.TheVariants as outcome
 use Rattle.rv_report.proofs.Plain.{escape_id, escape_reason, escape_fault, escape_refused}
@@ -71,7 +74,8 @@ walk_law later step (next ∷ rest) end =
     ∙ ap (λ (x : List ℕ). comma_if later ++ x)
     (sym (append_assoc (edge_json (id_text step.0) (reason_text step.1) (id_text next.0)) (codes "," ++ walk_json (next ∷ rest) end) (codes "]")))
 
-circle_law : (steps : List (Id × Reason)) → compact_text (circle_data (edges_data steps)) ≡ circle_json (edges_json steps)
+circle_law : (steps : List (Id × Reason)) → compact_text (circle_data (edges_data steps)) ≡ circle_json
+    (edges_json steps)
 unfolding serde_json_on_literals
 circle_law [] = refl
 circle_law (step ∷ rest) =

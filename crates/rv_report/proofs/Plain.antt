@@ -1,5 +1,7 @@
 -- Texts in which JSON escapes no byte.
-use Rattle.std.proofs.Common.{◌≡◌, ℕ, zero, suc, ◌+◌, ◌/◌, ◌%◌, ◌<◌, ◌==◌, nat_lt, ◌∷◌, [], List, ◌++◌, Bool, true, false, ◌&&◌, if◌then◌else◌, length, Option, None, Some, option_map, unwrap_or, refl, sym, arith, codes}
+use Rattle.std.proofs.Common.{◌≡◌, ℕ, zero, suc, ◌+◌, ◌/◌, ◌%◌, ◌<◌, ◌==◌, nat_lt, ◌∷◌, [], List, ◌++◌, Bool}
+use Rattle.std.proofs.Common.{true, false, ◌&&◌, if◌then◌else◌, length, Option, None, Some, option_map}
+use Rattle.std.proofs.Common.{unwrap_or, refl, sym, arith, codes}
 use Rattle.std.proofs.lemmas.Bool.{ne_eqb, true≢false}
 use Rattle.std.specs.Prelude.{decimal}
 use Rattle.std.specs.Fmt.{digits, digits_onto, digit_glyph}
@@ -47,7 +49,8 @@ glyph_plain d h =
     let low : nat_lt (48 + d) 32 ≡ false = grind arith in
     rw (below, quote, backslash, low) refl
 
-either_plain : (b : Bool) (s t : List ℕ) → are_plain s ≡ true → are_plain t ≡ true → are_plain (if b then s else t) ≡ true
+either_plain : (b : Bool) (s t : List ℕ) → are_plain s ≡ true → are_plain t ≡ true →
+    are_plain (if b then s else t) ≡ true
 either_plain true s t h k = h
 either_plain false s t h k = k
 

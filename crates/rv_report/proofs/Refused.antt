@@ -14,5 +14,6 @@ last_or-append o (y ∷ front) x = last_or-append (Some y) front x
 pub refused_text_of_last : (log : List Entry) (i : Id) → LastIs log i → refused_text log ≡ id_text i
 refused_text_of_last log i h =
     ap (λ (l : List Entry). refused_text l) h.whole
-    ∙ ap (λ (o : Option Entry). unwrap_or (option_map (λ x. id_text x.event.id) o) []) (last_or-append None h.front h.last)
+    ∙ ap (λ (o : Option Entry). unwrap_or (option_map (λ x. id_text x.event.id) o) [])
+    (last_or-append None h.front h.last)
     ∙ ap (λ (j : Id). id_text j) h.id

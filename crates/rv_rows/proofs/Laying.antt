@@ -1,7 +1,10 @@
 -- Rows that lie one after the other.
-use Rattle.std.proofs.Common.{◌≡◌, ℕ, suc, ◌+◌, ◌<◌, ◌≤◌, List, [], ◌∷◌, ◌++◌, length, get_or, take, drop, map, refl, sym, ap, ◌∙◌, arith, ◌⊎◌, inl, inr, subst, length-take, length-append, length-drop, take-append-drop, length-take-le}
+use Rattle.std.proofs.Common.{◌≡◌, ℕ, suc, ◌+◌, ◌<◌, ◌≤◌, List, [], ◌∷◌, ◌++◌, length, get_or, take, drop}
+use Rattle.std.proofs.Common.{map, refl, sym, ap, ◌∙◌, arith, ◌⊎◌, inl, inr, subst, length-take}
+use Rattle.std.proofs.Common.{length-append, length-drop, take-append-drop, length-take-le}
 use Rattle.std.proofs.lemmas.Bool.{cases_lt}
-use Rattle.std.proofs.lemmas.List.{take_at, take-append-le, drop-append-le, get_or_at, get_or_append_left, length_push, get_or-map, map-append, length-map}
+use Rattle.std.proofs.lemmas.List.{take_at, take-append-le, drop-append-le, get_or_at, get_or_append_left}
+use Rattle.std.proofs.lemmas.List.{length_push, get_or-map, map-append, length-map}
 use Rattle.std.proofs.lemmas.List.Quantifiers.{all_pairs_push}
 use Rattle.std.proofs.Math.Seq.{take-length, drop-append_seam}
 use Rattle.rv_rows.specs.Flat.{part_at, shifted, row_at, rows_of, IsWithin, AreLaid}
@@ -12,25 +15,33 @@ unfolding rows_of
 rows_are words places = refl
 
 pub rows_count : (words : List ℕ) (places : List Place) → length (rows_of words places) ≡ length places
-rows_count words places = ap (λ (rs : List (List ℕ)). length rs) (rows_are words places) ∙ length-map places (row_at words)
+rows_count words places = ap (λ (rs : List (List ℕ)). length rs) (rows_are words places) ∙
+    length-map places (row_at words)
 
 -- a row among the others
-pub row_is : (words : List ℕ) (places : List Place) (k : ℕ) (d : Place) → k < length places → get_or (rows_of words places) k [] ≡ row_at words (get_or places k d)
-row_is words places k d low = ap (λ (rs : List (List ℕ)). get_or rs k []) (rows_are words places) ∙ get_or-map (row_at words) places k d [] low
+pub row_is : (words : List ℕ) (places : List Place) (k : ℕ) (d : Place) → k < length places →
+    get_or (rows_of words places) k [] ≡ row_at words (get_or places k d)
+row_is words places k d low = ap (λ (rs : List (List ℕ)). get_or rs k []) (rows_are words places) ∙
+    get_or-map (row_at words) places k d [] low
 
 -- a place among others has one of the rows
-pub low_place : (words : List ℕ) (places : List Place) (rows : List (List ℕ)) (k : ℕ) → rows_of words places ≡ rows → k < length rows → k < length places
-low_place words places rows k are low = omega (arith, rows_count words places, ap (λ (rs : List (List ℕ)). length rs) are)
+pub low_place : (words : List ℕ) (places : List Place) (rows : List (List ℕ)) (k : ℕ) → rows_of words places ≡ rows →
+    k < length rows → k < length places
+low_place words places rows k are low = omega
+    (arith, rows_count words places, ap (λ (rs : List (List ℕ)). length rs) are)
 
 -- what holds of it
-pub place_at : (words : List ℕ) (places : List Place) (k : ℕ) (p : Place) → AreLaid words places → k < length places → p ≡ get_or places k p → IsWithin words p
+pub place_at : (words : List ℕ) (places : List Place) (k : ℕ) (p : Place) → AreLaid words places → k < length places →
+    p ≡ get_or places k p → IsWithin words p
 place_at words places k p laid low is = subst (IsWithin words) (sym is) (laid.within k p low)
 
 -- and its row
-pub row_there : (words part : List ℕ) (places : List Place) (rows : List (List ℕ)) (k : ℕ) (p : Place) → rows_of words places ≡ rows → k < length rows → p ≡ get_or places k p → part ≡ part_at words p
+pub row_there : (words part : List ℕ) (places : List Place) (rows : List (List ℕ)) (k : ℕ) (p : Place) →
+    rows_of words places ≡ rows → k < length rows → p ≡ get_or places k p → part ≡ part_at words p
     → shifted p.first part ≡ get_or rows k []
 row_there words part places rows k p are low is own =
-    ap (shifted p.first) own ∙ ap (row_at words) is ∙ sym (row_is words places k p (low_place words places rows k are low))
+    ap (shifted p.first) own ∙ ap (row_at words) is ∙
+    sym (row_is words places k p (low_place words places rows k are low))
     ∙ ap (λ (rs : List (List ℕ)). get_or rs k []) are
 
 -- no more words are kept than the place says
@@ -38,24 +49,30 @@ pub part_short : (words : List ℕ) (p : Place) → length (part_at words p) ≤
 part_short words p = omega (arith, length-take p.count (drop p.start words))
 
 -- a row stays as it is when words are added after it
-part_stays : (words more : List ℕ) (p : Place) → p.start + p.count ≤ length words → part_at (words ++ more) p ≡ part_at words p
+part_stays : (words more : List ℕ) (p : Place) → p.start + p.count ≤ length words →
+    part_at (words ++ more) p ≡ part_at words p
 part_stays words more p low =
     ap (λ (xs : List ℕ). take p.count xs) (drop-append-le p.start words more (omega arith))
     ∙ take-append-le p.count (drop p.start words) more (omega (arith, length-drop p.start words))
 
-pub rows_stay : (words more : List ℕ) (places : List Place) → ((k : ℕ) (d : Place) → k < length places → (get_or places k d).start + (get_or places k d).count ≤ length words)
+pub rows_stay : (words more : List ℕ) (places : List Place) →
+    ((k : ℕ) (d : Place) → k < length places → (get_or places k d).start + (get_or places k d).count ≤ length words)
     → map (row_at (words ++ more)) places ≡ map (row_at words) places
 rows_stay words more [] low = refl
 rows_stay words more (p ∷ rest) low =
-    ap (λ (r : List ℕ). r ∷ map (row_at (words ++ more)) rest) (ap (shifted p.first) (part_stays words more p (low 0 p (omega arith))))
-    ∙ ap (λ (rs : List (List ℕ)). row_at words p ∷ rs) (rows_stay words more rest (λ k d far. low (suc k) d (omega arith)))
+    ap (λ (r : List ℕ). r ∷ map (row_at (words ++ more)) rest)
+    (ap (shifted p.first) (part_stays words more p (low 0 p (omega arith))))
+    ∙ ap (λ (rs : List (List ℕ)). row_at words p ∷ rs)
+    (rows_stay words more rest (λ k d far. low (suc k) d (omega arith)))
 
 -- a row more
-pub rows_more : (words part : List ℕ) (places : List Place) (p : Place) → AreLaid words places → p.start ≡ length words → p.count ≡ length part
+pub rows_more : (words part : List ℕ) (places : List Place) (p : Place) → AreLaid words places →
+    p.start ≡ length words → p.count ≡ length part
     → rows_of (words ++ part) (places ++ p ∷ []) ≡ rows_of words places ++ shifted p.first part ∷ []
 rows_more words part places p laid begins counts =
     rows_are (words ++ part) (places ++ p ∷ []) ∙ map-append (row_at (words ++ part)) places (p ∷ [])
-    ∙ ap (λ (rs : List (List ℕ)). rs ++ row_at (words ++ part) p ∷ []) (rows_stay words part places (λ k d low. (laid.within k d low).kept) ∙ sym (rows_are words places))
+    ∙ ap (λ (rs : List (List ℕ)). rs ++ row_at (words ++ part) p ∷ [])
+    (rows_stay words part places (λ k d low. (laid.within k d low).kept) ∙ sym (rows_are words places))
     ∙ ap (λ (xs : List ℕ). rows_of words places ++ shifted p.first xs ∷ []) here
   where
     here : part_at (words ++ part) p ≡ part
@@ -65,18 +82,21 @@ rows_more words part places p laid begins counts =
         ∙ ap (λ (k : ℕ). take k part) counts ∙ take-length part
 
 -- the places with one more, behind the words so far
-pub laid_more : (words part : List ℕ) (places : List Place) (p : Place) → AreLaid words places → length places < 4096 → p.start ≡ length words → p.count ≡ length part → p.first + p.count ≤ 64
+pub laid_more : (words part : List ℕ) (places : List Place) (p : Place) → AreLaid words places → length places < 4096 →
+    p.start ≡ length words → p.count ≡ length part → p.first + p.count ≤ 64
     → AreLaid (words ++ part) (places ++ p ∷ [])
 laid_more words part places p laid few begins counts narrow = record {
   few = omega (arith, length_push places p);
   within = λ k d low. within k d (omega (arith, length_push places p)) (cases_lt k (length places));
-  apart = all_pairs_push (λ x y. x.start + x.count ≤ y.start) places p laid.apart (λ k d low. (let one = (laid.within k d low).kept in omega arith));
+  apart = all_pairs_push (λ x y. x.start + x.count ≤ y.start) places p laid.apart
+      (λ k d low. (let one = (laid.within k d low).kept in omega arith));
 }
   where
     long : length (words ++ part) ≡ length words + length part
     long = length-append words part
 
-    within : (k : ℕ) (d : Place) → k < length places + 1 → (k < length places) ⊎ (length places ≤ k) → IsWithin (words ++ part) (get_or (places ++ p ∷ []) k d)
+    within : (k : ℕ) (d : Place) → k < length places + 1 → (k < length places) ⊎ (length places ≤ k) →
+        IsWithin (words ++ part) (get_or (places ++ p ∷ []) k d)
     within k d low (inl before) = rw (get_or_append_left places (p ∷ []) d k before) (record {
       kept = let one = (laid.within k d before).kept in omega (arith, long);
       few = (laid.within k d before).few;
@@ -87,17 +107,20 @@ laid_more words part places p laid few begins counts narrow = record {
     })
 
 -- the words up to the last row
-pub ends_below : (words : List ℕ) (front : List Place) (last : Place) → AreLaid words (front ++ last ∷ []) → (k : ℕ) (d : Place) → k < length front → (get_or front k d).start + (get_or front k d).count ≤ last.start
+pub ends_below : (words : List ℕ) (front : List Place) (last : Place) → AreLaid words (front ++ last ∷ []) →
+    (k : ℕ) (d : Place) → k < length front → (get_or front k d).start + (get_or front k d).count ≤ last.start
 ends_below words front last laid k d low =
     let pair = laid.apart k (length front) d low (omega (arith, length_push front last)) in
     rw (get_or_append_left front (last ∷ []) d k low, get_or_at front last [] d (length front) refl) at pair
 
 -- a row less
-pub rows_less : (words : List ℕ) (front : List Place) (last : Place) (rows : List (List ℕ)) (row : List ℕ) → AreLaid words (front ++ last ∷ []) → rows_of words (front ++ last ∷ []) ≡ rows ++ row ∷ []
+pub rows_less : (words : List ℕ) (front : List Place) (last : Place) (rows : List (List ℕ)) (row : List ℕ) →
+    AreLaid words (front ++ last ∷ []) → rows_of words (front ++ last ∷ []) ≡ rows ++ row ∷ []
     → rows_of (take last.start words) front ≡ rows
 rows_less words front last rows row laid is =
     rows_are (take last.start words) front
-    ∙ sym (rows_stay (take last.start words) (drop last.start words) front (λ k d low. omega (arith, ends_below words front last laid k d low, whole)))
+    ∙ sym (rows_stay (take last.start words) (drop last.start words) front
+    (λ k d low. omega (arith, ends_below words front last laid k d low, whole)))
     ∙ ap (λ (xs : List ℕ). map (row_at xs) front) (take-append-drop last.start words)
     ∙ sym (take_at (map (row_at words) front) (row_at words last ∷ []) (length front) (length-map front (row_at words)))
     ∙ ap (take (length front)) both
@@ -105,25 +128,36 @@ rows_less words front last rows row laid is =
   where
     whole : length (take last.start words) ≡ last.start
     whole = length-take-le last.start words (
-        let one = (rw (get_or_at front last [] last (length front) refl) at (laid.within (length front) last (omega (arith, length_push front last)))).kept in omega arith)
+        let one = (rw (get_or_at front last [] last (length front) refl) at
+        (laid.within (length front) last (omega (arith, length_push front last)))).kept in omega arith)
 
     both : map (row_at words) front ++ row_at words last ∷ [] ≡ rows ++ row ∷ []
     both = sym (map-append (row_at words) front (last ∷ [])) ∙ sym (rows_are words (front ++ last ∷ [])) ∙ is
 
     same : length rows ≡ length front
-    same = omega (arith, ap (λ (rs : List (List ℕ)). length rs) both, length_push rows row, length_push (map (row_at words) front) (row_at words last), length-map front (row_at words))
+    same = omega (
+      arith,
+      ap (λ (rs : List (List ℕ)). length rs) both,
+      length_push rows row,
+      length_push (map (row_at words) front) (row_at words last),
+      length-map front (row_at words),
+    )
 
-pub laid_less : (words : List ℕ) (front : List Place) (last : Place) → AreLaid words (front ++ last ∷ []) → AreLaid (take last.start words) front
+pub laid_less : (words : List ℕ) (front : List Place) (last : Place) → AreLaid words (front ++ last ∷ []) →
+    AreLaid (take last.start words) front
 laid_less words front last laid = record {
   few = let all = laid.few in omega (arith, length_push front last);
   within = λ k d low. record {
     kept = omega (arith, ends_below words front last laid k d low, whole);
-    few = (rw (get_or_append_left front (last ∷ []) d k low) at (laid.within k d (omega (arith, length_push front last)))).few;
+    few = (rw (get_or_append_left front (last ∷ []) d k low) at
+        (laid.within k d (omega (arith, length_push front last)))).few;
   };
   apart = λ i j d before low.
-      (rw (get_or_append_left front (last ∷ []) d i (omega arith), get_or_append_left front (last ∷ []) d j low) at (laid.apart i j d before (omega (arith, length_push front last))));
+      (rw (get_or_append_left front (last ∷ []) d i (omega arith), get_or_append_left front (last ∷ []) d j low) at
+      (laid.apart i j d before (omega (arith, length_push front last))));
 }
   where
     whole : length (take last.start words) ≡ last.start
     whole = length-take-le last.start words (
-        let one = (rw (get_or_at front last [] last (length front) refl) at (laid.within (length front) last (omega (arith, length_push front last)))).kept in omega arith)
+        let one = (rw (get_or_at front last [] last (length front) refl) at
+        (laid.within (length front) last (omega (arith, length_push front last)))).kept in omega arith)

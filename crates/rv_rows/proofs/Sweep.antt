@@ -1,5 +1,7 @@
 -- A sweep over the candidates from the highest on.
-use Rattle.std.proofs.Common.{◌≡◌, ◌≢◌, ℕ, ◌<◌, ◌≤◌, Bool, true, false, not, ◌&&◌, ◌||◌, List, [], ◌∷◌, ◌++◌, Contains, Some, None, ◌∙◌, ap, sym, refl, inl, inr, arith, ◌⊎◌, ◌↔◌, slice_index_or, subst}
+use Rattle.std.proofs.Common.{◌≡◌, ◌≢◌, ℕ, ◌<◌, ◌≤◌, Bool, true, false, not, ◌&&◌, ◌||◌, List, [], ◌∷◌, ◌++◌}
+use Rattle.std.proofs.Common.{Contains, Some, None, ◌∙◌, ap, sym, refl, inl, inr, arith, ◌⊎◌, ◌↔◌}
+use Rattle.std.proofs.Common.{slice_index_or, subst}
 use Rattle.std.proofs.lemmas.Bool.{cases_eq, cases_lt, false≢true}
 use Rattle.std.proofs.lemmas.List.Elements.{Contains-push, Contains-push_cases, Contains-append_left}
 use Rattle.rv_rows.specs.Bits.{has_bit, Has, IsHighest}
@@ -14,7 +16,8 @@ pub record Swept (rows : List (List ℕ)) (first left : List ℕ) (listed : List
   pub unsplit : (a c : ℕ) → Contains listed a → Has first c → c ≢ a → RowHas rows c a → ⊥
   pub apart : (b j : ℕ) → Contains listed b → RowHas rows b j → Has left j → ⊥
 
-pub swept-done : (rows : List (List ℕ)) (first left listed : List ℕ) (top : ℕ) → Swept rows first left listed top → IsHighest left None → IsThinned rows first listed
+pub swept-done : (rows : List (List ℕ)) (first left listed : List ℕ) (top : ℕ) → Swept rows first left listed top →
+    IsHighest left None → IsThinned rows first listed
 swept-done rows first left listed top s none = record {
   only = s.only;
   each = λ a h. go a (s.each a h);
@@ -25,7 +28,8 @@ swept-done rows first left listed top s none = record {
     go a (inl h) = absurd (false≢true (sym (none a) ∙ h))
     go a (inr r) = r
 
-pub swept-init : (rows : List (List ℕ)) (first : List ℕ) (top : ℕ) → ((b : ℕ) → Has first b → b < top) → Swept rows first first [] top
+pub swept-init : (rows : List (List ℕ)) (first : List ℕ) (top : ℕ) → ((b : ℕ) → Has first b → b < top) →
+    Swept rows first first [] top
 swept-init rows first top low = record {
   low = low;
   sub = λ j h. h;
@@ -84,7 +88,8 @@ module _ (rows : List (List ℕ)) (first left left' listed : List ℕ) (top b : 
       go (inr l) = apart_or (cases_eq j b)
         where
           apart_or : (j ≡ b) ⊎ (j ≡ b → ⊥) → j < b
-          apart_or (inl same) = absurd (false≢true (sym (still j h).1 ∙ ap (λ x. has_bit (slice_index_or rows b []) x) same ∙ own b (s.sub b highest.1)))
+          apart_or (inl same) = absurd (false≢true
+              (sym (still j h).1 ∙ ap (λ x. has_bit (slice_index_or rows b []) x) same ∙ own b (s.sub b highest.1)))
           apart_or (inr other) = absurd (false≢true (sym (highest.2 j (omega arith)) ∙ (still j h).0))
 
   each' : (a : ℕ) → Has first a → Has left' a ⊎ IsReached rows more a
@@ -108,7 +113,8 @@ module _ (rows : List (List ℕ)) (first left left' listed : List ℕ) (top b : 
           let different : c ≢ b = λ e. other (e ∙ is) in
           false≢true (sym (highest.2 c (omega arith)) ∙ still_left)
       at_b (inr reached) is =
-          s.apart reached.b b reached.is_taken (closed.closed reached.b c b reached.has (subst (RowHas rows c) (sym is) r)) highest.1
+          s.apart reached.b b reached.is_taken
+          (closed.closed reached.b c b reached.has (subst (RowHas rows c) (sym is) r)) highest.1
 
       go : Contains listed a ⊎ (b ≡ a) → ⊥
       go (inl old) = s.unsplit a c old h other r
@@ -144,10 +150,15 @@ abbrev pub Gathers : List (List ℕ) → List ℕ → List ℕ → List ℕ → 
 Gathers rows base taken row = (j : ℕ) → Has row j ↔ (Has base j ⊎ IsReached rows taken j)
 
 pub gathers-none : (rows : List (List ℕ)) (row : List ℕ) → Gathers rows row [] row
-gathers-none rows row j = (λ h. inl h, λ x. elim x [ inl h ↦ h | inr r ↦ absurd (let c = r.is_taken in let low = c.1 in omega arith) ])
+gathers-none rows row j = (
+  λ h. inl h,
+  λ x. elim x
+      [ inl h ↦ h | inr r ↦ absurd (let c = r.is_taken in let low = c.1 in omega arith) ],
+)
 
 pub gathers-step : (rows : List (List ℕ)) (base taken row row' : List ℕ) (b : ℕ) → Gathers rows base taken row →
-    ((j : ℕ) → has_bit row' j ≡ (has_bit row j || has_bit (slice_index_or rows b []) j)) → Gathers rows base (taken ++ b ∷ []) row'
+    ((j : ℕ) → has_bit row' j ≡ (has_bit row j || has_bit (slice_index_or rows b []) j)) →
+    Gathers rows base (taken ++ b ∷ []) row'
 gathers-step rows base taken row row' b so more j = (to, from)
   where
     old : IsReached rows taken j → IsReached rows (taken ++ b ∷ []) j
@@ -164,7 +175,8 @@ gathers-step rows base taken row row' b so more j = (to, from)
 
     reached : (r : IsReached rows (taken ++ b ∷ []) j) → Contains taken r.b ⊎ (b ≡ r.b) → Has row' j
     reached r (inl c) = kept ((so j).1 (inr (record { b = r.b; is_taken = c; has = r.has })))
-    reached r (inr is) = more j ∙ or_right (has_bit row j) (has_bit (slice_index_or rows b []) j) (subst (λ (x : ℕ). RowHas rows x j) (sym is) r.has)
+    reached r (inr is) = more j ∙ or_right (has_bit row j) (has_bit (slice_index_or rows b []) j)
+        (subst (λ (x : ℕ). RowHas rows x j) (sym is) r.has)
 
     from : Has base j ⊎ IsReached rows (taken ++ b ∷ []) j → Has row' j
     from (inl h) = kept ((so j).1 (inl h))

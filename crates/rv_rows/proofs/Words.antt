@@ -1,10 +1,15 @@
 -- Numbers as bits of words.
-use Rattle.std.proofs.Common.{◌≡◌, ◌≢◌, ℕ, zero, suc, ◌+◌, ◌-◌, ◌*◌, ◌/◌, ◌%◌, ◌^◌, ◌<◌, ◌≤◌, min, max, Bool, true, false, not, ◌&&◌, ◌||◌, ◌==◌, List, length, get_or, set, take, drop, replicate, ◌∙◌, ap, sym, refl, inl, inr, arith, ◌⊎◌, w64, eq-eqb, length-take}
+use Rattle.std.proofs.Common.{◌≡◌, ◌≢◌, ℕ, zero, suc, ◌+◌, ◌-◌, ◌*◌, ◌/◌, ◌%◌, ◌^◌, ◌<◌, ◌≤◌, min, max, Bool}
+use Rattle.std.proofs.Common.{true, false, not, ◌&&◌, ◌||◌, ◌==◌, List, length, get_or, set, take, drop}
+use Rattle.std.proofs.Common.{replicate, ◌∙◌, ap, sym, refl, inl, inr, arith, ◌⊎◌, w64, eq-eqb, length-take}
 use Rattle.std.proofs.lemmas.Bool.{cases_eq, cases_lt, ne_eqb}
-use Rattle.std.proofs.lemmas.List.{get_or-set_same, get_or-set_other, get_or-replicate, length-replicate, get_or_past, get_or_append_left, get_or-append_right, get_or-take, get_or-drop}
+use Rattle.std.proofs.lemmas.List.{get_or-set_same, get_or-set_other, get_or-replicate, length-replicate}
+use Rattle.std.proofs.lemmas.List.{get_or_past, get_or_append_left, get_or-append_right, get_or-take}
+use Rattle.std.proofs.lemmas.List.{get_or-drop}
 use Rattle.std.proofs.lemmas.Nat.{leading_top, div-add-mod'}
 use Rattle.std.proofs.Math.Nat.{two-pow-succ, mod-lt, suc-mul}
-use Rattle.std.proofs.lemmas.Nat.Bits.{bit_at-lt, bit_at_or, bit_at_and, bit_at_not, bit_at-zero, bit_at_set_same, bit_at_set_other, bit_at_above}
+use Rattle.std.proofs.lemmas.Nat.Bits.{bit_at-lt, bit_at_or, bit_at_and, bit_at_not, bit_at-zero}
+use Rattle.std.proofs.lemmas.Nat.Bits.{bit_at_set_same, bit_at_set_other, bit_at_above}
 use Rattle.std.specs.Prelude.{bit_and, bit_or}
 use Rattle.std.specs.Int.{bit_at, bit_not, leading_zeros}
 use Rattle.rv_rows.specs.Bits.{has_bit, Has, IsBetween, AreEnds}
@@ -31,11 +36,14 @@ less_is (suc (suc x)) y p q = absurd (omega arith)
 abbrev word : List ℕ → ℕ → ℕ
 word xs i = get_or xs (i / 64) 0
 
-pub has-or : (new a b : List ℕ) (i : ℕ) → word new i ≡ bit_or (word a i) (word b i) → has_bit new i ≡ (has_bit a i || has_bit b i)
+pub has-or : (new a b : List ℕ) (i : ℕ) → word new i ≡ bit_or (word a i) (word b i) →
+    has_bit new i ≡ (has_bit a i || has_bit b i)
 has-or new a b i e =
-    ap (λ x. bit_at x (i % 64) == 1) e ∙ ap (λ x. x == 1) (bit_at_or (word a i) (word b i) (i % 64)) ∙ or_is _ _ (bit_at-lt (word a i) (i % 64)) (bit_at-lt (word b i) (i % 64))
+    ap (λ x. bit_at x (i % 64) == 1) e ∙ ap (λ x. x == 1) (bit_at_or (word a i) (word b i) (i % 64)) ∙
+    or_is _ _ (bit_at-lt (word a i) (i % 64)) (bit_at-lt (word b i) (i % 64))
 
-pub has-less : (new a b : List ℕ) (i : ℕ) → word b i < 2 ^ 64 → word new i ≡ bit_and (word a i) (bit_not w64 (word b i)) → has_bit new i ≡ (has_bit a i && not (has_bit b i))
+pub has-less : (new a b : List ℕ) (i : ℕ) → word b i < 2 ^ 64 → word new i ≡ bit_and (word a i)
+    (bit_not w64 (word b i)) → has_bit new i ≡ (has_bit a i && not (has_bit b i))
 has-less new a b i fits e =
     ap (λ x. bit_at x (i % 64) == 1) e ∙ ap (λ x. x == 1) (bit_at_and (word a i) (bit_not w64 (word b i)) (i % 64)
     ∙ ap (λ y. min (bit_at (word a i) (i % 64)) y) (bit_at_not w64 (word b i) (i % 64) fits (omega arith)))
@@ -49,21 +57,32 @@ or_true : (b : Bool) → true ≡ (b || true)
 or_true true = refl
 or_true false = refl
 
-pub has-set : (words : List ℕ) (i j : ℕ) → i / 64 < length words → has_bit (set words (i / 64) (bit_or (word words i) (1 * 2 ^ (i % 64) % 2 ^ 64))) j ≡ (has_bit words j || (i == j))
+pub has-set : (words : List ℕ) (i j : ℕ) → i / 64 < length words →
+    has_bit (set words (i / 64) (bit_or (word words i) (1 * 2 ^ (i % 64) % 2 ^ 64))) j ≡ (has_bit words j || (i == j))
 has-set words i j within = go (cases_eq i j) (cases_eq (j / 64) (i / 64))
   where
     new : ℕ
     new = bit_or (word words i) (1 * 2 ^ (i % 64) % 2 ^ 64)
 
-    go : (i ≡ j) ⊎ (i ≡ j → ⊥) → (j / 64 ≡ i / 64) ⊎ (j / 64 ≡ i / 64 → ⊥) → has_bit (set words (i / 64) (bit_or (word words i) (1 * 2 ^ (i % 64) % 2 ^ 64))) j ≡ (has_bit words j || (i == j))
+    go : (i ≡ j) ⊎ (i ≡ j → ⊥) → (j / 64 ≡ i / 64) ⊎ (j / 64 ≡ i / 64 → ⊥) →
+        has_bit (set words (i / 64) (bit_or (word words i) (1 * 2 ^ (i % 64) % 2 ^ 64))) j ≡
+        (has_bit words j || (i == j))
     go (inl same) _ =
-        let at : word (set words (i / 64) new) j ≡ new = ap (λ x. get_or (set words (i / 64) new) (x / 64) 0) (sym same) ∙ get_or-set_same words (i / 64) new 0 within in
-        ap (λ x. bit_at x (j % 64) == 1) at ∙ ap (λ x. bit_at new (x % 64) == 1) (sym same) ∙ ap (λ x. x == 1) (bit_at_set_same w64 (word words i) (i % 64) (omega arith)) ∙ or_true (has_bit words j) ∙ ap (λ b. has_bit words j || b) (sym (eq-eqb i j same))
+        let at : word (set words (i / 64) new) j ≡ new = ap (λ x. get_or (set words (i / 64) new) (x / 64) 0)
+        (sym same) ∙ get_or-set_same words (i / 64) new 0 within in
+        ap (λ x. bit_at x (j % 64) == 1) at ∙ ap (λ x. bit_at new (x % 64) == 1) (sym same) ∙
+        ap (λ x. x == 1) (bit_at_set_same w64 (word words i) (i % 64) (omega arith)) ∙ or_true (has_bit words j) ∙
+        ap (λ b. has_bit words j || b) (sym (eq-eqb i j same))
     go (inr other) (inl near) =
-        let at : word (set words (i / 64) new) j ≡ new = ap (λ x. get_or (set words (i / 64) new) x 0) near ∙ get_or-set_same words (i / 64) new 0 within in
+        let at : word (set words (i / 64) new) j ≡ new = ap (λ x. get_or (set words (i / 64) new) x 0) near ∙
+        get_or-set_same words (i / 64) new 0 within in
         let apart : j % 64 ≢ i % 64 = λ e. other (omega arith) in
-        ap (λ x. bit_at x (j % 64) == 1) at ∙ ap (λ x. x == 1) (bit_at_set_other w64 (word words i) (i % 64) (omega arith) (j % 64) apart) ∙ ap (λ x. bit_at (get_or words x 0) (j % 64) == 1) (sym near) ∙ or_false _ ∙ ap (λ b. has_bit words j || b) (sym (ne_eqb i j other))
-    go (inr other) (inr far) = ap (λ x. bit_at x (j % 64) == 1) (get_or-set_other words (i / 64) (j / 64) _ 0 far) ∙ or_false _ ∙ ap (λ b. has_bit words j || b) (sym (ne_eqb i j other))
+        ap (λ x. bit_at x (j % 64) == 1) at ∙
+        ap (λ x. x == 1) (bit_at_set_other w64 (word words i) (i % 64) (omega arith) (j % 64) apart) ∙
+        ap (λ x. bit_at (get_or words x 0) (j % 64) == 1) (sym near) ∙ or_false _ ∙ ap (λ b. has_bit words j || b)
+        (sym (ne_eqb i j other))
+    go (inr other) (inr far) = ap (λ x. bit_at x (j % 64) == 1) (get_or-set_other words (i / 64) (j / 64) _ 0 far) ∙
+        or_false _ ∙ ap (λ b. has_bit words j || b) (sym (ne_eqb i j other))
 
 quotient : (q d r w : ℕ) → q * d + r ≡ w → r < d → d ≤ w → w < d + d → q ≡ 1
 quotient zero d r w e f low high = absurd (omega arith)
@@ -76,27 +95,36 @@ once w d low high = quotient (w / d) d (w % d) w (div-add-mod' w d) (mod-lt w (o
 one_at : (w t : ℕ) → 2 ^ t ≤ w → w < 2 ^ suc t → w / 2 ^ t ≡ 1
 one_at w t low high = once w (2 ^ t) low (omega (arith, high, two-pow-succ t))
 
-top_at : (words : List ℕ) (k n t : ℕ) → 2 ^ t ≤ get_or words k 0 → get_or words k 0 < 2 ^ suc t → ((j : ℕ) → k < j / 64 → has_bit words j ≡ false) → n ≡ k * 64 + t → t < 64
+top_at : (words : List ℕ) (k n t : ℕ) → 2 ^ t ≤ get_or words k 0 → get_or words k 0 < 2 ^ suc t →
+    ((j : ℕ) → k < j / 64 → has_bit words j ≡ false) → n ≡ k * 64 + t → t < 64
     → (has_bit words n ≡ true) × ((j : ℕ) → n < j → has_bit words j ≡ false)
 top_at words k n t low high above is small =
     let near : n / 64 ≡ k = omega arith in
     let at : n % 64 ≡ t = omega arith in (
-      ap (λ x. bit_at (get_or words x 0) (n % 64) == 1) near ∙ ap (λ x. bit_at (get_or words k 0) x == 1) at ∙ ap (λ x. x % 2 == 1) (one_at (get_or words k 0) t low high),
+      ap (λ x. bit_at (get_or words x 0) (n % 64) == 1) near ∙ ap (λ x. bit_at (get_or words k 0) x == 1) at ∙
+          ap (λ x. x % 2 == 1) (one_at (get_or words k 0) t low high),
       λ j later. go j later (cases_eq (j / 64) k),
     )
   where
     go : (j : ℕ) → n < j → (j / 64 ≡ k) ⊎ (j / 64 ≡ k → ⊥) → has_bit words j ≡ false
-    go j later (inl same) = ap (λ x. bit_at (get_or words x 0) (j % 64) == 1) same ∙ ap (λ x. x == 1) (bit_at_above (get_or words k 0) (suc t) (j % 64) high (omega arith))
+    go j later (inl same) = ap (λ x. bit_at (get_or words x 0) (j % 64) == 1) same ∙
+        ap (λ x. x == 1) (bit_at_above (get_or words k 0) (suc t) (j % 64) high (omega arith))
     go j later (inr other) = above j (omega arith)
 
 -- where no word after word k has a bit, the highest number stands in word k
-pub has-top : (words : List ℕ) (k n : ℕ) → 0 < get_or words k 0 → get_or words k 0 < 2 ^ 64 → ((j : ℕ) → k < j / 64 → has_bit words j ≡ false) → n ≡ k * 64 + (63 - leading_zeros w64 (get_or words k 0))
+pub has-top : (words : List ℕ) (k n : ℕ) → 0 < get_or words k 0 → get_or words k 0 < 2 ^ 64 →
+    ((j : ℕ) → k < j / 64 → has_bit words j ≡ false) → n ≡ k * 64 + (63 - leading_zeros w64 (get_or words k 0))
     → (has_bit words n ≡ true) × ((j : ℕ) → n < j → has_bit words j ≡ false)
 has-top words k n pos fits above is =
-    top_at words k n (leading_top 64 (get_or words k 0) pos fits).0 (leading_top 64 (get_or words k 0) pos fits).2 (leading_top 64 (get_or words k 0) pos fits).3 above (omega (arith, is, (leading_top 64 (get_or words k 0) pos fits).1)) (omega (arith, (leading_top 64 (get_or words k 0) pos fits).1))
+    top_at words k n (leading_top 64 (get_or words k 0) pos fits).0 (leading_top 64 (get_or words k 0) pos fits).2
+    (leading_top 64 (get_or words k 0) pos fits).3 above
+    (omega (arith, is, (leading_top 64 (get_or words k 0) pos fits).1))
+    (omega (arith, (leading_top 64 (get_or words k 0) pos fits).1))
 
--- where all numbers are below the limit, and the words from k up to the limit are empty, no number is in word k or later
-pub none_above : (words : List ℕ) (limit start k : ℕ) → limit ≤ start * 64 → ((j : ℕ) → Has words j → j < limit) → ((j : ℕ) → k ≤ j → j < start → get_or words j 0 ≡ 0) → (j : ℕ) → k ≤ j / 64 → has_bit words j ≡ false
+-- where all numbers are below the limit, and the words from k up to the limit are empty, no number is in word k or
+-- later
+pub none_above : (words : List ℕ) (limit start k : ℕ) → limit ≤ start * 64 → ((j : ℕ) → Has words j → j < limit) →
+    ((j : ℕ) → k ≤ j → j < start → get_or words j 0 ≡ 0) → (j : ℕ) → k ≤ j / 64 → has_bit words j ≡ false
 none_above words limit start k enough below empty j high = go (cases_lt (j / 64) start)
   where
     past : start ≤ j / 64 → (b : Bool) → has_bit words j ≡ b → b ≡ false
@@ -124,7 +152,8 @@ zero_bit words i none = ap (λ x. bit_at x (i % 64) == 1) none ∙ ap (λ x. x =
 -- the words before the place are empty
 pub shifted_before : (n : ℕ) (part : List ℕ) (k : ℕ) → k < n → get_or (shifted n part) k 0 ≡ 0
 shifted_before n part k low =
-    get_or_append_left (replicate n 0) part 0 k (omega (arith, length-replicate {A = ℕ} n 0)) ∙ get_or-replicate n k 0 0 low
+    get_or_append_left (replicate n 0) part 0 k (omega (arith, length-replicate {A = ℕ} n 0)) ∙
+    get_or-replicate n k 0 0 low
 
 -- from the place on they are the part's
 pub shifted_from : (n : ℕ) (part : List ℕ) (k : ℕ) → n ≤ k → get_or (shifted n part) k 0 ≡ get_or part (k - n) 0
@@ -142,7 +171,8 @@ pub joined_part : (new a part : List ℕ) (n : ℕ)
     → (i : ℕ) → has_bit new i ≡ (has_bit a i || has_bit (shifted n part) i)
 joined_part new a part n each before after i = go (cases_lt (i / 64) n) (cases_lt (i / 64) (n + length part))
   where
-    same : word new i ≡ word a i → word (shifted n part) i ≡ 0 → has_bit new i ≡ (has_bit a i || has_bit (shifted n part) i)
+    same : word new i ≡ word a i → word (shifted n part) i ≡ 0 →
+        has_bit new i ≡ (has_bit a i || has_bit (shifted n part) i)
     same e none =
         ap (λ x. bit_at x (i % 64) == 1) e ∙ or_false (has_bit a i)
         ∙ ap (λ b. has_bit a i || b) (sym (zero_bit (shifted n part) i none))
@@ -163,7 +193,8 @@ and_true false = refl
 
 -- words out of which others are taken, from one word to another; beyond these one side is empty
 pub cut_part : (new a part : List ℕ) (n from to : ℕ) → n ≤ from
-    → ((k : ℕ) → from ≤ k → k < to → (get_or new k 0 ≡ bit_and (get_or a k 0) (bit_not w64 (get_or part (k - n) 0))) × (get_or part (k - n) 0 < 2 ^ 64))
+    → ((k : ℕ) → from ≤ k → k < to → (get_or new k 0 ≡ bit_and (get_or a k 0) (bit_not w64 (get_or part (k - n) 0))) ×
+    (get_or part (k - n) 0 < 2 ^ 64))
     → ((k : ℕ) → (k < from) ⊎ (to ≤ k) → get_or new k 0 ≡ get_or a k 0)
     → ((k : ℕ) → (k < from) ⊎ (to ≤ k) → (get_or a k 0 ≡ 0) ⊎ (get_or (shifted n part) k 0 ≡ 0))
     → (i : ℕ) → has_bit new i ≡ (has_bit a i && not (has_bit (shifted n part) i))
@@ -172,32 +203,39 @@ cut_part new a part n from to low each rest empty i = go (cases_lt (i / 64) from
     kept : (i / 64 < from) ⊎ (to ≤ i / 64) → has_bit new i ≡ has_bit a i
     kept far = ap (λ x. bit_at x (i % 64) == 1) (rest (i / 64) far)
 
-    apart : has_bit new i ≡ has_bit a i → (word a i ≡ 0) ⊎ (word (shifted n part) i ≡ 0) → has_bit new i ≡ (has_bit a i && not (has_bit (shifted n part) i))
+    apart : has_bit new i ≡ has_bit a i → (word a i ≡ 0) ⊎ (word (shifted n part) i ≡ 0) →
+        has_bit new i ≡ (has_bit a i && not (has_bit (shifted n part) i))
     apart same (inl none) =
         let bit = zero_bit a i none in
         same ∙ bit ∙ ap (λ b. b && not (has_bit (shifted n part) i)) (sym bit)
     apart same (inr none) =
         same ∙ and_true (has_bit a i) ∙ ap (λ b. has_bit a i && not b) (sym (zero_bit (shifted n part) i none))
 
-    go : (i / 64 < from) ⊎ (from ≤ i / 64) → (i / 64 < to) ⊎ (to ≤ i / 64) → has_bit new i ≡ (has_bit a i && not (has_bit (shifted n part) i))
+    go : (i / 64 < from) ⊎ (from ≤ i / 64) → (i / 64 < to) ⊎ (to ≤ i / 64) →
+        has_bit new i ≡ (has_bit a i && not (has_bit (shifted n part) i))
     go (inl before) _ = apart (kept (inl before)) (empty (i / 64) (inl before))
     go (inr here) (inr after) = apart (kept (inr after)) (empty (i / 64) (inr after))
     go (inr here) (inl below) =
         let at = shifted_from n part (i / 64) (omega arith) in
         let one = each (i / 64) here below in
-        has-less new a (shifted n part) i (omega (arith, at, one.1)) (one.0 ∙ ap (λ x. bit_and (word a i) (bit_not w64 x)) (sym at))
+        has-less new a (shifted n part) i (omega (arith, at, one.1))
+        (one.0 ∙ ap (λ x. bit_and (word a i) (bit_not w64 x)) (sym at))
 
 -- the words between the empty ones have the set's numbers
-pub used_bits : (words part : List ℕ) (low high first : ℕ) → IsBetween words low high → first ≡ min low high → part ≡ take (high - first) (drop first words)
+pub used_bits : (words part : List ℕ) (low high first : ℕ) → IsBetween words low high → first ≡ min low high →
+    part ≡ take (high - first) (drop first words)
     → (i : ℕ) → has_bit (shifted first part) i ≡ has_bit words i
-used_bits words part low high first between least is i = ap (λ x. bit_at x (i % 64) == 1) (go (cases_lt (i / 64) first) (cases_lt (i / 64) high))
+used_bits words part low high first between least is i =
+    ap (λ x. bit_at x (i % 64) == 1) (go (cases_lt (i / 64) first) (cases_lt (i / 64) high))
   where
     short : length part ≤ high - first
     short = omega (arith, ap (λ (xs : List ℕ). length xs) is, length-take (high - first) (drop first words))
 
-    go : (i / 64 < first) ⊎ (first ≤ i / 64) → (i / 64 < high) ⊎ (high ≤ i / 64) → word (shifted first part) i ≡ word words i
+    go : (i / 64 < first) ⊎ (first ≤ i / 64) → (i / 64 < high) ⊎ (high ≤ i / 64) →
+        word (shifted first part) i ≡ word words i
     go (inl below) _ = shifted_before first part (i / 64) below ∙ sym (between.before (i / 64) (omega arith))
-    go (inr from) (inr above) = shifted_after first part (i / 64) (omega (arith, short)) ∙ sym (between.after (i / 64) above)
+    go (inr from) (inr above) = shifted_after first part (i / 64) (omega (arith, short)) ∙
+        sym (between.after (i / 64) above)
     go (inr from) (inl inside) =
         let at : first + (i / 64 - first) ≡ i / 64 = omega arith in
         shifted_from first part (i / 64) from
@@ -206,8 +244,10 @@ used_bits words part low high first between least is i = ap (λ x. bit_at x (i %
         ∙ get_or-drop first words (i / 64 - first) 0
         ∙ ap (λ k. get_or words k 0) at
 
--- where all numbers are below the limit, and the words from k up to the limit or the end are empty, none is in word k or later
-pub none_from : (words : List ℕ) (low high limit top start k : ℕ) → IsBetween words low high → limit ≤ top * 64 → start ≡ min top high → ((j : ℕ) → Has words j → j < limit)
+-- where all numbers are below the limit, and the words from k up to the limit or the end are empty, none is in word k
+-- or later
+pub none_from : (words : List ℕ) (low high limit top start k : ℕ) → IsBetween words low high → limit ≤ top * 64 →
+    start ≡ min top high → ((j : ℕ) → Has words j → j < limit)
     → ((j : ℕ) → k ≤ j → j < start → get_or words j 0 ≡ 0) → (j : ℕ) → k ≤ j / 64 → has_bit words j ≡ false
 none_from words low high limit top start k between enough least below empty j from =
     none_above words limit top k enough below (λ i here near. go i here (cases_lt i start) near) j from
@@ -217,7 +257,8 @@ none_from words low high limit top start k between enough least below empty j fr
     go i here (inr past) near = between.after i (omega arith)
 
 -- where also those before word k are empty, there is none
-pub none_at_all : (words : List ℕ) (low high limit top start k : ℕ) → IsBetween words low high → limit ≤ top * 64 → start ≡ min top high → k ≤ low → ((j : ℕ) → Has words j → j < limit)
+pub none_at_all : (words : List ℕ) (low high limit top start k : ℕ) → IsBetween words low high → limit ≤ top * 64 →
+    start ≡ min top high → k ≤ low → ((j : ℕ) → Has words j → j < limit)
     → ((j : ℕ) → k ≤ j → j < start → get_or words j 0 ≡ 0) → (j : ℕ) → has_bit words j ≡ false
 none_at_all words low high limit top start k between enough least first below empty j = go (cases_lt (j / 64) k)
   where
@@ -227,4 +268,8 @@ none_at_all words low high limit top start k between enough least first below em
 
 -- all words in use lie between the ends
 pub between : (words : List ℕ) (first end : ℕ) → AreEnds words first end → IsBetween words first end
-between words first end ends = record { few = ends.is_end.few; before = ends.is_first.before; after = ends.is_end.after }
+between words first end ends = record {
+  few = ends.is_end.few;
+  before = ends.is_first.before;
+  after = ends.is_end.after;
+}

@@ -23,7 +23,8 @@ pub record IsReached (rows : List (List ℕ)) (taken : List ℕ) (j : ℕ) : Typ
   pub is_taken : Contains taken b
   pub has : RowHas rows b j
 
--- the candidates that stand in no other candidate's row were taken, and each candidate stands in the row of one of these
+-- the candidates that stand in no other candidate's row were taken, and each candidate stands in the row of one of
+-- these
 pub record IsThinned (rows : List (List ℕ)) (candidates taken : List ℕ) : Type 0 where
   pub only : (b : ℕ) → Contains taken b → Has candidates b
   pub each : (a : ℕ) → Has candidates a → IsReached rows taken a

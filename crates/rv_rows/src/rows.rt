@@ -1,5 +1,6 @@
 //! Rows, each only as long as what it has asks for.
-ghost use Rattle.std.specs.Prelude.{ℕ, ◌≡◌, ◌<◌, ◌≤◌, ◌++◌, ◌∷◌, ◌&&◌, ◌||◌, not, [], List, length, slice_index_or, OnOk, OnErr};
+ghost use Rattle.std.specs.Prelude.{ℕ, ◌≡◌, ◌<◌, ◌≤◌, ◌++◌, ◌∷◌, ◌&&◌, ◌||◌, not, [], List, length};
+ghost use Rattle.std.specs.Prelude.{slice_index_or, OnOk, OnErr};
 ghost use Rattle.rv_rows.specs.Bits.{Has, has_bit};
 ghost use Rattle.rv_rows.specs.Flat.{IsWithin, part_at, IsPushed};
 
@@ -101,7 +102,8 @@ impl Rows {
     /// Takes out of the set what the row has.
     pub fn subtract_from(&self, number: usize, row: &mut Row)
         requires { number < length self.now }
-        ensures { (j : ℕ) → has_bit row.new j ≡ (has_bit row.old j && not (has_bit (slice_index_or self.now number []) j)) }
+        ensures { (j : ℕ) → has_bit row.new j ≡ (has_bit row.old j &&
+            not (has_bit (slice_index_or self.now number []) j)) }
     {
         let place = self.places[number];
         row.subtract_words(place.first as usize, words_at(self.words.as_slice(), place));

@@ -15,7 +15,8 @@ use Rattle.rv_run.specs.Replays.{IsConsistent, IsReplayed, IsAllowed}
 pub continued : (front back : List Entry) → Continues front (front ++ back)
 continued front back hart = (entries_of hart back, filter-append (λ (x : Entry). hart == x.event.id.hart) front back)
 
-pub exactly_allowed : (model : MemoryModel) (entries : List Entry) (outcome : Outcome) → IsReplayed model entries outcome → IsAllowed outcome ↔ IsConsistent model entries
+pub exactly_allowed : (model : MemoryModel) (entries : List Entry) (outcome : Outcome) →
+    IsReplayed model entries outcome → IsAllowed outcome ↔ IsConsistent model entries
 exactly_allowed model entries (Allowed events operations waiting) told = (λ u. told.0, λ ok. tt)
 exactly_allowed model entries (Malformed m) told = (
   λ none. absurd none,
@@ -23,8 +24,11 @@ exactly_allowed model entries (Malformed m) told = (
 )
 exactly_allowed model entries (Forbidden f) told =
     let evidence = told.0 ++ told.1 ∷ [] in
-    let whole : entries ≡ evidence ++ told.2.after = told.2.whole ∙ sym (append_assoc told.0 (told.1 ∷ []) told.2.after) in (
+    let whole : entries ≡ evidence ++ told.2.after =
+    told.2.whole ∙ sym (append_assoc told.0 (told.1 ∷ []) told.2.after) in (
       λ none. absurd none,
-      λ ok. absurd (no_longer_log model evidence entries f.certificate ok.lawful.0 (WellFormed-front evidence told.2.after (subst WellFormed whole ok.well_formed)) ok.well_formed
-          (subst (λ (l : List Entry). Continues evidence l) (sym whole) (continued evidence told.2.after)) told.3.3 ok.lawful.1),
+      λ ok. absurd (no_longer_log model evidence entries f.certificate ok.lawful.0
+          (WellFormed-front evidence told.2.after (subst WellFormed whole ok.well_formed)) ok.well_formed
+          (subst (λ (l : List Entry). Continues evidence l) (sym whole) (continued evidence told.2.after)) told.3.3
+          ok.lawful.1),
     )

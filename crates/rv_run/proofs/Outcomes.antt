@@ -1,5 +1,7 @@
 -- What the comparison with what was read says of the sources.
-use Rattle.std.proofs.Common.{◌≡◌, ℕ, suc, zero, ◌<◌, List, [], ◌∷◌, ◌++◌, length, map, take, drop, get_or, All, Option, Some, None, IfSome, Result, Ok, Err, IfOk, IfErr, refl, sym, ap, ◌∙◌, subst, append_assoc, arith}
+use Rattle.std.proofs.Common.{◌≡◌, ℕ, suc, zero, ◌<◌, List, [], ◌∷◌, ◌++◌, length, map, take, drop, get_or}
+use Rattle.std.proofs.Common.{All, Option, Some, None, IfSome, Result, Ok, Err, IfOk, IfErr, refl, sym, ap}
+use Rattle.std.proofs.Common.{◌∙◌, subst, append_assoc, arith}
 use Rattle.std.specs.Prelude.{IsSome}
 use Rattle.std.proofs.lemmas.Bool.{false≢true}
 use Rattle.std.proofs.lemmas.Option.{none-some}
@@ -21,7 +23,8 @@ use Rattle.rv_report.specs.declared.outcome.Outcome.TheVariants.{Allowed, Forbid
 use Rattle.rv_run.specs.Comparisons.{AgreesWith, IsBegun, IsFaultIn}
 use Rattle.rv_run.specs.Feeds.{IsFedOf, IsEndOf}
 use Rattle.rv_run.specs.Replays.{IsConsistent, IsReplayed, IsAllowed}
-use Rattle.rv_run.specs.Sources.{AreWellFormed, EndsIn, HasReadAll, IsAllOf, IsFaultAmong, IsForbidden, IsPartOf, IsTrueOf}
+use Rattle.rv_run.specs.Sources.{AreWellFormed, EndsIn, HasReadAll, IsAllOf, IsFaultAmong, IsForbidden}
+use Rattle.rv_run.specs.Sources.{IsPartOf, IsTrueOf}
 use Rattle.rv_run.specs.declared.fault.RunFault.{RunFault}
 use Rattle.rv_run.specs.declared.fault.RunFault.TheVariants as fault
 use Rattle.rv_run.specs.declared.feeding.Fed.{Fed}
@@ -34,12 +37,19 @@ use Rattle.rv_run.proofs.Weighing.{length-merge, operations-merge, waiting-merge
 -- sources that end whole, with these events
 pub read-all :
     (from : ℕ) (streams : List (Option Stream)) (ess : List (List Event)) → length ess ≡ length streams →
-    ((k : ℕ) → k < length streams → IsAllOf (get_or streams k None) (get_or ess k [])) → HasReadAll from streams (together from ess)
+    ((k : ℕ) → k < length streams → IsAllOf (get_or streams k None) (get_or ess k [])) →
+    HasReadAll from streams (together from ess)
 read-all from [] [] long each = refl
 read-all from [] (es ∷ ess) long each = absurd (omega (arith, long))
 read-all from (s ∷ streams) [] long each = absurd (omega (arith, long))
-read-all from (s ∷ streams) (es ∷ ess) long each =
-    (es, together (suc from) ess, refl, each 0 (omega arith), read-all (suc from) streams ess (omega (arith, long)) (λ k low. each (suc k) (omega (arith, low))))
+read-all from (s ∷ streams) (es ∷ ess) long each = (
+  es,
+  together (suc from) ess,
+  refl,
+  each 0 (omega arith),
+  read-all (suc from) streams ess (omega (arith, long))
+      (λ k low. each (suc k) (omega (arith, low))),
+)
 
 pub record IsReadOf (from : ℕ) (streams : List (Option Stream)) (entries : List Entry) : Type 0 where
   pub ess : List (List Event)
@@ -54,7 +64,8 @@ all-of-more :
 all-of-more s streams es ess here more zero low = here
 all-of-more s streams es ess here more (suc k) low = more k (omega (arith, low))
 
-pub read-of : (from : ℕ) (streams : List (Option Stream)) (entries : List Entry) → HasReadAll from streams entries → IsReadOf from streams entries
+pub read-of : (from : ℕ) (streams : List (Option Stream)) (entries : List Entry) → HasReadAll from streams entries →
+    IsReadOf from streams entries
 read-of from [] entries read = record {
   ess = [];
   long = refl;
@@ -70,28 +81,37 @@ read-of from (s ∷ streams) entries read =
     }
 
 -- sources whose bytes are known have one list of entries
-read-once : (from : ℕ) (streams : List (Option Stream)) (one other : List Entry) → All IsSome streams → HasReadAll from streams one → HasReadAll from streams other → one ≡ other
+read-once : (from : ℕ) (streams : List (Option Stream)) (one other : List Entry) → All IsSome streams →
+    HasReadAll from streams one → HasReadAll from streams other → one ≡ other
 read-once from [] one other known p q = p ∙ sym q
 read-once from (s ∷ streams) one other known p q =
     p.2 ∙ ap (λ (es : List Event). entries_of from es ++ p.1) (same s (known 0 s (omega arith)) p.3 q.3)
-    ∙ ap (λ (l : List Entry). entries_of from q.0 ++ l) (read-once (suc from) streams p.1 q.1 (λ k d low. known (suc k) d (omega (arith, low))) p.4 q.4) ∙ sym q.2
+    ∙ ap (λ (l : List Entry). entries_of from q.0 ++ l)
+    (read-once (suc from) streams p.1 q.1 (λ k d low. known (suc k) d (omega (arith, low))) p.4 q.4) ∙ sym q.2
   where
     same : (o : Option Stream) → IsSome o → IsAllOf o p.0 → IsAllOf o q.0 → p.0 ≡ q.0
     same None some a b = absurd (false≢true some)
     same (Some t) some a b = sym a.0 ∙ b.0
 
 -- what is consistent in one merge is so in each
-pub consistent-merge : (model : MemoryModel) (log other : List Entry) → SameSources log other → IsConsistent model log → IsConsistent model other
+pub consistent-merge : (model : MemoryModel) (log other : List Entry) → SameSources log other → IsConsistent model log →
+    IsConsistent model other
 consistent-merge model log other same ok =
     let formed = WellFormed-sources log other ok.well_formed same in record {
       well_formed = formed;
-      lawful = (ok.lawful.0, Lawful-merge model log other ok.lawful.0 ok.well_formed formed (SameHarts-from_sources log other ok.well_formed same) ok.lawful.1);
+      lawful = (
+        ok.lawful.0,
+        Lawful-merge model log other ok.lawful.0 ok.well_formed formed
+            (SameHarts-from_sources log other ok.well_formed same) ok.lawful.1,
+      );
     }
 
 -- a log of all events of the sources says what they come to
 allowed-true :
-    (model : MemoryModel) (streams : List (Option Stream)) (log : List Entry) (ess : List (List Event)) → IsConsistent model log →
-    All (λ x. x.source < length ess) log → ((i : ℕ) → i < length ess → given_by i log ≡ get_or ess i []) → length ess ≡ length streams →
+    (model : MemoryModel) (streams : List (Option Stream)) (log : List Entry) (ess : List (List Event)) →
+    IsConsistent model log →
+    All (λ x. x.source < length ess) log → ((i : ℕ) → i < length ess → given_by i log ≡ get_or ess i []) →
+    length ess ≡ length streams →
     ((i : ℕ) → i < length streams → IsAllOf (get_or streams i None) (get_or ess i [])) →
     IsTrueOf model streams (Allowed (length log) (operations_of log) (waiting_of log))
 allowed-true model streams log ess ok low given long all =
@@ -108,37 +128,47 @@ allowed-true model streams log ess ok low given long all =
     )
 
 -- the first of what was read are the first of the source
-first-true : (s : Option Stream) (fed : Fed) (given : List Event) (n : ℕ) → IsFedOf s fed → given ≡ take n fed.events.items → IfSome s (λ t. IsPrefix given t.events)
+first-true : (s : Option Stream) (fed : Fed) (given : List Event) (n : ℕ) → IsFedOf s fed →
+    given ≡ take n fed.events.items → IfSome s (λ t. IsPrefix given t.events)
 first-true None fed given n is first = tt
 first-true (Some t) fed given n is first = (
   drop n fed.events.items ++ is.0.0,
   is.0.1 ∙ ap (λ (l : List Event). l ++ is.0.0) (sym (take-append-drop n fed.events.items))
-      ∙ append_assoc (take n fed.events.items) (drop n fed.events.items) is.0.0 ∙ ap (λ (l : List Event). l ++ (drop n fed.events.items ++ is.0.0)) (sym first),
+      ∙ append_assoc (take n fed.events.items) (drop n fed.events.items) is.0.0 ∙
+      ap (λ (l : List Event). l ++ (drop n fed.events.items ++ is.0.0)) (sym first),
 )
 
 all-true : (s : Option Stream) (fed : Fed) → IsFedOf s fed → fed.end ≡ end.Whole → IsAllOf s fed.events.items
 all-true None fed is whole = tt
 all-true (Some t) fed is whole = subst (λ (e : FeedEnd). IsEndOf t fed.events.items e) whole is.1
 
-prefix-known : (o : Option Stream) (given es : List Event) → IsSome o → IfSome o (λ t. IsPrefix given t.events) → IsAllOf o es → IsPrefix given es
+prefix-known : (o : Option Stream) (given es : List Event) → IsSome o → IfSome o (λ t. IsPrefix given t.events) →
+    IsAllOf o es → IsPrefix given es
 prefix-known None given es some first all = absurd (false≢true some)
 prefix-known (Some t) given es some first all = subst (λ (l : List Event). IsPrefix given l) all.0 first
 
 -- a part of known sources goes on to a merge of their entries
 pub part-goes-on :
-    (streams : List (Option Stream)) (log entries : List Entry) → All IsSome streams → IsPartOf streams log → HasReadAll 0 streams entries →
+    (streams : List (Option Stream)) (log entries : List Entry) → All IsSome streams → IsPartOf streams log →
+    HasReadAll 0 streams entries →
     (more : List Entry) × SameSources entries (log ++ more)
 part-goes-on streams log entries known part read =
     let r = read-of 0 streams entries read in
-    let low : All (λ x. x.source < length r.ess) log = subst (λ (n : ℕ). All (λ x. x.source < n) log) (sym r.long) part.none_else in
+    let low : All (λ x. x.source < length r.ess) log = subst (λ (n : ℕ). All (λ x. x.source < n) log)
+    (sym r.long) part.none_else in
     let on = goes-on log r.ess low (λ i below.
     let here : i < length streams = omega (arith, below, r.long) in
-    prefix-known (get_or streams i None) (given_by i log) (get_or r.ess i []) (known i None here) (part.first i here) (r.each i here)) in
-    (on.more, subst (λ (l : List Entry). SameSources l (log ++ on.more)) (sym r.whole) (λ source. sym (on.merge source)))
+    prefix-known (get_or streams i None) (given_by i log) (get_or r.ess i []) (known i None here) (part.first i here)
+    (r.each i here)) in (
+      on.more,
+      subst (λ (l : List Entry). SameSources l (log ++ on.more)) (sym r.whole)
+          (λ source. sym (on.merge source)),
+    )
 
 -- where a part of known sources ends in a fault, they are not well formed
 ill-formed :
-    (streams : List (Option Stream)) (log : List Entry) (f : EventFault) → IsPartOf streams log → IsMalformed log f → All IsSome streams → AreWellFormed streams → ⊥
+    (streams : List (Option Stream)) (log : List Entry) (f : EventFault) → IsPartOf streams log → IsMalformed log f →
+    All IsSome streams → AreWellFormed streams → ⊥
 ill-formed streams log f part bad known formed =
     let on = part-goes-on streams log formed.0 known part formed.1 in
     let ok = WellFormed-front log on.0 (WellFormed-sources formed.0 (log ++ on.0) formed.2 on.1) in
@@ -146,7 +176,8 @@ ill-formed streams log f part bad known formed =
 
 -- where a part of known sources leaves no lawful order, their entries have none
 pub final-refutes :
-    (model : MemoryModel) (streams : List (Option Stream)) (f : Refusal) (entries : List Entry) → All IsSome streams → IsTrueOf model streams (Forbidden f) →
+    (model : MemoryModel) (streams : List (Option Stream)) (f : Refusal) (entries : List Entry) → All IsSome streams →
+    IsTrueOf model streams (Forbidden f) →
     HasReadAll 0 streams entries → IsConsistent model entries → ⊥
 final-refutes model streams f entries known told read ok =
     let on = part-goes-on streams f.evidence entries known told.1 read in
@@ -154,9 +185,11 @@ final-refutes model streams f entries known told read ok =
     told.3 (f.evidence ++ on.0) longer.lawful.0 longer.well_formed (continued f.evidence on.0) longer.lawful.1
 
 pub runs-agree :
-    (model : MemoryModel) (streams : List (Option Stream)) (one other : Outcome) → All IsSome streams → IsTrueOf model streams one → IsTrueOf model streams other →
+    (model : MemoryModel) (streams : List (Option Stream)) (one other : Outcome) → All IsSome streams →
+    IsTrueOf model streams one → IsTrueOf model streams other →
     IsAllowed one → IsForbidden other → ⊥
-runs-agree model streams (Allowed e o w) (Forbidden f) known one other allowed forbidden = final-refutes model streams f one.0 known other one.1 one.2
+runs-agree model streams (Allowed e o w) (Forbidden f) known one other allowed forbidden =
+    final-refutes model streams f one.0 known other one.1 one.2
 runs-agree model streams (Allowed e o w) (Allowed e' o' w') known one other allowed forbidden = forbidden
 runs-agree model streams (Allowed e o w) (Malformed m) known one other allowed forbidden = forbidden
 runs-agree model streams (Forbidden f) other known one told allowed forbidden = allowed
@@ -168,7 +201,8 @@ not-both (Forbidden f) allowed forbidden = allowed
 not-both (Malformed m) allowed forbidden = allowed
 
 run-allowed :
-    (model : MemoryModel) (streams : List (Option Stream)) (entries : List Entry) (run : Outcome) → All IsSome streams → HasReadAll 0 streams entries →
+    (model : MemoryModel) (streams : List (Option Stream)) (entries : List Entry) (run : Outcome) → All IsSome streams →
+    HasReadAll 0 streams entries →
     IsTrueOf model streams run → IsAllowed run → IsConsistent model entries
 run-allowed model streams entries (Allowed e o w) known read told allowed =
     subst (λ (l : List Entry). IsConsistent model l) (read-once 0 streams told.0 entries known told.1 read) told.2
@@ -176,21 +210,27 @@ run-allowed model streams entries (Forbidden f) known read told allowed = absurd
 run-allowed model streams entries (Malformed m) known read told allowed = absurd allowed
 
 run-forbidden :
-    (model : MemoryModel) (streams : List (Option Stream)) (entries : List Entry) (run : Outcome) → All IsSome streams → HasReadAll 0 streams entries →
+    (model : MemoryModel) (streams : List (Option Stream)) (entries : List Entry) (run : Outcome) → All IsSome streams →
+    HasReadAll 0 streams entries →
     IsTrueOf model streams run → IsForbidden run → IsConsistent model entries → ⊥
 run-forbidden model streams entries (Allowed e o w) known read told forbidden ok = forbidden
-run-forbidden model streams entries (Forbidden f) known read told forbidden ok = final-refutes model streams f entries known told read ok
+run-forbidden model streams entries (Forbidden f) known read told forbidden ok =
+    final-refutes model streams f entries known told read ok
 run-forbidden model streams entries (Malformed m) known read told forbidden ok = forbidden
 
 pub passes-agree :
     (model : MemoryModel) (streams : List (Option Stream)) (entries merge : List Entry) (run pass : Outcome) →
-    All IsSome streams → HasReadAll 0 streams entries → SameSources entries merge → IsTrueOf model streams run → IsReplayed model merge pass →
+    All IsSome streams → HasReadAll 0 streams entries → SameSources entries merge → IsTrueOf model streams run →
+    IsReplayed model merge pass →
     (IsAllowed run → IsForbidden pass → ⊥) × (IsForbidden run → IsAllowed pass → ⊥)
 passes-agree model streams entries merge run pass known read same told passed = (
   λ allowed forbidden. not-both pass
-      ((exactly_allowed model merge pass passed).1 (consistent-merge model entries merge same (run-allowed model streams entries run known read told allowed))) forbidden,
+      ((exactly_allowed model merge pass passed).1
+      (consistent-merge model entries merge same (run-allowed model streams entries run known read told allowed)))
+      forbidden,
   λ forbidden allowed. run-forbidden model streams entries run known read told forbidden
-      (consistent-merge model merge entries (λ source. sym (same source)) ((exactly_allowed model merge pass passed).0 allowed)),
+      (consistent-merge model merge entries (λ source. sym (same source))
+      ((exactly_allowed model merge pass passed).0 allowed)),
 )
 
 -- of sources that were fed, by what each feeder gave
@@ -203,15 +243,18 @@ module _ (streams : List (Option Stream)) (fed : List Fed) (any : Fed) (same : l
         first-true (get_or streams i None) (get_or fed i any) (given_by i log) so.count (each i any low) so.first;
   }
 
-  read-at : (i : ℕ) → i < length fed → get_or (map (λ (f : Fed). f.events.items) fed) i [] ≡ (get_or fed i any).events.items
+  read-at : (i : ℕ) → i < length fed → get_or (map (λ (f : Fed). f.events.items) fed) i [] ≡
+      (get_or fed i any).events.items
   read-at i low = get_or-map (λ (f : Fed). f.events.items) fed i any [] low
 
-  pub outcome-true : (model : MemoryModel) (outcome : Outcome) → AgreesWith model fed outcome → IsTrueOf model streams outcome
+  pub outcome-true : (model : MemoryModel) (outcome : Outcome) → AgreesWith model fed outcome →
+      IsTrueOf model streams outcome
   outcome-true model (Allowed e o w) a =
       let log = a.0 in
       let ess = map (λ (f : Fed). f.events.items) fed in
       let long : length ess ≡ length fed = length-map fed (λ (f : Fed). f.events.items) in
-      let told = allowed-true model streams log ess a.1 (subst (λ (n : ℕ). All (λ x. x.source < n) log) (sym long) a.2.0)
+      let told = allowed-true model streams log ess a.1
+      (subst (λ (n : ℕ). All (λ x. x.source < n) log) (sym long) a.2.0)
       (λ i low. let here : i < length fed = omega (arith, low, long) in (a.2.1 i any here).all ∙ sym (read-at i here))
       (long ∙ same)
       (λ i low. let here : i < length fed = omega (arith, low, same) in
@@ -219,7 +262,8 @@ module _ (streams : List (Option Stream)) (fed : List Fed) (any : Fed) (same : l
       (all-true (get_or streams i None) (get_or fed i any) (each i any low) (a.2.1 i any here).ended)) in
       (told.0, told.1, told.2, a.3 ∙ told.3, a.4 ∙ told.4, a.5 ∙ told.5)
   outcome-true model (Forbidden f) a = (a.0, part-true f.evidence a.1, a.2, a.3)
-  outcome-true model (Malformed m) a = let part = part-true m.evidence a.1 in (a.0, part, a.2, ill-formed streams m.evidence m.fault part a.2)
+  outcome-true model (Malformed m) a = let part = part-true m.evidence a.1 in
+      (a.0, part, a.2, ill-formed streams m.evidence m.fault part a.2)
 
   pub fault-true : (why : RunFault) → IsFaultIn fed why → IsFaultAmong streams why
   fault-true (fault.Trace source f) told =
@@ -236,28 +280,36 @@ module _ (streams : List (Option Stream)) (fed : List Fed) (any : Fed) (same : l
 -- the same of readers, by what each says
 each-of :
     {R : Type 0} (says : R → Option Stream) (readers : List R) (fed : List Fed) → length fed ≡ length readers →
-    ((i : ℕ) (r : R) (f : Fed) → i < length readers → IsFedOf (says (get_or readers i r)) (get_or fed i f)) → (r : R) (i : ℕ) (f : Fed) →
+    ((i : ℕ) (r : R) (f : Fed) → i < length readers → IsFedOf (says (get_or readers i r)) (get_or fed i f)) →
+    (r : R) (i : ℕ) (f : Fed) →
     i < length (map says readers) → IsFedOf (get_or (map says readers) i None) (get_or fed i f)
 each-of says readers fed same each r i f low =
     let below : i < length readers = omega (arith, low, length-map readers says) in
-    subst (λ (s : Option Stream). IsFedOf s (get_or fed i f)) (sym (get_or-map says readers i r None below)) (each i r f below)
+    subst (λ (s : Option Stream). IsFedOf s (get_or fed i f)) (sym (get_or-map says readers i r None below))
+    (each i r f below)
 
 pub answer-true :
-    {R : Type 0} (says : R → Option Stream) (readers : List R) (fed : List Fed) (model : MemoryModel) (a : Result Outcome RunFault) → 0 < length readers →
-    length fed ≡ length readers → ((i : ℕ) (r : R) (f : Fed) → i < length readers → IsFedOf (says (get_or readers i r)) (get_or fed i f)) →
+    {R : Type 0} (says : R → Option Stream) (readers : List R) (fed : List Fed) (model : MemoryModel)
+    (a : Result Outcome RunFault) → 0 < length readers →
+    length fed ≡ length readers → ((i : ℕ) (r : R) (f : Fed) → i < length readers → IsFedOf (says (get_or readers i r))
+    (get_or fed i f)) →
     IfOk a (AgreesWith model fed) → IfOk a (IsTrueOf model (map says readers))
 answer-true says readers fed model (Err e) some same each a = tt
 answer-true says [] fed model (Ok o) some same each a = absurd (omega (arith, some))
 answer-true says (r ∷ rs) [] model (Ok o) some same each a = absurd (omega (arith, same))
 answer-true says (r ∷ rs) (f ∷ fs) model (Ok o) some same each a =
-    outcome-true (map says (r ∷ rs)) (f ∷ fs) f (same ∙ sym (length-map (r ∷ rs) says)) (each-of says (r ∷ rs) (f ∷ fs) same each r) model o a
+    outcome-true (map says (r ∷ rs)) (f ∷ fs) f (same ∙ sym (length-map (r ∷ rs) says))
+    (each-of says (r ∷ rs) (f ∷ fs) same each r) model o a
 
 pub answer-fault :
-    {R : Type 0} (says : R → Option Stream) (readers : List R) (fed : List Fed) (a : Result Outcome RunFault) → 0 < length readers →
-    length fed ≡ length readers → ((i : ℕ) (r : R) (f : Fed) → i < length readers → IsFedOf (says (get_or readers i r)) (get_or fed i f)) →
+    {R : Type 0} (says : R → Option Stream) (readers : List R) (fed : List Fed) (a : Result Outcome RunFault) →
+    0 < length readers →
+    length fed ≡ length readers → ((i : ℕ) (r : R) (f : Fed) → i < length readers → IsFedOf (says (get_or readers i r))
+    (get_or fed i f)) →
     IfErr a (IsFaultIn fed) → IfErr a (IsFaultAmong (map says readers))
 answer-fault says readers fed (Ok o) some same each a = tt
 answer-fault says [] fed (Err e) some same each a = absurd (omega (arith, some))
 answer-fault says (r ∷ rs) [] (Err e) some same each a = absurd (omega (arith, same))
 answer-fault says (r ∷ rs) (f ∷ fs) (Err e) some same each a =
-    fault-true (map says (r ∷ rs)) (f ∷ fs) f (same ∙ sym (length-map (r ∷ rs) says)) (each-of says (r ∷ rs) (f ∷ fs) same each r) e a
+    fault-true (map says (r ∷ rs)) (f ∷ fs) f (same ∙ sym (length-map (r ∷ rs) says))
+    (each-of says (r ∷ rs) (f ∷ fs) same each r) e a

@@ -1,5 +1,6 @@
 -- A book that has taken the first entries of a list.
-use Rattle.std.proofs.Common.{◌≡◌, ℕ, ◌≤◌, ◌<◌, ◌+◌, List, [], ◌∷◌, ◌++◌, length, take, drop, suc, get_or, IsFalse, ◌⊎◌, inl, inr, sym, ap, ◌∙◌, subst, arith, take-append-drop, drop-cons}
+use Rattle.std.proofs.Common.{◌≡◌, ℕ, ◌≤◌, ◌<◌, ◌+◌, List, [], ◌∷◌, ◌++◌, length, take, drop, suc, get_or}
+use Rattle.std.proofs.Common.{IsFalse, ◌⊎◌, inl, inr, sym, ap, ◌∙◌, subst, arith, take-append-drop, drop-cons}
 use Rattle.std.proofs.Math.Seq.{take-suc, take-length}
 use Rattle.std.proofs.lemmas.List.{length-take-le, take_all}
 use Rattle.std.proofs.lemmas.Bool.{cases_lt}
@@ -27,20 +28,27 @@ pub record IsReplaying (model : MemoryModel) (entries : List Entry) (count : ℕ
   pub shorter : (n : ℕ) → n ≤ count → IsConsistent model (take n entries)
 
 pub replaying-begin :
-    (model : MemoryModel) (entries : List Entry) (book : Booked) → IsFalse book.stopped → book.model ≡ model → book.log ≡ [] →
+    (model : MemoryModel) (entries : List Entry) (book : Booked) → IsFalse book.stopped → book.model ≡ model →
+    book.log ≡ [] →
     Lawful book.model (events book.log) book.order → IsReplaying model entries 0 book
 replaying-begin model entries book going same empty lawful = record {
   going = going;
   judged_by = same;
   log = empty;
-  shorter = λ n low. let none : 0 ≡ n = omega (arith, low) in subst (λ (k : ℕ). IsConsistent model (take k entries)) none (record {
-    well_formed = WellFormed-nil;
-    lawful = (book.order, subst (λ (m : MemoryModel). Lawful m [] book.order) same (subst (λ (l : List Entry). Lawful book.model (events l) book.order) empty lawful));
-  });
+  shorter = λ n low. let none : 0 ≡ n = omega (arith, low) in
+      subst (λ (k : ℕ). IsConsistent model (take k entries)) none (record {
+        well_formed = WellFormed-nil;
+        lawful = (
+          book.order,
+          subst (λ (m : MemoryModel). Lawful m [] book.order) same
+              (subst (λ (l : List Entry). Lawful book.model (events l) book.order) empty lawful),
+        );
+      });
 }
 
 pub replaying-turn :
-    (model : MemoryModel) (entries : List Entry) (count : ℕ) (old new : Booked) (x : Entry) → IsReplaying model entries count old →
+    (model : MemoryModel) (entries : List Entry) (count : ℕ) (old new : Booked) (x : Entry) →
+    IsReplaying model entries count old →
     count < length entries → x ≡ get_or entries count x → IsFalse new.stopped → IsTaken old new x →
     IsReplaying model entries (count + 1) new
 replaying-turn model entries count old new x r low is going taken =
@@ -49,47 +57,61 @@ replaying-turn model entries count old new x r low is going taken =
     ap (λ (l : List Entry). l ++ x ∷ []) r.log ∙ ap (λ (y : Entry). take count entries ++ y ∷ []) is
     ∙ sym (take-suc entries count x low) ∙ ap (λ (n : ℕ). take n entries) next in
     let last : IsConsistent model (take (count + 1) entries) = record {
-      well_formed = subst WellFormed log (WellFormed-push old.log x (subst WellFormed (sym r.log) (r.shorter count (omega arith)).well_formed) taken.sound);
-      lawful = subst (λ (l : List Entry). SomeLawful model l) log (subst (λ (m : MemoryModel). SomeLawful m (old.log ++ x ∷ [])) r.judged_by taken.lawful);
+      well_formed = subst WellFormed log (WellFormed-push old.log x
+          (subst WellFormed (sym r.log) (r.shorter count (omega arith)).well_formed) taken.sound);
+      lawful = subst (λ (l : List Entry). SomeLawful model l) log
+          (subst (λ (m : MemoryModel). SomeLawful m (old.log ++ x ∷ [])) r.judged_by taken.lawful);
     } in
     record {
       going = going;
       judged_by = taken.model ∙ r.judged_by;
       log = taken.log ∙ log;
       shorter = λ n within. elim (cases_lt count n) [
-        | inl above ↦ (let whole : count + 1 ≡ n = omega (arith, above, within) in subst (λ (k : ℕ). IsConsistent model (take k entries)) whole last)
+        | inl above ↦ (let whole : count + 1 ≡ n = omega (arith, above, within) in
+            subst (λ (k : ℕ). IsConsistent model (take k entries)) whole last)
         | inr below ↦ r.shorter n below
       ];
     }
 
 pub replaying-stops :
-    (model : MemoryModel) (entries : List Entry) (count : ℕ) (book : Booked) (x : Entry) → IsReplaying model entries count book →
+    (model : MemoryModel) (entries : List Entry) (count : ℕ) (book : Booked) (x : Entry) →
+    IsReplaying model entries count book →
     count < length entries → x ≡ get_or entries count x → Reaches model entries book.log x
 replaying-stops model entries count book x r low is = record {
   after = drop (suc count) entries;
-  whole = sym (take-append-drop count entries) ∙ ap (λ (l : List Entry). take count entries ++ l) (drop-cons entries count x low ∙ ap (λ (y : Entry). y ∷ drop (suc count) entries) (sym is))
+  whole = sym (take-append-drop count entries) ∙ ap (λ (l : List Entry). take count entries ++ l)
+      (drop-cons entries count x low ∙ ap (λ (y : Entry). y ∷ drop (suc count) entries) (sym is))
       ∙ ap (λ (l : List Entry). l ++ x ∷ drop (suc count) entries) (sym r.log);
-  shorter = λ n within. r.shorter n (omega (arith, within, ap (λ (l : List Entry). length l) r.log, length-take-le count entries (omega (arith, low))));
+  shorter = λ n within. r.shorter n (omega (
+    arith,
+    within,
+    ap (λ (l : List Entry). length l) r.log,
+    length-take-le count entries (omega (arith, low)),
+  ));
 }
 
 -- a refusal, as an outcome
 pub replaying-refused :
-    (model : MemoryModel) (entries : List Entry) (count : ℕ) (old new : Booked) (x : Entry) (o : Offer) (v : Verdict) (outcome : Outcome) →
+    (model : MemoryModel) (entries : List Entry) (count : ℕ) (old new : Booked) (x : Entry) (o : Offer) (v : Verdict)
+    (outcome : Outcome) →
     IsReplaying model entries count old → count < length entries → x ≡ get_or entries count x → IsOffered old new x o →
     (o ≡ offer.Malformed v) ⊎ (o ≡ offer.Forbidden v) → outcome ≡ outcome_of v → IsReplayed model entries outcome
 replaying-refused model entries count old new x o v outcome r low is told which of =
     let halts = offer-halts old new x o v told which in
     let reaches = replaying-stops model entries count old x r low is in
     subst (λ (out : Outcome). IsReplayed model entries out) (sym of)
-    (refused v (subst (λ (m : MemoryModel). IsVerdictOn m old.log x v) (halts.model ∙ r.judged_by) (subst (λ (l : List Entry). IsVerdictOn new.model l x v) halts.log halts.told)) reaches)
+    (refused v (subst (λ (m : MemoryModel). IsVerdictOn m old.log x v) (halts.model ∙ r.judged_by)
+    (subst (λ (l : List Entry). IsVerdictOn new.model l x v) halts.log halts.told)) reaches)
   where
-    refused : (w : Verdict) → IsVerdictOn model old.log x w → Reaches model entries old.log x → IsReplayed model entries (outcome_of w)
+    refused : (w : Verdict) → IsVerdictOn model old.log x w → Reaches model entries old.log x →
+        IsReplayed model entries (outcome_of w)
     refused (verdict.Malformed m) is_on reaches = (old.log, x, reaches, is_on)
     refused (verdict.Forbidden f) is_on reaches = (old.log, x, reaches, is_on)
 
 -- the whole list was taken
 pub replaying-end :
-    (model : MemoryModel) (entries : List Entry) (count : ℕ) (book : Booked) → IsReplaying model entries count book → length entries ≤ count →
+    (model : MemoryModel) (entries : List Entry) (count : ℕ) (book : Booked) → IsReplaying model entries count book →
+    length entries ≤ count →
     IsConsistent model entries × (book.log ≡ entries)
 replaying-end model entries count book r long = (
   subst (λ (l : List Entry). IsConsistent model l) (take-length entries) (r.shorter (length entries) long),

@@ -13,15 +13,22 @@ use Rattle.rv_run.specs.Comparisons.{AgreesWith, IsBegun}
 use Rattle.rv_run.specs.declared.feeding.Fed.{Fed}
 
 module _ (model : MemoryModel) (fed : List Fed) (of copy : Verdict) (evidence : List Entry) (outcome : Outcome)
-    (same : copy ≡ of) (out : outcome ≡ outcome_of copy) (own : model_of of ≡ model) (begun : IsBegun evidence fed) where
+    (same : copy ≡ of) (out : outcome ≡ outcome_of copy) (own : model_of of ≡ model)
+    (begun : IsBegun evidence fed) where
   pub forbidden-agrees :
-      (f : Refusal) → of ≡ verdict.Forbidden f → evidence ≡ f.evidence → WellFormed f.evidence → IsFinal f.model f.evidence → AgreesWith model fed outcome
+      (f : Refusal) → of ≡ verdict.Forbidden f → evidence ≡ f.evidence → WellFormed f.evidence →
+      IsFinal f.model f.evidence → AgreesWith model fed outcome
   forbidden-agrees f is log ok final =
       let judged : f.model ≡ model = ap model_of (sym is) ∙ own in
-      subst (λ (o : Outcome). AgreesWith model fed o) (sym (out ∙ ap outcome_of (same ∙ is)))
-      (judged, subst (λ (l : List Entry). IsBegun l fed) log begun, ok, subst (λ (m : MemoryModel). IsFinal m f.evidence) judged final)
+      subst (λ (o : Outcome). AgreesWith model fed o) (sym (out ∙ ap outcome_of (same ∙ is))) (
+        judged,
+        subst (λ (l : List Entry). IsBegun l fed) log begun,
+        ok,
+        subst (λ (m : MemoryModel). IsFinal m f.evidence) judged final,
+      )
 
-  pub malformed-agrees : (m : FaultyLog) → of ≡ verdict.Malformed m → evidence ≡ m.evidence → IsMalformed m.evidence m.fault → AgreesWith model fed outcome
+  pub malformed-agrees : (m : FaultyLog) → of ≡ verdict.Malformed m → evidence ≡ m.evidence →
+      IsMalformed m.evidence m.fault → AgreesWith model fed outcome
   malformed-agrees m is log bad =
       subst (λ (o : Outcome). AgreesWith model fed o) (sym (out ∙ ap outcome_of (same ∙ is)))
       (ap model_of (sym is) ∙ own, subst (λ (l : List Entry). IsBegun l fed) log begun, bad)

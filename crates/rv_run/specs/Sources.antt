@@ -1,5 +1,6 @@
 -- What a run tells of sources, where their readers tell their bytes.
-use Rattle.std.specs.Prelude.{◌≡◌, ◌++◌, ◌<◌, ℕ, suc, List, [], ◌∷◌, length, slice_index_or, Option, Some, None, IsSome, IfSome, All, true, ⊤}
+use Rattle.std.specs.Prelude.{◌≡◌, ◌++◌, ◌<◌, ℕ, suc, List, [], ◌∷◌, length, slice_index_or, Option, Some}
+use Rattle.std.specs.Prelude.{None, IsSome, IfSome, All, true, ⊤}
 use Rattle.rv_event.specs.Merges.{SameSources}
 use Rattle.rv_event.specs.WellFormed.{WellFormed}
 use Rattle.rv_event.specs.declared.event.Event.{Event}

@@ -1,5 +1,6 @@
 //! A whole run in threads.
-ghost use Rattle.std.specs.Prelude.{◌≡◌, ◌≢◌, ◌↔◌, ◌<◌, ◌≤◌, ◌+◌, IfOk, IfErr, Err, false, All, map, option_map, vec_len};
+ghost use Rattle.std.specs.Prelude.{◌≡◌, ◌≢◌, ◌↔◌, ◌<◌, ◌≤◌, ◌+◌, IfOk, IfErr, Err, false, All, map};
+ghost use Rattle.std.specs.Prelude.{option_map, vec_len};
 ghost use Rattle.rv_trace.specs.Source.{source_says};
 ghost use Rattle.rv_run.specs.Ranges.{IsOutOfRange};
 ghost use Rattle.rv_run.specs.Sources.{IsFaultAmong, IsTrueOf};

@@ -1,5 +1,6 @@
 -- The listed links are edges, and carry all.
-use Rattle.std.proofs.Common.{◌≡◌, ◌≢◌, ℕ, ◌<◌, List, [], ◌∷◌, ◌++◌, Contains, Option, Some, None, refl, sym, ap, ◌∙◌, arith, subst}
+use Rattle.std.proofs.Common.{◌≡◌, ◌≢◌, ℕ, ◌<◌, List, [], ◌∷◌, ◌++◌, Contains, Option, Some, None, refl, sym}
+use Rattle.std.proofs.Common.{ap, ◌∙◌, arith, subst}
 use Rattle.std.proofs.lemmas.List.Elements.{Contains-push}
 use Rattle.rv_event.proofs.Indexed.{Indexed, Sound, indexed-push}
 use Rattle.rv_event.proofs.Names.{writer-is}
@@ -14,7 +15,9 @@ use Rattle.rv_event.specs.declared.reason.Reason.{Reason}
 use Rattle.rv_event.specs.declared.reason.Reason.TheVariants.{Coherence, ReadsFrom, FromRead, AtomicIn, AtomicOut}
 use Rattle.rv_cover.proofs.Covering.{edge_of}
 use Rattle.rv_versions.specs.Indexes.{IsPair}
-use Rattle.rv_versions.specs.Listed.{link, BeforeLink, by_coherence, by_reads_from, by_from_read, by_atomic_in, by_atomic_out, AfterLink, to_coherence, to_reads_from, to_from_read, to_atomic_in, to_atomic_out}
+use Rattle.rv_versions.specs.Listed.{link, BeforeLink, by_coherence, by_reads_from, by_from_read}
+use Rattle.rv_versions.specs.Listed.{by_atomic_in, by_atomic_out, AfterLink, to_coherence, to_reads_from}
+use Rattle.rv_versions.specs.Listed.{to_from_read, to_atomic_in, to_atomic_out}
 use Rattle.rv_versions.specs.Reserved.{IsPartner, IsReserved}
 use Rattle.rv_versions.specs.VersionLinks.{IsOfVersions}
 use Rattle.rv_versions.specs.declared.reservation.Reservation.{Reservation}

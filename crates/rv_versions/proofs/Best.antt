@@ -1,5 +1,6 @@
 -- Of the events of a log that pass a test, one is the best, unless none passes.
-use Rattle.std.proofs.Common.{◌≡◌, ◌≢◌, ℕ, ◌<◌, ◌≤◌, Bool, true, false, List, [], ◌∷◌, Contains, ◌⊎◌, inl, inr, refl, sym, arith, subst}
+use Rattle.std.proofs.Common.{◌≡◌, ◌≢◌, ℕ, ◌<◌, ◌≤◌, Bool, true, false, List, [], ◌∷◌, Contains, ◌⊎◌, inl}
+use Rattle.std.proofs.Common.{inr, refl, sym, arith, subst}
 use Rattle.std.proofs.lemmas.Bool.{false≢true, cases_eq, cases_lt}
 use Rattle.rv_event.proofs.Names.{Contains-cons, Contains-here, Contains-there}
 use Rattle.rv_event.specs.Operations.{is_store, IsStore}

@@ -1,5 +1,6 @@
 -- Each edge of the new event is listed, or another event splits it.
-use Rattle.std.proofs.Common.{◌≡◌, ◌<◌, ◌≤◌, List, [], ◌∷◌, ◌++◌, length, Contains, Option, Some, ◌⊎◌, inl, inr, refl, sym, ap, ◌∙◌, arith, subst}
+use Rattle.std.proofs.Common.{◌≡◌, ◌<◌, ◌≤◌, List, [], ◌∷◌, ◌++◌, length, Contains, Option, Some, ◌⊎◌, inl}
+use Rattle.std.proofs.Common.{inr, refl, sym, ap, ◌∙◌, arith, subst}
 use Rattle.std.proofs.lemmas.Bool.{cases_lt}
 use Rattle.rv_event.proofs.Indexed.{Indexed, Sound}
 use Rattle.rv_event.proofs.Names.{writer-is}
@@ -11,11 +12,13 @@ use Rattle.rv_event.specs.declared.event.Id.{Id}
 use Rattle.rv_event.specs.declared.memory_model.MemoryModel.{MemoryModel}
 use Rattle.rv_event.specs.declared.reason.Link.{Link}
 use Rattle.rv_event.specs.declared.reason.Reason.{Reason}
-use Rattle.rv_event.specs.declared.reason.Reason.TheVariants.{Preserved, Coherence, ReadsFrom, FromRead, AtomicIn, AtomicOut}
+use Rattle.rv_event.specs.declared.reason.Reason.TheVariants.{Preserved, Coherence, ReadsFrom, FromRead}
+use Rattle.rv_event.specs.declared.reason.Reason.TheVariants.{AtomicIn, AtomicOut}
 use Rattle.rv_cover.specs.Carries.{IsSplit}
 use Rattle.rv_cover.specs.Thinned.{Names, IsNextLower}
 use Rattle.rv_versions.specs.Indexes.{IsPair}
-use Rattle.rv_versions.specs.Listed.{link, IsUncovered, AreBefore, AreAfter, to_coherence, to_reads_from, to_from_read, to_atomic_in, to_atomic_out}
+use Rattle.rv_versions.specs.Listed.{link, IsUncovered, AreBefore, AreAfter, to_coherence, to_reads_from}
+use Rattle.rv_versions.specs.Listed.{to_from_read, to_atomic_in, to_atomic_out}
 use Rattle.rv_versions.specs.Lookups.{IsForeign}
 use Rattle.rv_versions.specs.Reserved.{IsReserved}
 use Rattle.rv_versions.specs.VersionLinks.{IsOfVersions}

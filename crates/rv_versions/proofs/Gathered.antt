@@ -3,7 +3,12 @@ use Rattle.std.proofs.Common.{◌≡◌, ◌↔◌, ◌++◌, List, [], Contains
 use Rattle.std.proofs.lemmas.List.Elements.{Contains-append_left, Contains-append_right, Contains-append_cases}
 use Rattle.rv_event.specs.declared.event.Event.{Event}
 use Rattle.rv_event.specs.declared.reason.Link.{Link}
-use Rattle.rv_versions.specs.Listed.{IsExtended, CoherenceBefore, ReadsFromBefore, FromReadBefore, AtomicInBefore, AtomicOutsBefore, CoherenceAfter, ReadsFromAfter, FromReadAfter, AtomicInAfter, AtomicOutAfter, BeforeLink, by_coherence, by_reads_from, by_from_read, by_atomic_in, by_atomic_out, AfterLink, to_coherence, to_reads_from, to_from_read, to_atomic_in, to_atomic_out, AreBefore, AreAfter}
+use Rattle.rv_versions.specs.Listed.{IsExtended, CoherenceBefore, ReadsFromBefore, FromReadBefore}
+use Rattle.rv_versions.specs.Listed.{AtomicInBefore, AtomicOutsBefore, CoherenceAfter, ReadsFromAfter}
+use Rattle.rv_versions.specs.Listed.{FromReadAfter, AtomicInAfter, AtomicOutAfter, BeforeLink, by_coherence}
+use Rattle.rv_versions.specs.Listed.{by_reads_from, by_from_read, by_atomic_in, by_atomic_out, AfterLink}
+use Rattle.rv_versions.specs.Listed.{to_coherence, to_reads_from, to_from_read, to_atomic_in, to_atomic_out}
+use Rattle.rv_versions.specs.Listed.{AreBefore, AreAfter}
 use Rattle.rv_versions.specs.declared.reservation.Reservation.{Reservation}
 
 -- five lists, one behind the other
@@ -11,7 +16,8 @@ abbrev pub joined : (a b c d e : List Link) → List Link
 joined a b c d e = a ++ (b ++ (c ++ (d ++ e)))
 
 pub joined_behind :
-    (l0 l1 l2 l3 l4 l5 a b c d e : List Link) → l1 ≡ l0 ++ a → l2 ≡ l1 ++ b → l3 ≡ l2 ++ c → l4 ≡ l3 ++ d → l5 ≡ l4 ++ e →
+    (l0 l1 l2 l3 l4 l5 a b c d e : List Link) → l1 ≡ l0 ++ a → l2 ≡ l1 ++ b → l3 ≡ l2 ++ c → l4 ≡ l3 ++ d →
+    l5 ≡ l4 ++ e →
     l5 ≡ l0 ++ joined a b c d e
 joined_behind l0 l1 l2 l3 l4 l5 a b c d e p q r s t =
     let all : l5 ≡ ((((l0 ++ a) ++ b) ++ c) ++ d) ++ e = cc in

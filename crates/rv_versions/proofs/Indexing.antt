@@ -1,5 +1,7 @@
 -- What the indexes have after an event joined a log, and after the last one left it.
-use Rattle.std.proofs.Common.{◌≡◌, ◌≢◌, ◌+◌, Bool, true, false, cond, List, [], ◌∷◌, ◌++◌, length, Contains, Option, Some, None, inl, inr, refl, sym, ap, ◌∙◌, arith, subst, append_assoc, length-append}
+use Rattle.std.proofs.Common.{◌≡◌, ◌≢◌, ◌+◌, Bool, true, false, cond, List, [], ◌∷◌, ◌++◌, length, Contains}
+use Rattle.std.proofs.Common.{Option, Some, None, inl, inr, refl, sym, ap, ◌∙◌, arith, subst, append_assoc}
+use Rattle.std.proofs.Common.{length-append}
 use Rattle.std.proofs.lemmas.Option.{same_Some, none-some}
 use Rattle.std.proofs.lemmas.List.Elements.{Contains-append_left, Contains-push, Contains-push_cases}
 use Rattle.rv_cover.proofs.Indexing.{indexed_from_events}
@@ -11,7 +13,9 @@ use Rattle.rv_event.specs.WellFormed.{WellFormedEvents}
 use Rattle.rv_event.specs.declared.event.Event.{Event}
 use Rattle.rv_versions.specs.Accesses.{access}
 use Rattle.rv_versions.specs.Reserved.{IsReserved}
-use Rattle.rv_versions.specs.Indexes.{store_of, load_of, pair_of, postings_of, IsInserted, IsRemoved, IsSame, AreInserted, AreRemoved, AreSame, AreAbsent, IsIndex, IsReservation, beside, AreIndexes}
+use Rattle.rv_versions.specs.Indexes.{store_of, load_of, pair_of, postings_of, IsInserted, IsRemoved, IsSame}
+use Rattle.rv_versions.specs.Indexes.{AreInserted, AreRemoved, AreSame, AreAbsent, IsIndex, IsReservation}
+use Rattle.rv_versions.specs.Indexes.{beside, AreIndexes}
 use Rattle.rv_versions.specs.declared.accesses.Access.{Access}
 use Rattle.rv_versions.specs.declared.accesses.Accesses.{Accesses}
 use Rattle.rv_versions.specs.declared.reservation.Reservation.{Reservation}

@@ -1,5 +1,7 @@
 -- Lists of links that grow by those that are meant.
-use Rattle.std.proofs.Common.{◌≡◌, ◌≢◌, ℕ, ◌+◌, ◌<◌, ◌≤◌, List, [], ◌∷◌, ◌++◌, Contains, Option, Some, None, Result, Ok, Err, OnOk, ◌↔◌, ◌⊎◌, inl, inr, refl, sym, ap, ◌∙◌, arith, subst, append_assoc}
+use Rattle.std.proofs.Common.{◌≡◌, ◌≢◌, ℕ, ◌+◌, ◌<◌, ◌≤◌, List, [], ◌∷◌, ◌++◌, Contains, Option, Some, None}
+use Rattle.std.proofs.Common.{Result, Ok, Err, OnOk, ◌↔◌, ◌⊎◌, inl, inr, refl, sym, ap, ◌∙◌, arith, subst}
+use Rattle.std.proofs.Common.{append_assoc}
 use Rattle.std.proofs.lemmas.Bool.{cases_eq, cases_lt}
 use Rattle.std.proofs.lemmas.Option.{same_Some}
 use Rattle.std.proofs.lemmas.List.{append-nil}
@@ -14,8 +16,11 @@ use Rattle.rv_event.specs.declared.reason.Reason.{Reason}
 use Rattle.rv_event.specs.declared.reason.Reason.TheVariants.{Coherence, ReadsFrom, FromRead, AtomicIn, AtomicOut}
 use Rattle.rv_cover.specs.Thinned.{IsNextLower, IsNextHigher}
 use Rattle.rv_versions.specs.Accesses.{access}
-use Rattle.rv_versions.specs.Listed.{AtomicOutBefore, link, IsExtended, IsUncovered, IsParted, CoherenceBefore, FromReadBefore, AtomicOutsBefore, CoherenceAfter, ReadsFromAfter, FromReadAfter, AtomicInAfter, AtomicOutAfter}
-use Rattle.rv_versions.specs.Lookups.{IsLowerStore, IsHigherStore, IsForeign, IsForeignLower, IsForeignHigher, IsLoadBetween, IsPairBetween}
+use Rattle.rv_versions.specs.Listed.{AtomicOutBefore, link, IsExtended, IsUncovered, IsParted}
+use Rattle.rv_versions.specs.Listed.{CoherenceBefore, FromReadBefore, AtomicOutsBefore, CoherenceAfter}
+use Rattle.rv_versions.specs.Listed.{ReadsFromAfter, FromReadAfter, AtomicInAfter, AtomicOutAfter}
+use Rattle.rv_versions.specs.Lookups.{IsLowerStore, IsHigherStore, IsForeign, IsForeignLower, IsForeignHigher}
+use Rattle.rv_versions.specs.Lookups.{IsLoadBetween, IsPairBetween}
 use Rattle.rv_versions.specs.declared.accesses.Access.{Access}
 use Rattle.rv_versions.specs.declared.reservation.Reservation.{Reservation}
 use Rattle.rv_versions.specs.Accesses.{id_of}

@@ -1,5 +1,6 @@
 -- Look-ups in the indexes, told of the log.
-use Rattle.std.proofs.Common.{◌≡◌, ◌≢◌, ℕ, ◌+◌, ◌<◌, ◌≤◌, true, List, Contains, Option, Some, None, Result, Ok, Err, IfOk, ◌↔◌, inl, inr, refl, sym, ap, ◌∙◌, arith, subst}
+use Rattle.std.proofs.Common.{◌≡◌, ◌≢◌, ℕ, ◌+◌, ◌<◌, ◌≤◌, true, List, Contains, Option, Some, None, Result}
+use Rattle.std.proofs.Common.{Ok, Err, IfOk, ◌↔◌, inl, inr, refl, sym, ap, ◌∙◌, arith, subst}
 use Rattle.std.proofs.lemmas.Bool.{cases_lt, false≢true}
 use Rattle.std.specs.Option.{is_some}
 use Rattle.rv_event.proofs.Indexed.{Indexed}
@@ -8,11 +9,13 @@ use Rattle.rv_event.specs.declared.event.Event.{Event}
 use Rattle.rv_event.specs.declared.event.Id.{Id}
 use Rattle.rv_versions.specs.Accesses.{access, IsOf, IsLower, IsFirstFrom, IsForeignFrom, IsBetween}
 use Rattle.rv_versions.specs.Indexes.{AreIndexes}
-use Rattle.rv_versions.specs.Lookups.{IsLowerStore, IsHigherStore, IsForeign, IsForeignLower, IsForeignHigher, IsLoadBetween, IsPairBetween}
+use Rattle.rv_versions.specs.Lookups.{IsLowerStore, IsHigherStore, IsForeign, IsForeignLower, IsForeignHigher}
+use Rattle.rv_versions.specs.Lookups.{IsLoadBetween, IsPairBetween}
 use Rattle.rv_versions.specs.declared.accesses.Access.{Access}
 use Rattle.rv_versions.specs.declared.accesses.Accesses.{Accesses}
 use Rattle.rv_versions.specs.declared.reservation.Reservation.{Reservation}
-use Rattle.rv_versions.proofs.Found.{store_access, store_found, store_listed, load_found, load_listed, pair_found, pair_listed}
+use Rattle.rv_versions.proofs.Found.{store_access, store_found, store_listed, load_found, load_listed}
+use Rattle.rv_versions.proofs.Found.{pair_found, pair_listed}
 use Rattle.rv_versions.specs.Accesses.{id_of}
 use Rattle.rv_versions.proofs.Nearing.{same_version}
 

@@ -1,5 +1,6 @@
 -- What lists have that others make up.
-use Rattle.std.proofs.Common.{◌≡◌, ℕ, ◌<◌, List, [], ◌∷◌, map, length, get_or, Contains, zero, suc, ◌⊎◌, inl, inr, refl, ap, arith, zero-lt-suc, suc-le-suc, le_of_suc-le-suc}
+use Rattle.std.proofs.Common.{◌≡◌, ℕ, ◌<◌, List, [], ◌∷◌, map, length, get_or, Contains, zero, suc, ◌⊎◌, inl}
+use Rattle.std.proofs.Common.{inr, refl, ap, arith, zero-lt-suc, suc-le-suc, le_of_suc-le-suc}
 use Rattle.std.specs.List.{flat_map}
 use Rattle.std.proofs.lemmas.List.Elements.{Contains-append_left, Contains-append_right, Contains-append_cases}
 use Rattle.rv_event.proofs.Names.{Contains-cons, Contains-here, Contains-there}

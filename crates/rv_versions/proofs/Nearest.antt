@@ -8,7 +8,9 @@ use Rattle.rv_event.specs.declared.event.Id.{Id}
 use Rattle.rv_event.specs.declared.reason.Link.{Link}
 use Rattle.rv_event.specs.declared.reason.Reason.{Reason}
 use Rattle.rv_event.specs.declared.reason.Reason.TheVariants.{Coherence, ReadsFrom, FromRead, AtomicIn, AtomicOut}
-use Rattle.rv_versions.specs.Listed.{link, BeforeLink, by_coherence, by_reads_from, by_from_read, by_atomic_in, by_atomic_out, AfterLink, to_coherence, to_reads_from, to_from_read, to_atomic_in, to_atomic_out, AreBefore, AreAfter}
+use Rattle.rv_versions.specs.Listed.{link, BeforeLink, by_coherence, by_reads_from, by_from_read}
+use Rattle.rv_versions.specs.Listed.{by_atomic_in, by_atomic_out, AfterLink, to_coherence, to_reads_from}
+use Rattle.rv_versions.specs.Listed.{to_from_read, to_atomic_in, to_atomic_out, AreBefore, AreAfter}
 use Rattle.rv_versions.specs.declared.reservation.Reservation.{Reservation}
 use Rattle.rv_versions.proofs.Best.{lower_or_none}
 use Rattle.rv_versions.proofs.Paired.{same_event}

@@ -1,12 +1,15 @@
 -- The accesses of each word in its place.
-use Rattle.std.proofs.Common.{◌≡◌, ◌≢◌, ℕ, zero, suc, ◌+◌, ◌<◌, ◌≤◌, ◌↔◌, List, [], ◌∷◌, ◌++◌, map, length, get_or, set, flat_map, Contains, Option, Some, None, ◌⊎◌, inl, inr, refl, sym, ap, ◌∙◌, arith, subst, length-append}
+use Rattle.std.proofs.Common.{◌≡◌, ◌≢◌, ℕ, zero, suc, ◌+◌, ◌<◌, ◌≤◌, ◌↔◌, List, [], ◌∷◌, ◌++◌, map, length}
+use Rattle.std.proofs.Common.{get_or, set, flat_map, Contains, Option, Some, None, ◌⊎◌, inl, inr, refl, sym}
+use Rattle.std.proofs.Common.{ap, ◌∙◌, arith, subst, length-append}
 use Rattle.std.proofs.lemmas.Bool.{cases_eq}
 use Rattle.std.proofs.lemmas.List.{length-set, get_or-set_same, get_or-set_other}
 use Rattle.std.proofs.lemmas.List.Elements.{at_read}
 use Rattle.std.proofs.lemmas.Option.{same_Some, none-some}
 use Rattle.rv_event.specs.declared.event.Id.{Id}
 use Rattle.rv_versions.specs.Accesses.{access, id_of, IsOf, AreAllOf, IsBetween}
-use Rattle.rv_versions.specs.Indexes.{ArePostingsTo, IsInserted, IsRemoved, ByEach, AreInserted, AreRemoved, AreSame, AreAbsent}
+use Rattle.rv_versions.specs.Indexes.{ArePostingsTo, IsInserted, IsRemoved, ByEach, AreInserted, AreRemoved}
+use Rattle.rv_versions.specs.Indexes.{AreSame, AreAbsent}
 use Rattle.rv_versions.specs.Words.{no_accesses, together, AreNumbers, StandInPlace, AreInPlace, AreThoseTo}
 use Rattle.rv_versions.specs.declared.accesses.Access.{Access}
 use Rattle.rv_versions.specs.declared.accesses.Accesses.{Accesses}

@@ -1,10 +1,12 @@
 -- What was put in and taken out, one after another.
-use Rattle.std.proofs.Common.{◌≡◌, true, false, List, Contains, Option, Some, None, Result, Ok, Err, OnOk, OnErr, inl, inr, sym, ap, subst}
+use Rattle.std.proofs.Common.{◌≡◌, true, false, List, Contains, Option, Some, None, Result, Ok, Err, OnOk}
+use Rattle.std.proofs.Common.{OnErr, inl, inr, sym, ap, subst}
 use Rattle.std.specs.Result.{is_err}
 use Rattle.std.proofs.lemmas.Bool.{false≢true}
 use Rattle.std.proofs.lemmas.Option.{none-some}
 use Rattle.rv_event.specs.declared.event.Event.{Event}
-use Rattle.rv_versions.specs.Indexes.{postings_of, own_postings, pair_postings, IsInserted, IsRemoved, IsSame, AreInserted, AreRemoved, AreSame, AreAbsent}
+use Rattle.rv_versions.specs.Indexes.{postings_of, own_postings, pair_postings, IsInserted, IsRemoved, IsSame}
+use Rattle.rv_versions.specs.Indexes.{AreInserted, AreRemoved, AreSame, AreAbsent}
 use Rattle.rv_versions.specs.declared.accesses.Access.{Access}
 use Rattle.rv_versions.specs.declared.accesses.Accesses.{Accesses}
 use Rattle.rv_versions.specs.declared.accesses.Postings.{Postings}

@@ -1,14 +1,20 @@
 -- Lists of accesses in the order of their versions.
-use Rattle.std.proofs.Common.{◌≡◌, ◌≢◌, ℕ, ◌+◌, ◌-◌, ◌<◌, ◌≤◌, ◌↔◌, List, ◌∷◌, length, get_or, take, drop, insert, remove, Contains, AllPairs, HoldsAt, Some, None, ◌⊎◌, inl, inr, refl, sym, ap, ◌∙◌, arith, subst, ltb, ltb-true, ltb-false, true, false}
+use Rattle.std.proofs.Common.{◌≡◌, ◌≢◌, ℕ, ◌+◌, ◌-◌, ◌<◌, ◌≤◌, ◌↔◌, List, ◌∷◌, length, get_or, take, drop}
+use Rattle.std.proofs.Common.{insert, remove, Contains, AllPairs, HoldsAt, Some, None, ◌⊎◌, inl, inr, refl}
+use Rattle.std.proofs.Common.{sym, ap, ◌∙◌, arith, subst, ltb, ltb-true, ltb-false, true, false}
 use Rattle.std.specs.List.{AllWithin}
 use Rattle.std.specs.List.Sorted.{IsPartitionPoint, IsNonDecreasingBy}
 use Rattle.std.proofs.lemmas.Bool.{cases_lt, cases_eq}
 use Rattle.std.proofs.lemmas.List.{take-append-drop, get_or-take, get_or-drop, length-take, length-drop}
-use Rattle.std.proofs.lemmas.List.Edits.{length-insert, get_or-insert_below, get_or-insert_at, get_or-insert_above, length-remove, get_or-remove_below, get_or-remove_above}
-use Rattle.std.proofs.lemmas.List.Elements.{at_read, at_from_Contains, Contains-get_or, Contains-append_left, Contains-append_right, Contains-append_cases}
+use Rattle.std.proofs.lemmas.List.Edits.{length-insert, get_or-insert_below, get_or-insert_at}
+use Rattle.std.proofs.lemmas.List.Edits.{get_or-insert_above, length-remove, get_or-remove_below}
+use Rattle.std.proofs.lemmas.List.Edits.{get_or-remove_above}
+use Rattle.std.proofs.lemmas.List.Elements.{at_read, at_from_Contains, Contains-get_or, Contains-append_left}
+use Rattle.std.proofs.lemmas.List.Elements.{Contains-append_right, Contains-append_cases}
 use Rattle.std.proofs.lemmas.Option.{same_Some}
 use Rattle.rv_event.proofs.Names.{Contains-cons, Contains-here, Contains-there}
-use Rattle.rv_versions.specs.Accesses.{IsOf, AreAllOf, StandsBefore, AreByVersion, IsStart, IsLower, IsFirstFrom, IsForeignFrom}
+use Rattle.rv_versions.specs.Accesses.{IsOf, AreAllOf, StandsBefore, AreByVersion, IsStart, IsLower}
+use Rattle.rv_versions.specs.Accesses.{IsFirstFrom, IsForeignFrom}
 use Rattle.rv_versions.specs.Indexes.{IsInserted, IsRemoved}
 use Rattle.rv_versions.specs.declared.accesses.Access.{Access}
 
@@ -148,7 +154,8 @@ module _ (xs : List Access) (ordered : AreByVersion xs) where
 
   -- those before an access of a lower version are of a lower version
   pub low_before :
-      (v p : ℕ) (b : Access) → p < length xs → b ≡ get_or xs p b → b.version < v → AllWithin (λ x. x.version < v) xs 0 (p + 1)
+      (v p : ℕ) (b : Access) → p < length xs → b ≡ get_or xs p b → b.version < v →
+      AllWithin (λ x. x.version < v) xs 0 (p + 1)
   low_before v p b l is low k d from upto =
       let least : (get_or xs k d).version ≤ (get_or xs p d).version = rising k p d (omega arith) l in
       let same : (get_or xs p d).version ≡ b.version = ap (λ (x : Access). x.version)
@@ -187,7 +194,8 @@ pub start_past :
     (ys xs : List Access) (v n : ℕ) → ys ≡ xs → AreByVersion xs → n ≡ length ys → (b : Access) → 0 < length ys →
     HoldsAt (λ x. b ≡ x) ys (length ys - 1) → b.version < v → IsStart xs v n
 start_past ys xs v n same ordered size b some is low = subst (λ (zs : List Access). IsStart zs v n) same (
-  λ k d from upto. low_before ys (subst AreByVersion (sym same) ordered) v (length ys - 1) b (omega arith) (is b) low k d
+  λ k d from upto. low_before ys (subst AreByVersion (sym same) ordered) v (length ys - 1) b (omega arith)
+      (is b) low k d
       from (omega arith),
   λ k d from upto. absurd (omega arith),
 )
@@ -200,7 +208,8 @@ start_empty ys xs v n same size none = subst (λ (zs : List Access). IsStart zs 
 
 -- ---- questions
 
-module _ (xs accesses : List Access) (word : ℕ) (all : AreAllOf accesses word xs) (v n : ℕ) (part : IsStart xs v n) where
+module _ (xs accesses : List Access) (word : ℕ) (all : AreAllOf accesses word xs) (v n : ℕ)
+    (part : IsStart xs v n) where
   -- a place of the list, by what stands there
   is_here : (k : ℕ) (a : Access) → k < length xs → a ≡ get_or xs k a → HoldsAt (λ x. x ≡ a) xs k
   is_here k a l e = at_read xs (λ x. x ≡ a) k a l e refl
@@ -209,7 +218,8 @@ module _ (xs accesses : List Access) (word : ℕ) (all : AreAllOf accesses word 
   of_here k a l e = (all a).0 (k, l, sym e)
 
   -- an access at a place up to another one's
-  up_to : AreByVersion xs → (a x : Access) (i j : ℕ) → i ≤ j → j < length xs → HoldsAt (λ y. y ≡ a) xs i → HoldsAt (λ y. y ≡ x) xs j →
+  up_to : AreByVersion xs → (a x : Access) (i j : ℕ) → i ≤ j → j < length xs → HoldsAt (λ y. y ≡ a) xs i →
+      HoldsAt (λ y. y ≡ x) xs j →
       a.version ≤ x.version
   up_to ordered a x i j le l p q =
       let low : (get_or xs i a).version ≤ (get_or xs j a).version = rising xs ordered i j a le l in
@@ -228,7 +238,8 @@ module _ (xs accesses : List Access) (word : ℕ) (all : AreAllOf accesses word 
       let c = at_from_Contains xs x ((all x).1 of) in
       high_at x c.0 c.2 (omega arith) c.1
 
-  pub lower_some : AreByVersion xs → (k : ℕ) (a : Access) → k + 1 ≡ n → n ≤ length xs → a ≡ get_or xs k a → IsLower accesses word v (Some a)
+  pub lower_some : AreByVersion xs → (k : ℕ) (a : Access) → k + 1 ≡ n → n ≤ length xs → a ≡ get_or xs k a →
+      IsLower accesses word v (Some a)
   lower_some ordered k a is le e =
       let here = is_here k a (omega arith) e in (
         of_here k a (omega arith) e,
@@ -247,7 +258,8 @@ module _ (xs accesses : List Access) (word : ℕ) (all : AreAllOf accesses word 
       let l = c.1 in
       low_at x c.0 c.2 (omega arith)
 
-  pub first_some : AreByVersion xs → (a : Access) → n < length xs → a ≡ get_or xs n a → IsFirstFrom accesses word v (Some a)
+  pub first_some : AreByVersion xs → (a : Access) → n < length xs → a ≡ get_or xs n a →
+      IsFirstFrom accesses word v (Some a)
   first_some ordered a l e =
       let here = is_here n a l e in (
         of_here n a l e,
@@ -276,7 +288,8 @@ module _ (xs accesses : List Access) (word : ℕ) (all : AreAllOf accesses word 
         ]
 
     pub foreign_some :
-        AreByVersion xs → (k : ℕ) (a : Access) → n ≤ k → k < length xs → a ≡ get_or xs k a → AllWithin (λ y. y.hart ≡ hart) xs n k →
+        AreByVersion xs → (k : ℕ) (a : Access) → n ≤ k → k < length xs → a ≡ get_or xs k a →
+        AllWithin (λ y. y.hart ≡ hart) xs n k →
         a.hart ≢ hart → IsForeignFrom accesses word v hart (Some a)
     foreign_some ordered k a from l e own other =
         let here = is_here k a l e in (
@@ -334,7 +347,8 @@ is_between xs from to start end le size part under over x = (there, here)
         ] in
         let not_before : start ≤ k = elim (cases_lt k start) [
           | inl below ↦
-              (let before : x.version < from = subst (λ (y : Access). y.version < from) e (under k x (omega arith) below) in
+              (let before : x.version < from = subst (λ (y : Access). y.version < from) e
+              (under k x (omega arith) below) in
               absurd (omega arith))
           | inr above ↦ above
         ] in

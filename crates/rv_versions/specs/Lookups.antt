@@ -16,7 +16,8 @@ IsLowerStore log word version (Some x) = (s : Event) × IsNextLower log word ver
 -- the access of the store of the lowest version of the word above this one
 abbrev pub IsHigherStore : List Event → ℕ → ℕ → Option Access → Type 0
 IsHigherStore log word version None = (a : Event) → Contains log a → IsStore a → a.word ≡ word → a.wrote ≤ version
-IsHigherStore log word version (Some x) = (t : Event) × IsNextHigher log word version t × (x ≡ access t.word t.wrote t.id)
+IsHigherStore log word version (Some x) = (t : Event) × IsNextHigher log word version t ×
+    (x ≡ access t.word t.wrote t.id)
 
 -- a store of another hart than this one
 pub record IsForeign (log : List Event) (word hart : ℕ) (a : Event) : Type 0 where

@@ -15,7 +15,8 @@ abbrev pub IsOfVersions : Reason → Type 0
 IsOfVersions reason = (k : ℕ) → reason ≢ Preserved k
 
 -- Each link is an edge to another event, and no rule. Each edge of such a reason is linked, or another event splits it.
-pub record AreVersionLinks (model : MemoryModel) (log : List Event) (e : Event) (before after : List Link) : Type 0 where
+pub record AreVersionLinks (model : MemoryModel) (log : List Event) (e : Event)
+    (before after : List Link) : Type 0 where
   pub edges_before : (l : Link) → Contains before l → IsEdge model (log ++ e ∷ []) l.id l.reason e.id
   pub edges_after : (l : Link) → Contains after l → IsEdge model (log ++ e ∷ []) e.id l.reason l.id
   pub reasons_before : (l : Link) → Contains before l → IsOfVersions l.reason

@@ -2,7 +2,8 @@
 //!
 //! Where events come in commit order, an access goes to the end, and what is asked is nearly always answered by the
 //! last accesses. So each function looks at these first, and searches only where they do not answer.
-ghost use Rattle.std.specs.Prelude.{ℕ, ◌≡◌, ◌+◌, ◌<◌, ◌≤◌, ◌↔◌, [], List, length, Contains, Some, OnOk, OnErr, IfSome, MatchOption};
+ghost use Rattle.std.specs.Prelude.{ℕ, ◌≡◌, ◌+◌, ◌<◌, ◌≤◌, ◌↔◌, [], List, length, Contains, Some, OnOk};
+ghost use Rattle.std.specs.Prelude.{OnErr, IfSome, MatchOption};
 ghost use Rattle.std.specs.List.{HoldsAt, AllWithin};
 ghost use Rattle.rv_versions.specs.Accesses.{AreAllOf, IsStart, IsLower, IsFirstFrom, IsForeignFrom};
 ghost use Rattle.rv_versions.specs.Indexes.{IsInserted, IsRemoved};

@@ -1,7 +1,8 @@
 //! The stores, the loads and the pairs of a log, by word and version.
 ghost use Rattle.std.specs.Prelude.{◌≡◌, Some, OnOk, OnErr, IfOk, nat_eq};
 ghost use Rattle.std.specs.HashMap.{get};
-ghost use Rattle.rv_versions.specs.Indexes.{own_postings, pair_postings, postings_of, ArePostingsTo, AreInserted, AreRemoved, AreSame, AreAbsent};
+ghost use Rattle.rv_versions.specs.Indexes.{own_postings, pair_postings, postings_of, ArePostingsTo};
+ghost use Rattle.rv_versions.specs.Indexes.{AreInserted, AreRemoved, AreSame, AreAbsent};
 ghost use Rattle.rv_versions.specs.Words.{no_accesses, together, AreInPlace, AreThoseTo};
 
 use crate::accesses::{Access, Accesses, Postings};

@@ -1,5 +1,7 @@
 -- From a step's ending to the program's.
-use Rattle.std.proofs.Common.{Global, String, ◌≡◌, ◌≢◌, ◌≤◌, ◌<◌, ℕ, List, [], ◌∷◌, Option, None, Ok, length, map, slice_index_or, string_bytes, inl, inr, sym, ◌∙◌, subst, ap, refl, arith, nat_eq, false, replicate}
+use Rattle.std.proofs.Common.{Global, String, ◌≡◌, ◌≢◌, ◌≤◌, ◌<◌, ℕ, List, [], ◌∷◌, Option, None, Ok, length}
+use Rattle.std.proofs.Common.{map, slice_index_or, string_bytes, inl, inr, sym, ◌∙◌, subst, ap, refl, arith}
+use Rattle.std.proofs.Common.{nat_eq, false, replicate}
 use Rattle.std.proofs.lemmas.Bool.{false≢true}
 use Rattle.std.proofs.lemmas.List.{length-replicate, length-map, get_or-map}
 use Rattle.clap.specs.Words.{Text}
@@ -53,7 +55,8 @@ ends_unopened asked (Words f) h = absurd h
 ends_unopened asked NotText h = absurd h
 ends_unopened asked (NotOpened name) h = h
 
-pub ends_asked : (texts : List Text) (asked : Asked) (e : Ending) → AnswersTo texts (Ok asked) → EndsAsked asked e → EndsBy texts e asked.json
+pub ends_asked : (texts : List Text) (asked : Asked) (e : Ending) → AnswersTo texts (Ok asked) → EndsAsked asked e →
+    EndsBy texts e asked.json
 ends_asked texts asked (Ran o) said h = (asked, said, refl, h)
 ends_asked texts asked (Failed f) said h = (asked, said, refl, h)
 ends_asked texts asked (Words f) said h = absurd h
@@ -61,7 +64,9 @@ ends_asked texts asked NotText said h = absurd h
 ends_asked texts asked (NotOpened name) said h = (asked, said, refl, h)
 
 -- a file that does not open is one of the files
-pub unopened_among : (names : List (String Global)) (k : ℕ) (name : String Global) → k < length names → slice_index_or names k name ≡ name → (e : Ending) → IsUnopenedFile (string_bytes name) e → IsUnopened (map string_bytes names) e
+pub unopened_among : (names : List (String Global)) (k : ℕ) (name : String Global) → k < length names →
+    slice_index_or names k name ≡ name → (e : Ending) → IsUnopenedFile (string_bytes name) e →
+    IsUnopened (map string_bytes names) e
 unopened_among names k name within is (Ran o) h = absurd h
 unopened_among names k name within is (Failed f) h = h
 unopened_among names k name within is (Words f) h = absurd h

@@ -46,7 +46,8 @@ abbrev pub EndsAsked : Asked → Ending → Type 0
 EndsAsked asked (Ran o) =
     (streams : List (Option Stream)) × (length streams ≡ sources_of asked.files.items) × IsTrueOf asked.model streams o
 EndsAsked asked (Failed f) =
-    (f ≢ fault.Settings) × (streams : List (Option Stream)) × (length streams ≡ sources_of asked.files.items) × IsFaultAmong streams f
+    (f ≢ fault.Settings) × (streams : List (Option Stream)) × (length streams ≡ sources_of asked.files.items) ×
+    IsFaultAmong streams f
 EndsAsked asked (Words f) = ⊥
 EndsAsked asked NotText = ⊥
 EndsAsked asked (NotOpened name) = Contains (map string_bytes asked.files.items) (string_bytes name)

@@ -6,7 +6,8 @@ ghost use Rattle.rv_event.specs.declared.event.Event.{Event};
 ghost use Rattle.rv_event.specs.declared.event.Id.{Id};
 ghost use Rattle.rv_versions.specs.Accesses.{id_of};
 ghost use Rattle.rv_versions.specs.Indexes.{AreOfWord};
-ghost use Rattle.rv_versions.specs.Lookups.{IsLowerStore, IsHigherStore, IsForeignLower, IsForeignHigher, IsLoadBetween, IsPairBetween};
+ghost use Rattle.rv_versions.specs.Lookups.{IsLowerStore, IsHigherStore, IsForeignLower, IsForeignHigher};
+ghost use Rattle.rv_versions.specs.Lookups.{IsLoadBetween, IsPairBetween};
 
 use super::{Access, Accesses};
 use rv_event::Id;

@@ -1,7 +1,8 @@
 //! Links from a new event to others.
 ghost use Rattle.std.specs.Prelude.{OnOk, IfOk};
 ghost use Rattle.rv_versions.specs.Indexes.{AreOfWord};
-ghost use Rattle.rv_versions.specs.Listed.{IsExtended, CoherenceAfter, ReadsFromAfter, FromReadAfter, AtomicInAfter, AtomicOutAfter, AreAfter};
+ghost use Rattle.rv_versions.specs.Listed.{IsExtended, CoherenceAfter, ReadsFromAfter, FromReadAfter};
+ghost use Rattle.rv_versions.specs.Listed.{AtomicInAfter, AtomicOutAfter, AreAfter};
 
 use super::Versions;
 use super::links::append_links;

@@ -3,7 +3,9 @@ ghost use Rattle.std.specs.Prelude.{ℕ, ◌≡◌, ◌≢◌, ◌++◌, List, �
 ghost use Rattle.rv_event.specs.Operations.{IsStore};
 ghost use Rattle.rv_event.specs.declared.reason.Link.{Link};
 ghost use Rattle.rv_versions.specs.Indexes.{AreOfWord};
-ghost use Rattle.rv_versions.specs.Listed.{IsExtended, IsUncovered, IsParted, CoherenceBefore, ReadsFromBefore, FromReadBefore, AtomicInBefore, AtomicOutsBefore, AreBefore};
+ghost use Rattle.rv_versions.specs.Listed.{IsExtended, IsUncovered, IsParted, CoherenceBefore};
+ghost use Rattle.rv_versions.specs.Listed.{ReadsFromBefore, FromReadBefore, AtomicInBefore, AtomicOutsBefore};
+ghost use Rattle.rv_versions.specs.Listed.{AreBefore};
 
 use super::Versions;
 use super::links::{append_foreign, append_links};

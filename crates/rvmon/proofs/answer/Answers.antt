@@ -9,14 +9,16 @@ use Rattle.rvmon.proofs.answer.Goals as goal
 pub returns-in-Err : goal.returns-in-Err
 returns-in-Err g c =
     ends_unopened c.args.asked.now c.in-Err.ending
-    (subst (λ names. IsUnopened (map string_bytes names) c.in-Err.ending) c.as_slice.ensures.value c.in-Err.ensures.refused)
+    (subst (λ names. IsUnopened (map string_bytes names) c.in-Err.ending) c.as_slice.ensures.value
+    c.in-Err.ensures.refused)
 
 pub returns-in-Err-run : goal.returns-in-Err-run
 returns-in-Err-run g c =
     let asked = c.args.asked.now in
     let settings : Settings = record { workers = asked.workers; slots = asked.slots; model = asked.model } in
     let many = c.in-Ok.ensures.opened ∙ ap sources_of c.as_slice.ensures.value in (
-      λ is. in_range asked _ settings c.requires (c.in-Ok.inputs.ok.0 ∙ many) refl refl (c.run.ensures.settings.0 (c.in-Err-run.is ∙ ap (λ (f : RunFault). Err f) is)),
+      λ is. in_range asked _ settings c.requires (c.in-Ok.inputs.ok.0 ∙ many) refl refl
+          (c.run.ensures.settings.0 (c.in-Err-run.is ∙ ap (λ (f : RunFault). Err f) is)),
       _,
       length-map c.in-Ok.inputs.items _ ∙ many,
       c.in-Err-run.ensures.fault,

@@ -9,9 +9,13 @@ pub reason_of-reason-requires : goal.reason_of-reason-requires
 reason_of-reason-requires c = rw c.next_of.ensures (c.requires.leads c.loop-k.k (omega arith))
 
 pub loop-k-preserved : goal.loop-k-preserved
-loop-k-preserved c = walk_step c.args.model (events c.args.log.now) c.args.ids.now c.loop-k.steps.items c.push.new.self.items c.loop-k.k c.reason_of-reason.result (omega arith) c.loop-k.invariant (rw c.next_of.ensures at c.reason_of-reason.ensures) c.in_ok-push.ensures.items
+loop-k-preserved c = walk_step c.args.model (events c.args.log.now) c.args.ids.now c.loop-k.steps.items
+    c.push.new.self.items c.loop-k.k c.reason_of-reason.result (omega arith) c.loop-k.invariant
+    (rw c.next_of.ensures at c.reason_of-reason.ensures) c.in_ok-push.ensures.items
 
 pub returns-clause-closed : goal.returns-clause-closed
 returns-clause-closed c =
-    closed_walk c.args.model (events c.args.log.now) c.loop-k.steps.items c.args.ids.now c.requires.some (c.loop-k.invariant.0 ∙ take_all c.loop-k.k c.args.ids.now (omega arith))
-    (subst (IsWalk c.args.model (events c.args.log.now) c.loop-k.steps.items) (end-past c.args.ids.now c.loop-k.k (omega arith)) c.loop-k.invariant.1)
+    closed_walk c.args.model (events c.args.log.now) c.loop-k.steps.items c.args.ids.now c.requires.some
+    (c.loop-k.invariant.0 ∙ take_all c.loop-k.k c.args.ids.now (omega arith))
+    (subst (IsWalk c.args.model (events c.args.log.now) c.loop-k.steps.items)
+    (end-past c.args.ids.now c.loop-k.k (omega arith)) c.loop-k.invariant.1)

@@ -6,4 +6,5 @@ use Rattle.rv_book.proofs.Walking.{end_at}
 use Rattle.rv_book.proofs.closing.close.Given as goal
 
 abbrev pub invariant-loop-k : goal.invariant-loop-k
-invariant-loop-k l = (walked l.steps.items ≡ take l.k l.ids) × IsWalk l.model (events l.log) l.steps.items (end_at l.ids l.k)
+invariant-loop-k l = (walked l.steps.items ≡ take l.k l.ids) × IsWalk l.model (events l.log) l.steps.items
+    (end_at l.ids l.k)

@@ -6,4 +6,5 @@ use Rattle.rv_cover.proofs.laws.carried_links_cover.Goals as goal
 
 pub returns : goal.returns
 returns c model log e kept listed ok none covers carries =
-    covered model log e (LinkedBy kept) (LinkedBy listed) (indexed_from_events log ok) (sound_of log e none) covers carries
+    covered model log e (LinkedBy kept) (LinkedBy listed) (indexed_from_events log ok)
+    (sound_of log e none) covers carries

@@ -8,5 +8,8 @@ use Rattle.rv_event.proofs.edges.is_atomic_in.Goals as goal
 
 pub returns : goal.returns
 returns c =
-    let P : Event → Type 0 = λ lr. Paired (events c.args.log.now) lr c.args.b.now × (writer (events c.args.log.now) lr.word lr.read ≡ Some c.args.a.now) in
-    any_event P c.args.log.now c.any.result (cases_from_any _ _ _ (λ x. P x.event) (λ x. P x.event → ⊥) c.any.ensures.ran (YieldsList-from_slice c.args.log.now cc) (λ x q k. search (rules, tests)) (λ x q k. search (rules, tests)))
+    let P : Event → Type 0 = λ lr. Paired (events c.args.log.now) lr c.args.b.now ×
+    (writer (events c.args.log.now) lr.word lr.read ≡ Some c.args.a.now) in
+    any_event P c.args.log.now c.any.result
+    (cases_from_any _ _ _ (λ x. P x.event) (λ x. P x.event → ⊥) c.any.ensures.ran
+    (YieldsList-from_slice c.args.log.now cc) (λ x q k. search (rules, tests)) (λ x q k. search (rules, tests)))

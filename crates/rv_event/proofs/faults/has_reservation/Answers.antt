@@ -9,4 +9,5 @@ loop-entry-preserved c =
     let e = c.entry-item.result.event in
     c.is_reserved_after-reserved.ensures
     ∙ ap (λ (r : Bool). cond ((c.args.hart == e.id.hart) && is_exclusive e.op) (is_lr e.op) r) c.loop-entry.invariant
-    ∙ sym (is_reserved-more c.args.log.now c.args.hart c.loop-entry.entry-index c.entry-item.result (omega arith) c.entry-item.is)
+    ∙ sym (is_reserved-more c.args.log.now c.args.hart c.loop-entry.entry-index c.entry-item.result
+    (omega arith) c.entry-item.is)

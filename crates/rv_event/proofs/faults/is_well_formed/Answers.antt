@@ -12,8 +12,10 @@ loop-i-init c = WellFormed-nil
 
 pub returns-then-is_some : goal.returns-then-is_some
 returns-then-is_some c =
-    none_more c.args.log.now c.loop-i.i c.index-log-i.result (omega arith) c.index-log-i.is c.find_fault.result c.find_fault.ensures (sym c.is_some.ensures ∙ c.if-is_some.true)
+    none_more c.args.log.now c.loop-i.i c.index-log-i.result (omega arith) c.index-log-i.is c.find_fault.result
+    c.find_fault.ensures (sym c.is_some.ensures ∙ c.if-is_some.true)
 
 pub loop-i-preserved : goal.loop-i-preserved
 loop-i-preserved c =
-    one_more c.args.log.now c.loop-i.i c.index-log-i.result (omega arith) c.index-log-i.is c.loop-i.invariant c.find_fault.result c.find_fault.ensures (sym c.is_some.ensures ∙ c.if-is_some.false)
+    one_more c.args.log.now c.loop-i.i c.index-log-i.result (omega arith) c.index-log-i.is c.loop-i.invariant
+    c.find_fault.result c.find_fault.ensures (sym c.is_some.ensures ∙ c.if-is_some.false)

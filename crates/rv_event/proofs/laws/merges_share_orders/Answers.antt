@@ -4,4 +4,5 @@ use Rattle.rv_event.proofs.laws.merges_share_orders.Goals as goal
 
 pub returns : goal.returns
 returns c model log other order ok same lawful =
-    Lawful-merge model log other order ok (WellFormed-sources log other ok same) (SameHarts-from_sources log other ok same) lawful
+    Lawful-merge model log other order ok (WellFormed-sources log other ok same)
+    (SameHarts-from_sources log other ok same) lawful

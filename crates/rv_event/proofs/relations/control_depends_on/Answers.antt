@@ -10,5 +10,8 @@ use Rattle.rv_event.proofs.relations.control_depends_on.Goals as goal
 
 pub returns : goal.returns
 returns c =
-    let P : Event → Type 0 = λ m. Between c.args.a.now m c.args.b.now × (m.op ≡ Branch) × DependsOn Ctrl m c.args.a.now in
-    any_event P c.args.log.now c.any.result (cases_from_any _ _ _ (λ x. P x.event) (λ x. P x.event → ⊥) c.any.ensures.ran (YieldsList-from_slice c.args.log.now cc) (λ x q k. search (rules, tests)) (λ x q k. search (rules, tests)))
+    let P : Event → Type 0 = λ m. Between c.args.a.now m c.args.b.now × (m.op ≡ Branch) ×
+    DependsOn Ctrl m c.args.a.now in
+    any_event P c.args.log.now c.any.result
+    (cases_from_any _ _ _ (λ x. P x.event) (λ x. P x.event → ⊥) c.any.ensures.ran
+    (YieldsList-from_slice c.args.log.now cc) (λ x q k. search (rules, tests)) (λ x q k. search (rules, tests)))

@@ -8,4 +8,6 @@ use Rattle.rv_event.proofs.rules.has_dependent_write.Goals as goal
 pub returns : goal.returns
 returns c =
     let P : Event → Type 0 = IsDependentWrite c.args.a.now c.args.b.now in
-    any_event P c.args.log.now c.any.result (cases_from_any _ _ _ (λ x. P x.event) (λ x. P x.event → ⊥) c.any.ensures.ran (YieldsList-from_slice c.args.log.now cc) (λ x q k. search (rules, tests)) (λ x q k. search (rules, tests)))
+    any_event P c.args.log.now c.any.result
+    (cases_from_any _ _ _ (λ x. P x.event) (λ x. P x.event → ⊥) c.any.ensures.ran
+    (YieldsList-from_slice c.args.log.now cc) (λ x q k. search (rules, tests)) (λ x q k. search (rules, tests)))

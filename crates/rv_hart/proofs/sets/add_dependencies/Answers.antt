@@ -6,7 +6,9 @@ use Rattle.rv_event.specs.declared.event.DepKind.TheVariants.{Addr}
 use Rattle.rv_rows.specs.Bits.{has_bit}
 use Rattle.rv_hart.proofs.Depending.{AddsNamed, named-more, named-same}
 use Rattle.rv_hart.proofs.sets.add_dependencies.Goals as goal
-use Rattle.rv_hart.proofs.sets.add_dependencies.Goals.{then-eq+then-has_either, else-eq, else-eq-via-then-eq+else-has_either, else-eq-via-else-eq}
+use Rattle.rv_hart.proofs.sets.add_dependencies.Goals.{then-eq+then-has_either, else-eq}
+use Rattle.rv_hart.proofs.sets.add_dependencies.Goals.{else-eq-via-then-eq+else-has_either}
+use Rattle.rv_hart.proofs.sets.add_dependencies.Goals.{else-eq-via-else-eq}
 
 pub loop-dep-preserved : goal.loop-dep-preserved
 loop-dep-preserved c =
@@ -29,7 +31,8 @@ loop-dep-preserved c =
           w.insert.new.self same memory w.insert.ensures in
           subst (λ (row : List ℕ). AddsNamed kind loads stores (take (i + 1) items) old row) (sym w.row-is) more)
       | else-eq w ↦ (
-          let apart : (d.kind ≡ kind) × IsTrue (has_bit loads d.seq || has_bit stores d.seq) → ⊥ = elim w.else-eq.branch [
+          let apart : (d.kind ≡ kind) × IsTrue (has_bit loads d.seq || has_bit stores d.seq) → ⊥ =
+          elim w.else-eq.branch [
             | else-eq-via-then-eq+else-has_either w' ↦ (λ p. false≢true
                 (sym w'.if-has_either.false ∙ w'.has_either.ensures ∙ p.1))
             | else-eq-via-else-eq w' ↦ (λ p. search (rules, tests))

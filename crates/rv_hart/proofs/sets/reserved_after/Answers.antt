@@ -5,10 +5,12 @@ use Rattle.rv_hart.proofs.Absorbing.{reservation-kept, reservation-new, reservat
 use Rattle.rv_hart.proofs.sets.reserved_after.Goals as goal
 
 pub returns-then-not-is_exclusive : goal.returns-then-not-is_exclusive
-returns-then-not-is_exclusive c = λ h ok follows is. reservation-kept h c.args.event.now (fits_of h c.args.event.now ok follows) (search (rules, tests)) c.args.reserved is
+returns-then-not-is_exclusive c = λ h ok follows is. reservation-kept h c.args.event.now
+    (fits_of h c.args.event.now ok follows) (search (rules, tests)) c.args.reserved is
 
 pub returns-then-eq : goal.returns-then-eq
-returns-then-eq c = λ h ok follows is. reservation-new h c.args.event.now (fits_of h c.args.event.now ok follows) (search (rules, tests))
+returns-then-eq c = λ h ok follows is. reservation-new h c.args.event.now (fits_of h c.args.event.now ok follows)
+    (search (rules, tests))
 
 pub returns-else-eq : goal.returns-else-eq
 returns-else-eq c = λ h ok follows is.

@@ -17,12 +17,18 @@ loop-event-preserved c = λ h ok model is.
     let low : i < length h.events = subst (λ (xs : List Event). i < length xs) (sym is) c.loop-event-test.true in
     let read : e ≡ get_or h.events i e = c.event-item.is ∙ ap (λ (xs : List Event). get_or xs i e) (sym is) in
     let taken : take i h.events ≡ take i es = ap (take i) is in
-    let first : IsHart (record h { events = take i es }) = subst (λ (xs : List Event). IsHart (record h { events = xs })) taken (hart-first h ok i) in
-    let follows : Follows (record h { events = take i es }) e = subst (λ (xs : List Event). Follows (record h { events = xs }) e) taken (hart-take h ok i e low read) in
-    let more : take (i + 1) es ≡ take i es ++ e ∷ [] = take_more es i e c.loop-event-test.true ∙ ap (λ (x : Event). take i es ++ x ∷ []) (sym c.event-item.is) in
-    let sets = c.absorb.ensures (record h { events = take i es }) first follows model (c.loop-event.invariant h ok model is) in
+    let first : IsHart (record h { events = take i es }) =
+    subst (λ (xs : List Event). IsHart (record h { events = xs })) taken (hart-first h ok i) in
+    let follows : Follows (record h { events = take i es }) e =
+    subst (λ (xs : List Event). Follows (record h { events = xs }) e) taken (hart-take h ok i e low read) in
+    let more : take (i + 1) es ≡ take i es ++ e ∷ [] = take_more es i e c.loop-event-test.true ∙
+    ap (λ (x : Event). take i es ++ x ∷ []) (sym c.event-item.is) in
+    let sets = c.absorb.ensures (record h { events = take i es }) first follows model
+    (c.loop-event.invariant h ok model is) in
     subst (λ (xs : List Event). AreSets (record h { events = xs }) c.absorb.new.self) (sym more) sets
 
 pub returns : goal.returns
 returns c = λ h ok model is.
-    subst (λ (es : List Event). AreSets (record h { events = es }) c.loop-event.sets) (take_all c.loop-event.event-index c.args.events.now c.loop-event-test.false ∙ sym is) (c.loop-event.invariant h ok model is)
+    subst (λ (es : List Event). AreSets (record h { events = es }) c.loop-event.sets)
+    (take_all c.loop-event.event-index c.args.events.now c.loop-event-test.false ∙ sym is)
+    (c.loop-event.invariant h ok model is)

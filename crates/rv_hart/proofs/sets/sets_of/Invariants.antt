@@ -4,4 +4,5 @@ use Rattle.rv_hart.specs.Sets.{AreSets}
 use Rattle.rv_hart.proofs.sets.sets_of.Given as goal
 
 abbrev pub invariant-loop-event : goal.invariant-loop-event
-invariant-loop-event l = (h : Hart) → IsHart h → h.model ≡ l.model → h.events ≡ l.events → AreSets (record h { events = take l.event-index l.events }) l.sets
+invariant-loop-event l = (h : Hart) → IsHart h → h.model ≡ l.model → h.events ≡ l.events →
+    AreSets (record h { events = take l.event-index l.events }) l.sets

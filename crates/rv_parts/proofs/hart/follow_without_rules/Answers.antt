@@ -18,8 +18,14 @@ named-still [] i (l, c, is) = absurd (let low = c.1 in omega arith)
 named-still (x ∷ xs) i (l, c, is) = go (Contains-cons x xs l c) (λ d. named-still xs i (l, d, is))
   where
     go : (x ≡ l) ⊎ Contains xs l → (Contains xs l → Names (without xs) i) → Names (without (x ∷ xs)) i
-    go (inl same) again = (record x { reason = Coherence }, Contains-here (record x { reason = Coherence }) (without xs) (record x { reason = Coherence }) refl, ap (λ (m : Link). m.id) same ∙ is)
-    go (inr d) again = let n = again d in (n.0, Contains-there (record x { reason = Coherence }) (without xs) n.0 n.1, n.2)
+    go (inl same) again = (
+      record x { reason = Coherence },
+      Contains-here (record x { reason = Coherence }) (without xs)
+          (record x { reason = Coherence }) refl,
+      ap (λ (m : Link). m.id) same ∙ is,
+    )
+    go (inr d) again = let n = again d in
+        (n.0, Contains-there (record x { reason = Coherence }) (without xs) n.0 n.1, n.2)
 
 no-rule : (links : List Link) (l : Link) → Contains (without links) l → l.reason ≡ Coherence
 no-rule [] l c = absurd (let low = c.1 in omega arith)
@@ -39,6 +45,9 @@ enough h e links are = record {
 
 pub push-requires-clause-linked : goal.push-requires-clause-linked
 push-requires-clause-linked g c =
-    let are : AreRuleLinks c.args.hart.now c.args.event.now c.expect-links.result.items = rw c.expect-links.ensures at c.before-2.ensures in
-    let is : c.as_slice-2.result.now ≡ without c.expect-links.result.items = c.as_slice-2.ensures.value ∙ c.without_rules-links.ensures ∙ ap without c.as_slice.ensures.value in
-    subst (λ (links : List Link). AreEnoughLinks c.args.hart.now c.args.event.now links) (sym is) (enough c.args.hart.now c.args.event.now c.expect-links.result.items are)
+    let are : AreRuleLinks c.args.hart.now c.args.event.now c.expect-links.result.items =
+    rw c.expect-links.ensures at c.before-2.ensures in
+    let is : c.as_slice-2.result.now ≡ without c.expect-links.result.items = c.as_slice-2.ensures.value ∙
+    c.without_rules-links.ensures ∙ ap without c.as_slice.ensures.value in
+    subst (λ (links : List Link). AreEnoughLinks c.args.hart.now c.args.event.now links) (sym is)
+    (enough c.args.hart.now c.args.event.now c.expect-links.result.items are)

@@ -5,4 +5,5 @@ use Rattle.rv_report.proofs.text.malformed_text.Goals as goal
 pub returns : goal.returns
 returns c =
     let e = refused_text_of_last _ _ c.refused-refused.ensures in
-    rw (e, sym c.evidence.ensures.value, sym c.fault-fault.ensures, sym c.number-number.ensures) c.in_ok-format.ensures.ok
+    rw (e, sym c.evidence.ensures.value, sym c.fault-fault.ensures, sym c.number-number.ensures)
+    c.in_ok-format.ensures.ok

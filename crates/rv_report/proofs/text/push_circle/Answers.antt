@@ -5,7 +5,8 @@ use Rattle.rv_report.proofs.text.push_circle.Goals as goal
 pub edges-preserved : goal.edges-preserved
 edges-preserved c =
     edge_more _ _ _ c.edges.rest.now c.in-Some-split_first.after.now c.args.steps.now
-    c.in-Some-split_first.step.now c.start_of-to.result c.in-Some.first.now.0 c.edges.invariant c.in-Some-split_first.ensures.cases.0 c.start_of-to.ensures c.in_ok-writeln.ensures.bytes
+    c.in-Some-split_first.step.now c.start_of-to.result c.in-Some.first.now.0 c.edges.invariant
+    c.in-Some-split_first.ensures.cases.0 c.start_of-to.ensures c.in_ok-writeln.ensures.bytes
 
 pub returns : goal.returns
 returns c =

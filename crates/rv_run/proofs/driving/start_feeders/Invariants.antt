@@ -6,8 +6,10 @@ abbrev pub invariant-loop-reader : goal.invariant-loop-reader
 invariant-loop-reader g l =
     let done = vec_len l.children in let rest = l.reader-iterator in
     (done + into_iter_len rest ≡ vec_len l.fn.readers)
-    × ((k : ℕ) (d : _) → k < into_iter_len rest → get_or (into_iter_items rest) k d ≡ get_or (vec_items l.fn.readers) (done + k) d)
-    × ((k : ℕ) (h : _) (r : _) → k < done → (get_or (vec_items l.children) k h).promise.0.value ≡ get_or (vec_items l.fn.readers) k r)
+    × ((k : ℕ) (d : _) → k < into_iter_len rest → get_or (into_iter_items rest) k d ≡ get_or (vec_items l.fn.readers)
+    (done + k) d)
+    × ((k : ℕ) (h : _) (r : _) → k < done → (get_or (vec_items l.children) k h).promise.0.value ≡ get_or
+    (vec_items l.fn.readers) k r)
     × (l.source ≡ done)
     × (vec_len l.seats + done ≡ vec_len l.fn.seats)
     × All (λ s. g.C.Carrier.fits l.carrier s) (vec_items l.seats)

@@ -7,15 +7,19 @@ use Rattle.rv_run.proofs.running.run_over.Goals as goal
 
 pub returns-clause-outcome : goal.returns-clause-outcome
 returns-clause-outcome g c =
-    answer-true (λ r. option_map source_says (g.R.Read.remaining r)) c.args.readers.items c.in_ok-driven.driven.fed.items c.args.settings.model c.judge-outcome.result
+    answer-true (λ r. option_map source_says (g.R.Read.remaining r)) c.args.readers.items
+    c.in_ok-driven.driven.fed.items c.args.settings.model c.judge-outcome.result
     (search rules) c.in_ok-driven.ensures.fed.0 c.in_ok-driven.ensures.fed.1
-    (subst (λ (fed : List Fed). IfOk c.judge-outcome.result (AgreesWith c.args.settings.model fed)) c.as_slice-fed.ensures.value c.judge-outcome.ensures.outcome)
+    (subst (λ (fed : List Fed). IfOk c.judge-outcome.result (AgreesWith c.args.settings.model fed))
+    c.as_slice-fed.ensures.value c.judge-outcome.ensures.outcome)
 
 pub returns-clause-fault : goal.returns-clause-fault
 returns-clause-fault g c =
-    answer-fault (λ r. option_map source_says (g.R.Read.remaining r)) c.args.readers.items c.in_ok-driven.driven.fed.items c.judge-outcome.result
+    answer-fault (λ r. option_map source_says (g.R.Read.remaining r)) c.args.readers.items
+    c.in_ok-driven.driven.fed.items c.judge-outcome.result
     (search rules) c.in_ok-driven.ensures.fed.0 c.in_ok-driven.ensures.fed.1
-    (subst (λ (fed : List Fed). IfErr c.judge-outcome.result (IsFaultIn fed)) c.as_slice-fed.ensures.value c.judge-outcome.ensures.fault)
+    (subst (λ (fed : List Fed). IfErr c.judge-outcome.result (IsFaultIn fed)) c.as_slice-fed.ensures.value
+    c.judge-outcome.ensures.fault)
 
 pub drive-requires-clause-fits : goal.drive-requires-clause-fits
 drive-requires-clause-fits g c κs bounds k d low = rw c.new-step.ensures.carrier (c.requires.fits k d low)

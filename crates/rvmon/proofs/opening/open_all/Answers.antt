@@ -4,7 +4,8 @@ use Rattle.rvmon.proofs.opening.open_all.Goals as goal
 
 pub returns-in_default-clause-refused : goal.returns-in_default-clause-refused
 returns-in_default-clause-refused c =
-    unopened_among c.args.names.now c.loop-name.name-index c.name-item.result (omega arith) (sym c.name-item.is) c.not_opened.result c.not_opened.ensures
+    unopened_among c.args.names.now c.loop-name.name-index c.name-item.result (omega arith)
+    (sym c.name-item.is) c.not_opened.result c.not_opened.ensures
 
 pub returns-clause-opened : goal.returns-clause-opened
 returns-clause-opened c =

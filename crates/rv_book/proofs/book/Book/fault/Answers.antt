@@ -13,7 +13,8 @@ pub returns-in-Some : goal.returns-in-Some
 returns-in-Some c =
     let x = c.args.entry.now in
     let same = c.self.invariant.0.same ∙ ap (λ (b : Booked). events b.log) c.self.view_is in
-    first_of_faults c.args.self.now.log x c.in-Some.fault (sym c.in-Some.is ∙ c.first_fault.ensures ∙ ap (λ (es : List Event). lowest (first_faults es x.event)) same)
+    first_of_faults c.args.self.now.log x c.in-Some.fault (sym c.in-Some.is ∙ c.first_fault.ensures ∙
+    ap (λ (es : List Event). lowest (first_faults es x.event)) same)
 
 pub returns-in-Some-source_fault : goal.returns-in-Some-source_fault
 returns-in-Some-source_fault c =
@@ -21,7 +22,8 @@ returns-in-Some-source_fault c =
     let same = c.self.invariant.0.same ∙ ap (λ (b : Booked). events b.log) c.self.view_is in
     source_of_faults c.args.self.now.log x c.in-Some-source_fault.fault
     (sym c.in_default.is ∙ c.first_fault.ensures ∙ ap (λ (es : List Event). lowest (first_faults es x.event)) same)
-    (sym c.in-Some-source_fault.is ∙ c.source_fault.ensures c.self.inside.entries.items c.self.invariant.1 ∙ ap (λ (b : Booked). source_fault b.log x) c.self.view_is)
+    (sym c.in-Some-source_fault.is ∙ c.source_fault.ensures c.self.inside.entries.items c.self.invariant.1 ∙
+    ap (λ (b : Booked). source_fault b.log x) c.self.view_is)
 
 pub returns : goal.returns
 returns c =
@@ -30,4 +32,5 @@ returns c =
     c.find_deps_fault.ensures
     ∙ deps_of_faults c.args.self.now.log x
     (sym c.in_default.is ∙ c.first_fault.ensures ∙ ap (λ (es : List Event). lowest (first_faults es x.event)) same)
-    (sym c.in_default-source_fault.is ∙ c.source_fault.ensures c.self.inside.entries.items c.self.invariant.1 ∙ ap (λ (b : Booked). source_fault b.log x) c.self.view_is)
+    (sym c.in_default-source_fault.is ∙ c.source_fault.ensures c.self.inside.entries.items c.self.invariant.1 ∙
+    ap (λ (b : Booked). source_fault b.log x) c.self.view_is)

@@ -19,30 +19,38 @@ use Rattle.rv_edges.proofs.history.History.around.Goals as goal
 
 pub around-requires-clause-sound : goal.around-requires-clause-sound
 around-requires-clause-sound c =
-    let log = log-is c.self.inside.model c.self.inside.versions c.self.inside.harts.items c.self.inside.links c.self.invariant c.args.self.now c.self.view_is in
+    let log = log-is c.self.inside.model c.self.inside.versions c.self.inside.harts.items c.self.inside.links
+    c.self.invariant c.args.self.now c.self.view_is in
     subst (λ (l : List Event). event_fault l c.args.event.now ≡ None) (sym log) c.requires
 
 pub around-requires-clause-reserved : goal.around-requires-clause-reserved
 around-requires-clause-reserved c =
-    let log = log-is c.self.inside.model c.self.inside.versions c.self.inside.harts.items c.self.inside.links c.self.invariant c.args.self.now c.self.view_is in
-    subst (λ (l : List Event). IsReserved l c.args.event.now c.reserved-reserved.result) (sym log) c.reserved-reserved.ensures
+    let log = log-is c.self.inside.model c.self.inside.versions c.self.inside.harts.items c.self.inside.links
+    c.self.invariant c.args.self.now c.self.view_is in
+    subst (λ (l : List Event). IsReserved l c.args.event.now c.reserved-reserved.result)
+    (sym log) c.reserved-reserved.ensures
 
 pub has_own_edge-requires-clause-sound : goal.has_own_edge-requires-clause-sound
 has_own_edge-requires-clause-sound c =
-    let log = log-is c.self.inside.model c.self.inside.versions c.self.inside.harts.items c.self.inside.links c.self.invariant c.args.self.now c.self.view_is in
+    let log = log-is c.self.inside.model c.self.inside.versions c.self.inside.harts.items c.self.inside.links
+    c.self.invariant c.args.self.now c.self.view_is in
     subst (λ (l : List Event). event_fault l c.args.event.now ≡ None) (sym log) c.requires
 
 pub has_own_edge-requires-clause-reserved : goal.has_own_edge-requires-clause-reserved
 has_own_edge-requires-clause-reserved c =
-    let log = log-is c.self.inside.model c.self.inside.versions c.self.inside.harts.items c.self.inside.links c.self.invariant c.args.self.now c.self.view_is in
-    subst (λ (l : List Event). IsReserved l c.args.event.now c.reserved-reserved.result) (sym log) c.reserved-reserved.ensures
+    let log = log-is c.self.inside.model c.self.inside.versions c.self.inside.harts.items c.self.inside.links
+    c.self.invariant c.args.self.now c.self.view_is in
+    subst (λ (l : List Event). IsReserved l c.args.event.now c.reserved-reserved.result)
+    (sym log) c.reserved-reserved.ensures
 
 module _ (c : goal.After-stale) where
   log : c.self.inside.versions ≡ happened c.args.self.now.kept
-  log = log-is c.self.inside.model c.self.inside.versions c.self.inside.harts.items c.self.inside.links c.self.invariant c.args.self.now c.self.view_is
+  log = log-is c.self.inside.model c.self.inside.versions c.self.inside.harts.items c.self.inside.links c.self.invariant
+      c.args.self.now c.self.view_is
 
   known : Indexed (happened c.args.self.now.kept)
-  known = past-indexed c.self.inside.model c.self.inside.versions c.self.inside.harts.items c.self.inside.links c.self.invariant c.args.self.now c.self.view_is
+  known = past-indexed c.self.inside.model c.self.inside.versions c.self.inside.harts.items c.self.inside.links
+      c.self.invariant c.args.self.now c.self.view_is
 
   abbrev before : List Link
   before = c.from_vec.result
@@ -64,15 +72,18 @@ module _ (c : goal.After-stale) where
 
   by_versions : AreVersionLinks c.args.self.now.model (happened c.args.self.now.kept) c.args.event.now others after
   by_versions =
-      subst (λ (ls : List Link). AreVersionLinks c.args.self.now.model (happened c.args.self.now.kept) c.args.event.now others ls) (sym c.from_vec-2.ensures)
-      (subst (λ (l : List Event). AreVersionLinks c.args.self.now.model l c.args.event.now others c.in_ok-before.field-0.after.items) log
+      subst (λ (ls : List Link). AreVersionLinks c.args.self.now.model (happened c.args.self.now.kept) c.args.event.now
+      others ls) (sym c.from_vec-2.ensures)
+      (subst (λ (l : List Event). AreVersionLinks c.args.self.now.model l c.args.event.now others
+      c.in_ok-before.field-0.after.items) log
       (c.in_ok-before.ensures.2 c.args.self.now.model))
 
   abbrev found : Kept
   found = record { event = c.args.event.now; before = before; after = after }
 
   linked : IsLinked c.args.self.now.model c.args.self.now.kept found
-  linked = linked_with c.args.self.now.model c.args.self.now.kept found rules others known c.requires joined by_rules by_versions
+  linked = linked_with c.args.self.now.model c.args.self.now.kept found rules others known c.requires joined
+      by_rules by_versions
 
 pub returns-clause-linked : goal.returns-clause-linked
 returns-clause-linked c = linked c
@@ -81,19 +92,27 @@ pub returns-clause-covered : goal.returns-clause-covered
 returns-clause-covered c =
     let carried : IsCarried c.args.self.now.model c.args.self.now.kept =
     subst (λ (w : Past). IsCarried w.model w.kept) c.self.view_is
-    (carried_from_IsHistory c.self.inside.model (kept_from c.self.inside.versions c.self.inside.links) c.self.invariant.history) in
-    covered_with c.args.self.now.model c.args.self.now.kept (found c) (known c) (record { sound = c.requires; linked = linked c }) carried.covered
+    (carried_from_IsHistory c.self.inside.model (kept_from c.self.inside.versions c.self.inside.links)
+    c.self.invariant.history) in
+    covered_with c.args.self.now.model c.args.self.now.kept (found c) (known c)
+    (record { sound = c.requires; linked = linked c }) carried.covered
 
 pub returns-clause-itself : goal.returns-clause-itself
 returns-clause-itself c =
-    let own : IsTrue c.has_own_edge.result ↔ ((r : Reason) × IsEdge c.args.self.now.model (c.self.inside.versions ++ c.args.event.now ∷ []) c.args.event.now.id r c.args.event.now.id) =
+    let own : IsTrue c.has_own_edge.result ↔
+    ((r : Reason) × IsEdge c.args.self.now.model (c.self.inside.versions ++ c.args.event.now ∷ [])
+    c.args.event.now.id r c.args.event.now.id) =
     c.has_own_edge.ensures c.args.self.now.model in
-    subst (λ (l : List Event). IsTrue c.has_own_edge.result ↔ ((r : Reason) × IsEdge c.args.self.now.model (l ++ c.args.event.now ∷ []) c.args.event.now.id r c.args.event.now.id)) (log c) own
+    subst (λ (l : List Event). IsTrue c.has_own_edge.result ↔
+    ((r : Reason) × IsEdge c.args.self.now.model (l ++ c.args.event.now ∷ []) c.args.event.now.id r
+    c.args.event.now.id)) (log c) own
 
 pub returns-clause-unsplit : goal.returns-clause-unsplit
 returns-clause-unsplit c =
-    unsplit_is c.args.self.now.model (happened c.args.self.now.kept) c.args.event.now (known c) c.requires (rules c) (others c) (before c) (after c) (joined c) (by_rules c) (by_versions c)
+    unsplit_is c.args.self.now.model (happened c.args.self.now.kept) c.args.event.now (known c) c.requires (rules c)
+    (others c) (before c) (after c) (joined c) (by_rules c) (by_versions c)
 
 pub returns-clause-nearest : goal.returns-clause-nearest
 returns-clause-nearest c =
-    nearest_is c.args.self.now.model (happened c.args.self.now.kept) c.args.event.now (known c) c.requires (rules c) (others c) (before c) (after c) (joined c) (by_rules c) (by_versions c)
+    nearest_is c.args.self.now.model (happened c.args.self.now.kept) c.args.event.now (known c) c.requires (rules c)
+    (others c) (before c) (after c) (joined c) (by_rules c) (by_versions c)

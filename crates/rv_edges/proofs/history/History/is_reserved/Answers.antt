@@ -10,4 +10,5 @@ use Rattle.rv_edges.proofs.history.History.is_reserved.Goals as goal
 pub returns-in-Some : goal.returns-in-Some
 returns-in-Some c =
     let is : c.in-Some.hart.now ≡ hart_in c.args.self.now c.args.number = c.in-Some.ensures.hart in
-    c.is_reserved.ensures ∙ ap (λ (x : Hart). is_reserved x.events x.number) is ∙ reserved-own (happened c.args.self.now.kept) c.args.number
+    c.is_reserved.ensures ∙ ap (λ (x : Hart). is_reserved x.events x.number) is ∙
+    reserved-own (happened c.args.self.now.kept) c.args.number

@@ -8,4 +8,5 @@ use Rattle.rv_edges.proofs.history.History.model.Goals as goal
 pub returns-clause-carried : goal.returns-clause-carried
 returns-clause-carried c =
     subst (λ (w : Past). IsCarried w.model w.kept) c.self.view_is
-    (carried_from_IsHistory c.self.inside.model (kept_from c.self.inside.versions c.self.inside.links) c.self.invariant.history)
+    (carried_from_IsHistory c.self.inside.model (kept_from c.self.inside.versions c.self.inside.links)
+    c.self.invariant.history)

@@ -15,5 +15,6 @@ invariant_of-result c =
       lengths = none.0;
       history = subst (IsHistory _) (sym none.1) (IsHistory-nil _);
       own = λ h.
-          ap (λ (xs : List Hart). hart_of c.args.model xs h) c.new-2.ensures.items ∙ sym (ap (λ (es : List Event). hart_from c.args.model es h) c.new.ensures);
+          ap (λ (xs : List Hart). hart_of c.args.model xs h) c.new-2.ensures.items ∙
+          sym (ap (λ (es : List Event). hart_from c.args.model es h) c.new.ensures);
     }

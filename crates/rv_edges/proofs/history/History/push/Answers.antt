@@ -20,13 +20,16 @@ use Rattle.rv_edges.proofs.history.History.push.Goals as goal
 
 pub push-requires-2-clause-sound : goal.push-requires-2-clause-sound
 push-requires-2-clause-sound c =
-    let log = log-is c.self.inside.model c.self.inside.versions c.self.inside.harts.items c.self.inside.links c.self.invariant c.args.self.now c.self.view_is in
+    let log = log-is c.self.inside.model c.self.inside.versions c.self.inside.harts.items c.self.inside.links
+    c.self.invariant c.args.self.now c.self.view_is in
     subst (λ (l : List Event). event_fault l c.args.event.now ≡ None) (sym log) c.requires.sound
 
 pub push-requires-2-clause-reserved : goal.push-requires-2-clause-reserved
 push-requires-2-clause-reserved c =
-    let log = log-is c.self.inside.model c.self.inside.versions c.self.inside.harts.items c.self.inside.links c.self.invariant c.args.self.now c.self.view_is in
-    subst (λ (l : List Event). IsReserved l c.args.event.now c.reserved-reserved.result) (sym log) c.reserved-reserved.ensures
+    let log = log-is c.self.inside.model c.self.inside.versions c.self.inside.harts.items c.self.inside.links
+    c.self.invariant c.args.self.now c.self.view_is in
+    subst (λ (l : List Event). IsReserved l c.args.event.now c.reserved-reserved.result)
+    (sym log) c.reserved-reserved.ensures
 
 pub push-requires-3-clause-follows : goal.push-requires-3-clause-follows
 push-requires-3-clause-follows c =
@@ -34,8 +37,11 @@ push-requires-3-clause-follows c =
     let within : h < length c.open_harts.new.harts.items = c.in_ok-open_harts.ensures.open in
     let none : Hart = record { model = c.self.inside.model; number = h; events = [] } in
     let here : c.in-Some.hart.now ≡ hart_in c.args.self.now h =
-    c.in-Some.ensures.value ∙ get_or_default c.open_harts.new.harts.items h c.in-Some.hart.now none within ∙ c.in_ok-open_harts.ensures.same h ∙ hart-is c.self.inside.model c.self.inside.versions c.self.inside.harts.items c.self.inside.links c.self.invariant c.args.self.now c.self.view_is h in
-    subst (λ (x : Hart). Follows x c.args.event.now) (sym here) (follows c.args.self.now c.args.event.now c.requires.sound)
+    c.in-Some.ensures.value ∙ get_or_default c.open_harts.new.harts.items h c.in-Some.hart.now none within ∙
+    c.in_ok-open_harts.ensures.same h ∙ hart-is c.self.inside.model c.self.inside.versions c.self.inside.harts.items
+    c.self.inside.links c.self.invariant c.args.self.now c.self.view_is h in
+    subst (λ (x : Hart). Follows x c.args.event.now) (sym here)
+    (follows c.args.self.now c.args.event.now c.requires.sound)
 
 pub push-requires-3-clause-returned : goal.push-requires-3-clause-returned
 push-requires-3-clause-returned c =
@@ -43,8 +49,11 @@ push-requires-3-clause-returned c =
     let within : h < length c.open_harts.new.harts.items = c.in_ok-open_harts.ensures.open in
     let none : Hart = record { model = c.self.inside.model; number = h; events = [] } in
     let here : c.in-Some.hart.now ≡ hart_in c.args.self.now h =
-    c.in-Some.ensures.value ∙ get_or_default c.open_harts.new.harts.items h c.in-Some.hart.now none within ∙ c.in_ok-open_harts.ensures.same h ∙ hart-is c.self.inside.model c.self.inside.versions c.self.inside.harts.items c.self.inside.links c.self.invariant c.args.self.now c.self.view_is h in
-    subst (λ (x : Hart). IsReturned x c.args.event.now c.returned-returned.result) (sym here) c.returned-returned.ensures
+    c.in-Some.ensures.value ∙ get_or_default c.open_harts.new.harts.items h c.in-Some.hart.now none within ∙
+    c.in_ok-open_harts.ensures.same h ∙ hart-is c.self.inside.model c.self.inside.versions c.self.inside.harts.items
+    c.self.inside.links c.self.invariant c.args.self.now c.self.view_is h in
+    subst (λ (x : Hart). IsReturned x c.args.event.now c.returned-returned.result)
+    (sym here) c.returned-returned.ensures
 
 pub push-requires-3-clause-linked : goal.push-requires-3-clause-linked
 push-requires-3-clause-linked c =
@@ -54,8 +63,11 @@ push-requires-3-clause-linked c =
     let within : h < length c.open_harts.new.harts.items = c.in_ok-open_harts.ensures.open in
     let none : Hart = record { model = c.self.inside.model; number = h; events = [] } in
     let here : c.in-Some.hart.now ≡ hart_in past h =
-    c.in-Some.ensures.value ∙ get_or_default c.open_harts.new.harts.items h c.in-Some.hart.now none within ∙ c.in_ok-open_harts.ensures.same h ∙ hart-is c.self.inside.model c.self.inside.versions c.self.inside.harts.items c.self.inside.links c.self.invariant past c.self.view_is h in
-    let known = past-indexed c.self.inside.model c.self.inside.versions c.self.inside.harts.items c.self.inside.links c.self.invariant past c.self.view_is in
+    c.in-Some.ensures.value ∙ get_or_default c.open_harts.new.harts.items h c.in-Some.hart.now none within ∙
+    c.in_ok-open_harts.ensures.same h ∙ hart-is c.self.inside.model c.self.inside.versions c.self.inside.harts.items
+    c.self.inside.links c.self.invariant past c.self.view_is h in
+    let known = past-indexed c.self.inside.model c.self.inside.versions c.self.inside.harts.items c.self.inside.links
+    c.self.invariant past c.self.view_is in
     subst (λ (x : Hart). AreEnoughLinks x e c.as_slice-3.result.now) (sym here)
     (subst (λ (ls : List Link). AreEnoughLinks (hart_in past h) e ls) (sym c.as_slice-3.ensures)
     (enough_is past.model past.kept (kept_of e c.args.around.now) known c.requires.sound c.requires.linked))
@@ -77,8 +89,13 @@ pushed c =
       linked = subst (λ (w : Past). IsLinked w.model w.kept k) (sym c.self.view_is) c.requires.linked;
     } in
     let l : OwnLinks = record { before = c.as_slice.result.now; after = c.as_slice-2.result.now } in
-    let one : kept_one e l ≡ k = λ i. record { event = e; before = c.as_slice.ensures i; after = c.as_slice-2.ensures i } in
-    let p = pushed_sides c.self.inside.model c.self.inside.versions c.push-2.new.self c.self.inside.links c.push.new.self e l k
+    let one : kept_one e l ≡ k = λ i. record {
+      event = e;
+      before = c.as_slice.ensures i;
+      after = c.as_slice-2.ensures i;
+    } in
+    let p = pushed_sides c.self.inside.model c.self.inside.versions c.push-2.new.self c.self.inside.links
+    c.push.new.self e l k
     c.self.invariant.lengths c.self.invariant.history joined one
     c.in_default.ensures.pushed c.in_ok-push.ensures.pushed in
     record { lengths = p.0; history = p.1; cut = p.2 }
@@ -90,8 +107,10 @@ invariant_of-self-in_default-push c =
       lengths = p.lengths;
       history = p.history;
       own =
-          harts-push c.self.inside.model c.self.inside.versions c.push-2.new.self c.open_harts.new.harts.items c.args.event.now c.in-Some.hart.now c.push-3.new.self
-          (λ h. c.in_ok-open_harts.ensures.same h ∙ c.self.invariant.own h) c.in_ok-open_harts.ensures.open c.in_default.ensures.pushed
+          harts-push c.self.inside.model c.self.inside.versions c.push-2.new.self c.open_harts.new.harts.items
+          c.args.event.now c.in-Some.hart.now c.push-3.new.self
+          (λ h. c.in_ok-open_harts.ensures.same h ∙ c.self.invariant.own h) c.in_ok-open_harts.ensures.open
+          c.in_default.ensures.pushed
           c.in-Some.ensures.value c.in_default-push.ensures.pushed;
     }
 

@@ -33,5 +33,10 @@ pub returns : goal.returns
 returns c =
     let is : c.in_ok-hart.field-0.now ≡ hart_in c.args.self.now c.args.event.now.id.hart = c.in_ok-hart.ensures.hart in
     let some : IsPartner (hart_in c.args.self.now c.args.event.now.id.hart) c.args.event.now (Some c.in_ok-lr.lr.now) =
-    subst (λ (h : Hart). IsPartner h c.args.event.now (Some c.in_ok-lr.lr.now)) is c.in_ok-lr.ensures in
-    (c.in_ok-lr.lr.now, partner_from c.args.self.now.model (happened c.args.self.now.kept) c.args.event.now c.hart.ensures.indexed c.requires c.in_ok-lr.lr.now some.0 some.1, refl, refl)
+    subst (λ (h : Hart). IsPartner h c.args.event.now (Some c.in_ok-lr.lr.now)) is c.in_ok-lr.ensures in (
+      c.in_ok-lr.lr.now,
+      partner_from c.args.self.now.model (happened c.args.self.now.kept) c.args.event.now
+          c.hart.ensures.indexed c.requires c.in_ok-lr.lr.now some.0 some.1,
+      refl,
+      refl,
+    )

@@ -21,8 +21,10 @@ before-requires-clause-returned c =
 pub returns-in-Some : goal.returns-in-Some
 returns-in-Some c =
     let is : c.in-Some.hart.now ≡ hart_in c.args.self.now c.args.event.now.id.hart = c.in-Some.ensures.hart in
-    subst (λ (h : Hart). IfOk c.before-in-Some.result (λ links. AreRuleLinks h c.args.event.now links.items)) is c.before-in-Some.ensures
+    subst (λ (h : Hart). IfOk c.before-in-Some.result (λ links. AreRuleLinks h c.args.event.now links.items)) is
+    c.before-in-Some.ensures
 
 pub returns-in-None : goal.returns-in-None
 returns-in-None c =
-    none_linked c.args.self.now.model (happened c.args.self.now.kept) c.args.event.now c.hart.ensures.indexed c.requires c.in-None.ensures.hart c.new.result.items c.new.ensures.items
+    none_linked c.args.self.now.model (happened c.args.self.now.kept) c.args.event.now c.hart.ensures.indexed c.requires
+    c.in-None.ensures.hart c.new.result.items c.new.ensures.items

@@ -18,13 +18,17 @@ stale-requires c =
 pub returns-in_err-hart : goal.returns-in_err-hart
 returns-in_err-hart c =
     subst (IsStaleOf c.args.self.now.kept c.args.event.now) (sym c.from_residual.ensures)
-    (none_stale_of c.args.self.now.model (happened c.args.self.now.kept) c.args.event.now c.hart.ensures.indexed c.requires c.in_err-hart.ensures.hart)
+    (none_stale_of c.args.self.now.model (happened c.args.self.now.kept) c.args.event.now c.hart.ensures.indexed
+    c.requires c.in_err-hart.ensures.hart)
 
 pub returns : goal.returns
 returns c =
     let is : c.in_ok-hart.field-0.now ≡ hart_in c.args.self.now c.args.event.now.id.hart = c.in_ok-hart.ensures.hart in
     go c.stale.result (subst (λ (h : Hart). IsStaleBy h c.args.event.now c.stale.result) is c.stale.ensures)
   where
-    go : (o : Option Id) → IsStaleBy (hart_in c.args.self.now c.args.event.now.id.hart) c.args.event.now o → IsStaleOf c.args.self.now.kept c.args.event.now o
-    go None none = λ s p. none s (stale_was c.args.self.now.model (happened c.args.self.now.kept) c.args.event.now c.hart.ensures.indexed c.requires s p)
-    go (Some s) p = stale_is c.args.self.now.model (happened c.args.self.now.kept) c.args.event.now c.hart.ensures.indexed c.requires s p
+    go : (o : Option Id) → IsStaleBy (hart_in c.args.self.now c.args.event.now.id.hart) c.args.event.now o →
+        IsStaleOf c.args.self.now.kept c.args.event.now o
+    go None none = λ s p. none s (stale_was c.args.self.now.model (happened c.args.self.now.kept) c.args.event.now
+        c.hart.ensures.indexed c.requires s p)
+    go (Some s) p = stale_is c.args.self.now.model (happened c.args.self.now.kept) c.args.event.now
+        c.hart.ensures.indexed c.requires s p

@@ -9,4 +9,5 @@ pub returns : goal.returns
 returns c =
     c.writer.ensures
     ∙ ap (λ (es : List Event). option_map (λ (w : Event). w.id) (writer es c.args.word c.args.version))
-    (log-is c.self.inside.model c.self.inside.versions c.self.inside.harts.items c.self.inside.links c.self.invariant c.args.self.now c.self.view_is)
+    (log-is c.self.inside.model c.self.inside.versions c.self.inside.harts.items c.self.inside.links c.self.invariant
+    c.args.self.now c.self.view_is)

@@ -8,11 +8,25 @@ use Rattle.rv_edges.proofs.links.KeptLinks.pop.Goals as goal
 
 pub overflow_sub-left : goal.overflow_sub-left
 overflow_sub-left c =
-    omega (arith, total-push c.pop.new.self.items c.in-Some.last, ap total c.in-Some.ensures.items, c.self.invariant, c.len.ensures, c.self.inside.links.ok)
+    omega (
+      arith,
+      total-push c.pop.new.self.items c.in-Some.last,
+      ap total c.in-Some.ensures.items,
+      c.self.invariant,
+      c.len.ensures,
+      c.self.inside.links.ok,
+    )
 
 pub overflow_sub-left-in-Some : goal.overflow_sub-left-in-Some
 overflow_sub-left-in-Some c =
-    omega (arith, total-push c.pop.new.self.items c.in-Some.last, ap total c.in-Some.ensures.items, c.self.invariant, c.len.ensures, c.self.inside.links.ok)
+    omega (
+      arith,
+      total-push c.pop.new.self.items c.in-Some.last,
+      ap total c.in-Some.ensures.items,
+      c.self.invariant,
+      c.len.ensures,
+      c.self.inside.links.ok,
+    )
 
 module _ (c : goal.After-truncate) where
   abbrev links : List Link

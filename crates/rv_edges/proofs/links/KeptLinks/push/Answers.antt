@@ -18,7 +18,8 @@ module _ (c : goal.After-push_reserved) where
   after = c.args.after.now
 
   sides : c.push_reserved.new.self.items ≡ c.self.inside.sides.items ++ sides_of before after ∷ []
-  sides = c.push_reserved.ensures.items ∙ ap (λ (xs : List Sides). xs ++ sides_of before after ∷ []) c.in_ok-reserve.ensures.items
+  sides = c.push_reserved.ensures.items ∙
+      ap (λ (xs : List Sides). xs ++ sides_of before after ∷ []) c.in_ok-reserve.ensures.items
 
   links : c.extend_from_slice-2.new.self.items ≡ old ++ (before ++ after)
   links =
@@ -29,7 +30,14 @@ module _ (c : goal.After-push_reserved) where
 pub invariant_of-self-2 : goal.invariant_of-self-2
 invariant_of-self-2 c =
     ap total (sides c)
-    ∙ omega (arith, total-push c.self.inside.sides.items (sides_of (before c) (after c)), c.self.invariant, ap length (links c), length-append (old c) (before c ++ after c), length-append (before c) (after c))
+    ∙ omega (
+      arith,
+      total-push c.self.inside.sides.items (sides_of (before c) (after c)),
+      c.self.invariant,
+      ap length (links c),
+      length-append (old c) (before c ++ after c),
+      length-append (before c) (after c),
+    )
 
 pub returns-clause-pushed : goal.returns-clause-pushed
 returns-clause-pushed c =

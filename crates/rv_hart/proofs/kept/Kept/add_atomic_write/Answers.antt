@@ -15,7 +15,8 @@ index-requires c =
     let h : Hart = hart_of c.args.self.now in
     let e : Event = c.args.event.now in
     let f : Fits h e = fits_of h e c.requires.asked.kept.hart c.requires.asked.follows in
-    let own : (w : Event) × IsOwnStore h e w × (w.id.seq ≡ c.in-Some.store) = subst (IsReturned h e) c.in-Some.is c.requires.returned in
+    let own : (w : Event) × IsOwnStore h e w × (w.id.seq ≡ c.in-Some.store) =
+    subst (IsReturned h e) c.in-Some.is c.requires.returned in
     let low : own.0.id.seq < length h.events = f.known.below own.0 own.1.of_hart in
     let few : length h.events ≤ 4096 = f.known.few in
     let at : own.0.id.seq ≡ c.in-Some.store = own.2 in
@@ -26,7 +27,8 @@ insert_if-requires c =
     let h : Hart = hart_of c.args.self.now in
     let e : Event = c.args.event.now in
     let f : Fits h e = fits_of h e c.requires.asked.kept.hart c.requires.asked.follows in
-    let own : (w : Event) × IsOwnStore h e w × (w.id.seq ≡ c.in-Some.store) = subst (IsReturned h e) c.in-Some.is c.requires.returned in
+    let own : (w : Event) × IsOwnStore h e w × (w.id.seq ≡ c.in-Some.store) =
+    subst (IsReturned h e) c.in-Some.is c.requires.returned in
     let low : own.0.id.seq < length h.events = f.known.below own.0 own.1.of_hart in
     let few : length h.events ≤ 4096 = f.known.few in
     let at : own.0.id.seq ≡ c.in-Some.store = own.2 in
@@ -37,10 +39,13 @@ returns-in-Some c =
     let h : Hart = hart_of c.args.self.now in
     let e : Event = c.args.event.now in
     let f : Fits h e = fits_of h e c.requires.asked.kept.hart c.requires.asked.follows in
-    let own : (w : Event) × IsOwnStore h e w × (w.id.seq ≡ c.in-Some.store) = subst (IsReturned h e) c.in-Some.is c.requires.returned in
+    let own : (w : Event) × IsOwnStore h e w × (w.id.seq ≡ c.in-Some.store) =
+    subst (IsReturned h e) c.in-Some.is c.requires.returned in
     let w : Event = own.0 in
-    let same : c.index.result.now ≡ w = read_is h f.known w c.index.result.now c.in-Some.store own.1.of_hart own.2 c.index.ensures in
-    let test : IsTrue c.is_atomic.result ↔ ((w.op ≡ Amo) ⊎ (w.op ≡ Sc)) = subst (λ (x : Event). IsTrue c.is_atomic.result ↔ ((x.op ≡ Amo) ⊎ (x.op ≡ Sc))) same c.is_atomic.ensures in
+    let same : c.index.result.now ≡ w = read_is h f.known w c.index.result.now c.in-Some.store own.1.of_hart own.2
+    c.index.ensures in
+    let test : IsTrue c.is_atomic.result ↔ ((w.op ≡ Amo) ⊎ (w.op ≡ Sc)) =
+    subst (λ (x : Event). IsTrue c.is_atomic.result ↔ ((x.op ≡ Amo) ⊎ (x.op ≡ Sc))) same c.is_atomic.ensures in
     adds h e f c.requires.asked.memory 3 _ c.args.row.now c.insert_if.new.row
     (more-one ((w.op ≡ Amo) ⊎ (w.op ≡ Sc)) w h.events c.is_atomic.result c.args.row.now c.insert_if.new.row
     own.1.of_hart test

@@ -1,4 +1,5 @@
-use Rattle.std.proofs.Common.{◌≡◌, ◌==◌, ◌||◌, ◌&&◌, ◌<◌, ◌≤◌, ◌↔◌, IsTrue, ℕ, length, sym, ap, ◌∙◌, subst, arith, rules, tests}
+use Rattle.std.proofs.Common.{◌≡◌, ◌==◌, ◌||◌, ◌&&◌, ◌<◌, ◌≤◌, ◌↔◌, IsTrue, ℕ, length, sym, ap, ◌∙◌, subst}
+use Rattle.std.proofs.Common.{arith, rules, tests}
 use Rattle.rv_event.specs.declared.event.Op.TheVariants.{Sc}
 use Rattle.rv_rows.specs.Bits.{has_bit}
 use Rattle.rv_hart.specs.Sets.{HasEvent, IsReserving, IsReservation}
@@ -14,7 +15,8 @@ insert_if-requires c =
     let h : Hart = hart_of c.args.self.now in
     let e : Event = c.args.event.now in
     let f : Fits h e = fits_of h e c.requires.kept.hart c.requires.follows in
-    let lr : HasEvent (IsReserving h.events) h.events c.in-Some.lr = subst (IsReservation h.events) c.in-Some.is c.requires.kept.sets.reserved in
+    let lr : HasEvent (IsReserving h.events) h.events c.in-Some.lr =
+    subst (IsReservation h.events) c.in-Some.is c.requires.kept.sets.reserved in
     let low : lr.a.id.seq < length h.events = f.known.below lr.a lr.of_list in
     let few : length h.events ≤ 4096 = f.known.few in
     let at : lr.a.id.seq ≡ c.in-Some.lr = lr.at in
@@ -25,7 +27,8 @@ returns-in-Some c =
     let h : Hart = hart_of c.args.self.now in
     let e : Event = c.args.event.now in
     let f : Fits h e = fits_of h e c.requires.kept.hart c.requires.follows in
-    let lr : HasEvent (IsReserving h.events) h.events c.in-Some.lr = subst (IsReservation h.events) c.in-Some.is c.requires.kept.sets.reserved in
+    let lr : HasEvent (IsReserving h.events) h.events c.in-Some.lr =
+    subst (IsReservation h.events) c.in-Some.is c.requires.kept.sets.reserved in
     let test : IsTrue c.eq.result ↔ (e.op ≡ Sc) = search (rules, tests) in
     adds h e f c.requires.memory 8 _ c.args.row.now c.insert_if.new.row
     (more-one (e.op ≡ Sc) lr.a h.events c.eq.result c.args.row.now c.insert_if.new.row lr.of_list test

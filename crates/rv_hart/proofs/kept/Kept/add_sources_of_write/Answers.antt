@@ -17,7 +17,8 @@ index-store-requires c =
     let h : Hart = hart_of c.args.self.now in
     let e : Event = c.args.event.now in
     let f : Fits h e = fits_of h e c.requires.asked.kept.hart c.requires.asked.follows in
-    let own : (w : Event) × IsOwnStore h e w × (w.id.seq ≡ c.in-Some.store) = subst (IsReturned h e) c.in-Some.is c.requires.returned in
+    let own : (w : Event) × IsOwnStore h e w × (w.id.seq ≡ c.in-Some.store) =
+    subst (IsReturned h e) c.in-Some.is c.requires.returned in
     let low : own.0.id.seq < length h.events = f.known.below own.0 own.1.of_hart in
     let few : length h.events ≤ 4096 = f.known.few in
     let at : own.0.id.seq ≡ c.in-Some.store = own.2 in
@@ -28,9 +29,11 @@ add_dependencies-requires c =
     let h : Hart = hart_of c.args.self.now in
     let e : Event = c.args.event.now in
     let f : Fits h e = fits_of h e c.requires.asked.kept.hart c.requires.asked.follows in
-    let own : (w : Event) × IsOwnStore h e w × (w.id.seq ≡ c.in-Some.store) = subst (IsReturned h e) c.in-Some.is c.requires.returned in
+    let own : (w : Event) × IsOwnStore h e w × (w.id.seq ≡ c.in-Some.store) =
+    subst (IsReturned h e) c.in-Some.is c.requires.returned in
     let w : Event = own.0 in
-    let same : c.index-store.result.now ≡ w = read_is h f.known w c.index-store.result.now c.in-Some.store own.1.of_hart own.2 c.index-store.ensures in
+    let same : c.index-store.result.now ≡ w =
+    read_is h f.known w c.index-store.result.now c.in-Some.store own.1.of_hart own.2 c.index-store.ensures in
     subst (λ (x : Event). All (λ d. d.seq < 4096) x.deps) (sym same) (deps-few h f.known w own.1.of_hart)
 
 pub add_dependencies-requires-in-Some : goal.add_dependencies-requires-in-Some
@@ -38,9 +41,11 @@ add_dependencies-requires-in-Some c =
     let h : Hart = hart_of c.args.self.now in
     let e : Event = c.args.event.now in
     let f : Fits h e = fits_of h e c.requires.asked.kept.hart c.requires.asked.follows in
-    let own : (w : Event) × IsOwnStore h e w × (w.id.seq ≡ c.in-Some.store) = subst (IsReturned h e) c.in-Some.is c.requires.returned in
+    let own : (w : Event) × IsOwnStore h e w × (w.id.seq ≡ c.in-Some.store) =
+    subst (IsReturned h e) c.in-Some.is c.requires.returned in
     let w : Event = own.0 in
-    let same : c.index-store.result.now ≡ w = read_is h f.known w c.index-store.result.now c.in-Some.store own.1.of_hart own.2 c.index-store.ensures in
+    let same : c.index-store.result.now ≡ w =
+    read_is h f.known w c.index-store.result.now c.in-Some.store own.1.of_hart own.2 c.index-store.ensures in
     subst (λ (x : Event). All (λ d. d.seq < 4096) x.deps) (sym same) (deps-few h f.known w own.1.of_hart)
 
 pub returns-in-Some : goal.returns-in-Some
@@ -48,9 +53,11 @@ returns-in-Some c =
     let h : Hart = hart_of c.args.self.now in
     let e : Event = c.args.event.now in
     let f : Fits h e = fits_of h e c.requires.asked.kept.hart c.requires.asked.follows in
-    let own : (w : Event) × IsOwnStore h e w × (w.id.seq ≡ c.in-Some.store) = subst (IsReturned h e) c.in-Some.is c.requires.returned in
+    let own : (w : Event) × IsOwnStore h e w × (w.id.seq ≡ c.in-Some.store) =
+    subst (IsReturned h e) c.in-Some.is c.requires.returned in
     let w : Event = own.0 in
-    let same : c.index-store.result.now ≡ w = read_is h f.known w c.index-store.result.now c.in-Some.store own.1.of_hart own.2 c.index-store.ensures in
+    let same : c.index-store.result.now ≡ w =
+    read_is h f.known w c.index-store.result.now c.in-Some.store own.1.of_hart own.2 c.index-store.ensures in
     let loads : List ℕ = c.args.self.now.sets.loads in
     let stores : List ℕ = c.args.self.now.sets.stores in
     let are = c.requires.asked.kept.sets in

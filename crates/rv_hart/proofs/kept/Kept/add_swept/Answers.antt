@@ -60,7 +60,8 @@ taken-preserved c =
     } in
     let is : IsTaken rows c.taken.left (Some c.in-Some.number) c.take_highest.new.candidates =
     rw c.in-Some.is at c.take_highest.ensures in
-    gathering-more h e rows first g c.taken.left c.take_highest.new.candidates c.taken.top c.in-Some.number c.insert.new.self c.taken.row c.join_into.new.row c.taken.invariant is
+    gathering-more h e rows first g c.taken.left c.take_highest.new.candidates c.taken.top c.in-Some.number
+    c.insert.new.self c.taken.row c.join_into.new.row c.taken.invariant is
     c.join_into.ensures
 
 pub returns : goal.returns
@@ -78,7 +79,8 @@ returns c =
     } in
     let is : IsTaken rows c.taken.left None c.take_highest.new.candidates =
     rw c.in_default.is at c.take_highest.ensures in
-    gathering-done h e rows first g c.taken.left c.take_highest.new.candidates c.taken.top c.args.row.now c.insert.new.self c.taken.row c.taken.invariant is c.insert.ensures
+    gathering-done h e rows first g c.taken.left c.take_highest.new.candidates c.taken.top c.args.row.now
+    c.insert.new.self c.taken.row c.taken.invariant is c.insert.ensures
 
 pub join_into-requires : goal.join_into-requires
 join_into-requires c =

@@ -5,7 +5,8 @@ use Rattle.rv_rows.specs.Closure.{IsTaken}
 use Rattle.rv_hart.specs.Harts.{Hart}
 use Rattle.rv_hart.specs.Kept.{hart_of}
 use Rattle.rv_hart.proofs.Knowing.{Fits, fits_of}
-use Rattle.rv_hart.proofs.Linking.{Sweeping, IsListing, rows-few, listing-begun, listing-candidate, listing-more, listing-done, links-nothing}
+use Rattle.rv_hart.proofs.Linking.{Sweeping, IsListing, rows-few, listing-begun, listing-candidate}
+use Rattle.rv_hart.proofs.Linking.{listing-more, listing-done, links-nothing}
 use Rattle.rv_hart.proofs.kept.Kept.before.Goals as goal
 
 pub returns-then-not-is_memory : goal.returns-then-not-is_memory
@@ -13,7 +14,8 @@ returns-then-not-is_memory c =
     let h : Hart = hart_of c.args.self.now in
     let e : Event = c.args.event.now in
     let f : Fits h e = fits_of h e c.requires.kept.hart c.requires.follows in
-    links-nothing h e f (λ m. false≢true (sym c.if-not-is_memory.true ∙ c.is_memory.ensures.1 m)) c.new-links.result.items c.new-links.ensures.items
+    links-nothing h e f (λ m. false≢true (sym c.if-not-is_memory.true ∙ c.is_memory.ensures.1 m))
+    c.new-links.result.items c.new-links.ensures.items
 
 pub taken-init : goal.taken-init
 taken-init c =
@@ -68,7 +70,8 @@ lowest_rule-rule-requires-clause-candidate c =
     } in
     let is : IsTaken rows c.taken.left (Some c.in-Some.number) c.take_highest.new.candidates =
     rw c.in-Some.is at c.take_highest.ensures in
-    listing-candidate h e rows first g c.taken.left c.take_highest.new.candidates c.taken.top c.in-Some.number c.taken.links.items c.taken.invariant is
+    listing-candidate h e rows first g c.taken.left c.take_highest.new.candidates c.taken.top c.in-Some.number
+    c.taken.links.items c.taken.invariant is
 
 pub taken-preserved : goal.taken-preserved
 taken-preserved c =
@@ -85,7 +88,8 @@ taken-preserved c =
     } in
     let is : IsTaken rows c.taken.left (Some c.in-Some.number) c.take_highest.new.candidates =
     rw c.in-Some.is at c.take_highest.ensures in
-    listing-more h e rows first g c.taken.left c.take_highest.new.candidates c.taken.top c.in-Some.number c.lowest_rule-rule.result c.taken.links.items c.push.new.self.items c.taken.invariant is
+    listing-more h e rows first g c.taken.left c.take_highest.new.candidates c.taken.top c.in-Some.number
+    c.lowest_rule-rule.result c.taken.links.items c.push.new.self.items c.taken.invariant is
     c.lowest_rule-rule.ensures c.in_ok-push.ensures.items
 
 pub returns : goal.returns
@@ -103,4 +107,5 @@ returns c =
     } in
     let is : IsTaken rows c.taken.left None c.take_highest.new.candidates =
     rw c.in_default.is at c.take_highest.ensures in
-    listing-done h e rows first g c.taken.left c.take_highest.new.candidates c.taken.top c.taken.links.items c.taken.invariant is
+    listing-done h e rows first g c.taken.left c.take_highest.new.candidates c.taken.top c.taken.links.items
+    c.taken.invariant is

@@ -6,7 +6,8 @@ use Rattle.rv_hart.specs.Harts.{Hart}
 use Rattle.rv_hart.specs.Kept.{hart_of}
 use Rattle.rv_hart.specs.Words.{IsLastBelow, IsWordLink}
 use Rattle.rv_hart.proofs.Knowing.{Fits, fits_of, read_is}
-use Rattle.rv_hart.proofs.Walking.{IsOverlapWalk, named-low, read_link, overlap-begin, overlap-none, overlap-step, overlap-store, overlap-end}
+use Rattle.rv_hart.proofs.Walking.{IsOverlapWalk, named-low, read_link, overlap-begin, overlap-none}
+use Rattle.rv_hart.proofs.Walking.{overlap-step, overlap-store, overlap-end}
 use Rattle.rv_hart.proofs.kept.Kept.fill_overlapping.Goals as goal
 
 pub returns-then-not-is_store : goal.returns-then-not-is_store
@@ -14,21 +15,25 @@ returns-then-not-is_store c =
     let h : Hart = hart_of c.args.self.now in
     let e : Event = c.args.event.now in
     let f : Fits h e = fits_of h e c.requires.asked.kept.hart c.requires.asked.follows in
-    overlap-none h e f c.requires.asked.memory c.args.row.now c.requires.empty (λ s. false≢true (sym c.if-not-is_store.true ∙ c.is_store.ensures.1 s))
+    overlap-none h e f c.requires.asked.memory c.args.row.now c.requires.empty
+    (λ s. false≢true (sym c.if-not-is_store.true ∙ c.is_store.ensures.1 s))
 
 pub met-init : goal.met-init
 met-init c =
     let h : Hart = hart_of c.args.self.now in
     let e : Event = c.args.event.now in
     let f : Fits h e = fits_of h e c.requires.asked.kept.hart c.requires.asked.follows in
-    overlap-begin h e f c.requires.asked.memory c.args.row.now c.last-next.result c.requires.empty (subst (IsLastBelow h.events e.word (length h.events)) (sym c.last-next.ensures) (c.requires.asked.kept.words.lasts e.word))
+    overlap-begin h e f c.requires.asked.memory c.args.row.now c.last-next.result c.requires.empty
+    (subst (IsLastBelow h.events e.word (length h.events)) (sym c.last-next.ensures)
+    (c.requires.asked.kept.words.lasts e.word))
 
 pub insert-requires : goal.insert-requires
 insert-requires c =
     let h : Hart = hart_of c.args.self.now in
     let e : Event = c.args.event.now in
     let f : Fits h e = fits_of h e c.requires.asked.kept.hart c.requires.asked.follows in
-    let walk : IsOverlapWalk h e (Some c.in-Some.number) c.met.row = subst (λ (o : Option ℕ). IsOverlapWalk h e o c.met.row) c.in-Some.is c.met.invariant in
+    let walk : IsOverlapWalk h e (Some c.in-Some.number) c.met.row =
+    subst (λ (o : Option ℕ). IsOverlapWalk h e o c.met.row) c.in-Some.is c.met.invariant in
     (named-low h f.known e.word (length h.events) c.in-Some.number walk.names).1
 
 pub index-met-requires : goal.index-met-requires
@@ -36,35 +41,48 @@ index-met-requires c =
     let h : Hart = hart_of c.args.self.now in
     let e : Event = c.args.event.now in
     let f : Fits h e = fits_of h e c.requires.asked.kept.hart c.requires.asked.follows in
-    let walk : IsOverlapWalk h e (Some c.in-Some.number) c.met.row = subst (λ (o : Option ℕ). IsOverlapWalk h e o c.met.row) c.in-Some.is c.met.invariant in
-    omega (arith, (named-low h f.known e.word (length h.events) c.in-Some.number walk.names).0, c.args.self.now.events.ok.0)
+    let walk : IsOverlapWalk h e (Some c.in-Some.number) c.met.row =
+    subst (λ (o : Option ℕ). IsOverlapWalk h e o c.met.row) c.in-Some.is c.met.invariant in
+    omega (
+      arith,
+      (named-low h f.known e.word (length h.events) c.in-Some.number walk.names).0,
+      c.args.self.now.events.ok.0,
+    )
 
 pub returns-then-is_store : goal.returns-then-is_store
 returns-then-is_store c =
     let h : Hart = hart_of c.args.self.now in
     let e : Event = c.args.event.now in
     let f : Fits h e = fits_of h e c.requires.asked.kept.hart c.requires.asked.follows in
-    let walk : IsOverlapWalk h e (Some c.in-Some.number) c.met.row = subst (λ (o : Option ℕ). IsOverlapWalk h e o c.met.row) c.in-Some.is c.met.invariant in
+    let walk : IsOverlapWalk h e (Some c.in-Some.number) c.met.row =
+    subst (λ (o : Option ℕ). IsOverlapWalk h e o c.met.row) c.in-Some.is c.met.invariant in
     let a : Event = walk.names.1.a in
     let ca = walk.names.1.of_list in
-    let same : c.index-met.result.now ≡ a = read_is h f.known a c.index-met.result.now c.in-Some.number ca walk.names.1.at c.index-met.ensures in
+    let same : c.index-met.result.now ≡ a =
+    read_is h f.known a c.index-met.result.now c.in-Some.number ca walk.names.1.at c.index-met.ensures in
     let store : IsStore a = subst IsStore same (c.is_store-in-Some.ensures.0 c.if-is_store.true) in
-    overlap-store h e f c.requires.asked.memory (c.is_store.ensures.0 c.if-not-is_store.false) c.in-Some.number c.met.row c.insert.new.self a walk ca walk.names.1.at store c.insert.ensures
+    overlap-store h e f c.requires.asked.memory (c.is_store.ensures.0 c.if-not-is_store.false) c.in-Some.number
+    c.met.row c.insert.new.self a walk ca walk.names.1.at store c.insert.ensures
 
 pub met-preserved : goal.met-preserved
 met-preserved c =
     let h : Hart = hart_of c.args.self.now in
     let e : Event = c.args.event.now in
     let f : Fits h e = fits_of h e c.requires.asked.kept.hart c.requires.asked.follows in
-    let walk : IsOverlapWalk h e (Some c.in-Some.number) c.met.row = subst (λ (o : Option ℕ). IsOverlapWalk h e o c.met.row) c.in-Some.is c.met.invariant in
+    let walk : IsOverlapWalk h e (Some c.in-Some.number) c.met.row =
+    subst (λ (o : Option ℕ). IsOverlapWalk h e o c.met.row) c.in-Some.is c.met.invariant in
     let a : Event = walk.names.1.a in
     let ca = walk.names.1.of_list in
-    let link : IsWordLink h.events a c.index-link.result.now = read_link h.events c.args.self.now.words c.requires.asked.kept.words a c.index-link.result.now c.in-Some.number ca walk.names.1.holds.0 (f.known.below a ca) walk.names.1.at c.index-link.ensures in
-    overlap-step h e f c.requires.asked.memory (c.is_store.ensures.0 c.if-not-is_store.false) c.in-Some.number c.met.row c.insert.new.self a c.index-link.result.now.previous walk ca walk.names.1.at c.insert.ensures link.previous
+    let link : IsWordLink h.events a c.index-link.result.now =
+    read_link h.events c.args.self.now.words c.requires.asked.kept.words a c.index-link.result.now
+    c.in-Some.number ca walk.names.1.holds.0 (f.known.below a ca) walk.names.1.at c.index-link.ensures in
+    overlap-step h e f c.requires.asked.memory (c.is_store.ensures.0 c.if-not-is_store.false) c.in-Some.number c.met.row
+    c.insert.new.self a c.index-link.result.now.previous walk ca walk.names.1.at c.insert.ensures link.previous
 
 pub returns : goal.returns
 returns c =
     let h : Hart = hart_of c.args.self.now in
     let e : Event = c.args.event.now in
     let f : Fits h e = fits_of h e c.requires.asked.kept.hart c.requires.asked.follows in
-    overlap-end h e f c.requires.asked.memory (c.is_store.ensures.0 c.if-not-is_store.false) c.met.row (subst (λ (o : Option ℕ). IsOverlapWalk h e o c.met.row) c.in_default.is c.met.invariant)
+    overlap-end h e f c.requires.asked.memory (c.is_store.ensures.0 c.if-not-is_store.false) c.met.row
+    (subst (λ (o : Option ℕ). IsOverlapWalk h e o c.met.row) c.in_default.is c.met.invariant)

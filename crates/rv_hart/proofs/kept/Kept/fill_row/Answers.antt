@@ -16,7 +16,8 @@ returns-then-not-is_memory c =
     let h : Hart = hart_of c.args.self.now in
     let e : Event = c.args.event.now in
     let f : Fits h e = fits_of h e c.requires.kept.hart c.requires.follows in
-    row-nothing h e f (λ m. false≢true (sym c.if-not-is_memory.true ∙ c.is_memory.ensures.1 m)) c.args.row.now c.requires.empty
+    row-nothing h e f (λ m. false≢true (sym c.if-not-is_memory.true ∙ c.is_memory.ensures.1 m)) c.args.row.now
+    c.requires.empty
 
 pub join_linked-requires : goal.join_linked-requires
 join_linked-requires c =

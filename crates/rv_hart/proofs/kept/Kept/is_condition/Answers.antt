@@ -1,7 +1,9 @@
 -- Each arm tests what its rule says.
 use Rattle.std.proofs.Common.{◌<◌, ℕ, arith}
 use Rattle.std.proofs.lemmas.Bool.{false≢true}
-use Rattle.rv_event.proofs.Conditions.{Condition-number, Condition-above, overlapping_store_at, different_reads_at, reads_atomic_write_at, after_acquire_at, before_release_at, both_rcsc_at, address_at, data_of_at}
+use Rattle.rv_event.proofs.Conditions.{Condition-number, Condition-above, overlapping_store_at}
+use Rattle.rv_event.proofs.Conditions.{different_reads_at, reads_atomic_write_at, after_acquire_at}
+use Rattle.rv_event.proofs.Conditions.{before_release_at, both_rcsc_at, address_at, data_of_at}
 use Rattle.rv_hart.proofs.Ruling.{reads-at}
 use Rattle.rv_hart.proofs.Knowing.{number-few}
 use Rattle.rv_hart.specs.Harts.{followed}

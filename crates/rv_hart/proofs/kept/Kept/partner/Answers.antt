@@ -14,7 +14,8 @@ returns-in_err-lr c =
     let h : Hart = hart_of c.args.self.now in
     let e : Event = c.args.event.now in
     let f : Fits h e = fits_of h e c.requires.kept.hart c.requires.follows in
-    let none : (a : Event) → Contains h.events a → IsReserving h.events a → ⊥ = subst (IsReservation h.events) c.in_err-lr.was c.requires.kept.sets.reserved in
+    let none : (a : Event) → Contains h.events a → IsReserving h.events a → ⊥ =
+    subst (IsReservation h.events) c.in_err-lr.was c.requires.kept.sets.reserved in
     rw c.from_residual.ensures (λ lr cl p. none lr cl (paired-reserving h e f lr p))
 
 pub index-requires : goal.index-requires
@@ -22,7 +23,8 @@ index-requires c =
     let h : Hart = hart_of c.args.self.now in
     let e : Event = c.args.event.now in
     let f : Fits h e = fits_of h e c.requires.kept.hart c.requires.follows in
-    let lr : HasEvent (IsReserving h.events) h.events c.in_ok-lr.lr = subst (IsReservation h.events) c.in_ok-lr.was c.requires.kept.sets.reserved in
+    let lr : HasEvent (IsReserving h.events) h.events c.in_ok-lr.lr =
+    subst (IsReservation h.events) c.in_ok-lr.was c.requires.kept.sets.reserved in
     let low : lr.a.id.seq < length h.events = f.known.below lr.a lr.of_list in
     let at : lr.a.id.seq ≡ c.in_ok-lr.lr = lr.at in
     omega (arith, c.args.self.now.events.ok.0)
@@ -32,7 +34,10 @@ returns c =
     let h : Hart = hart_of c.args.self.now in
     let e : Event = c.args.event.now in
     let f : Fits h e = fits_of h e c.requires.kept.hart c.requires.follows in
-    let lr : HasEvent (IsReserving h.events) h.events c.in_ok-lr.lr = subst (IsReservation h.events) c.in_ok-lr.was c.requires.kept.sets.reserved in
-    let same : c.index.result.now ≡ lr.a = read_is h f.known lr.a c.index.result.now c.in_ok-lr.lr lr.of_list lr.at c.index.ensures in
+    let lr : HasEvent (IsReserving h.events) h.events c.in_ok-lr.lr =
+    subst (IsReservation h.events) c.in_ok-lr.was c.requires.kept.sets.reserved in
+    let same : c.index.result.now ≡ lr.a =
+    read_is h f.known lr.a c.index.result.now c.in_ok-lr.lr lr.of_list lr.at c.index.ensures in
     let sc : e.op ≡ Sc = search (rules, tests) in
-    subst (λ (x : Event). Contains h.events x × Paired (followed h e) x e) (sym same) (lr.of_list, reserving-paired h e f lr.a lr.of_list lr.holds sc)
+    subst (λ (x : Event). Contains h.events x × Paired (followed h e) x e) (sym same)
+    (lr.of_list, reserving-paired h e f lr.a lr.of_list lr.holds sc)

@@ -3,66 +3,107 @@ use Rattle.std.proofs.lemmas.Bool.{false≢true}
 use Rattle.rv_event.specs.Operations.{IsStore}
 use Rattle.rv_event.specs.declared.event.Event.{Event}
 use Rattle.rv_hart.specs.Words.{IsLastBelow, IsWordLink, IsHighestStore}
-use Rattle.rv_hart.proofs.Wording.{numbered-below, numbered-read, wrote-same, highest-none, highest-before, highest-first, highest-here, highest-there}
+use Rattle.rv_hart.proofs.Wording.{numbered-below, numbered-read, wrote-same, highest-none, highest-before}
+use Rattle.rv_hart.proofs.Wording.{highest-first, highest-here, highest-there}
 use Rattle.rv_hart.proofs.Walking.{read_link}
 use Rattle.rv_hart.proofs.words.Words.highest_store.Goals as goal
 
 pub returns-in_err-number : goal.returns-in_err-number
 returns-in_err-number c =
-    let last : IsLastBelow c.args.events.now c.args.word (length c.args.events.now) None = subst (IsLastBelow c.args.events.now c.args.word (length c.args.events.now)) (sym c.last.ensures ∙ c.in_err-number.was) (c.requires.words.lasts c.args.word) in
+    let last : IsLastBelow c.args.events.now c.args.word (length c.args.events.now) None =
+    subst (IsLastBelow c.args.events.now c.args.word (length c.args.events.now))
+    (sym c.last.ensures ∙ c.in_err-number.was) (c.requires.words.lasts c.args.word) in
     rw c.from_residual.ensures (highest-none c.args.events.now c.args.word c.requires.numbered last)
 
 pub returns-then-not-is_store : goal.returns-then-not-is_store
 returns-then-not-is_store c =
     let es : List Event = c.args.events.now in
     let number : ℕ = c.in_ok-number.number in
-    let last : IsLastBelow es c.args.word (length es) (Some number) = subst (IsLastBelow es c.args.word (length es)) (sym c.last.ensures ∙ c.in_ok-number.was) (c.requires.words.lasts c.args.word) in
+    let last : IsLastBelow es c.args.word (length es) (Some number) = subst (IsLastBelow es c.args.word (length es))
+    (sym c.last.ensures ∙ c.in_ok-number.was) (c.requires.words.lasts c.args.word) in
     let a : Event = last.names.1.a in
     let ca = last.names.1.of_list in
     let at = last.names.1.at in
-    let same : c.index-events-number.result ≡ a = numbered-read es c.requires.numbered a c.index-events-number.result number ca at c.index-events-number.is in
-    let link : IsWordLink es a c.index.result.now = read_link es c.args.self.now c.requires.words a c.index.result.now number ca last.names.1.holds.0 (numbered-below es c.requires.numbered a ca) at c.index.ensures in
-    highest-before es c.requires.numbered c.args.word number a ca at last c.index.result.now.highest (λ s. false≢true (sym c.if-not-is_store.true ∙ c.is_store.ensures.1 (subst IsStore (sym same) s))) link.highest
+    let same : c.index-events-number.result ≡ a =
+    numbered-read es c.requires.numbered a c.index-events-number.result number ca at c.index-events-number.is in
+    let link : IsWordLink es a c.index.result.now =
+    read_link es c.args.self.now c.requires.words a c.index.result.now number ca last.names.1.holds.0
+    (numbered-below es c.requires.numbered a ca) at c.index.ensures in
+    highest-before es c.requires.numbered c.args.word number a ca at last c.index.result.now.highest
+    (λ s. false≢true (sym c.if-not-is_store.true ∙ c.is_store.ensures.1 (subst IsStore (sym same) s))) link.highest
 
 pub returns-in_default : goal.returns-in_default
 returns-in_default c =
     let es : List Event = c.args.events.now in
     let number : ℕ = c.in_ok-number.number in
-    let last : IsLastBelow es c.args.word (length es) (Some number) = subst (IsLastBelow es c.args.word (length es)) (sym c.last.ensures ∙ c.in_ok-number.was) (c.requires.words.lasts c.args.word) in
+    let last : IsLastBelow es c.args.word (length es) (Some number) = subst (IsLastBelow es c.args.word (length es))
+    (sym c.last.ensures ∙ c.in_ok-number.was) (c.requires.words.lasts c.args.word) in
     let a : Event = last.names.1.a in
     let ca = last.names.1.of_list in
     let at = last.names.1.at in
-    let same : c.index-events-number.result ≡ a = numbered-read es c.requires.numbered a c.index-events-number.result number ca at c.index-events-number.is in
-    let link : IsWordLink es a c.index.result.now = read_link es c.args.self.now c.requires.words a c.index.result.now number ca last.names.1.holds.0 (numbered-below es c.requires.numbered a ca) at c.index.ensures in
+    let same : c.index-events-number.result ≡ a =
+    numbered-read es c.requires.numbered a c.index-events-number.result number ca at c.index-events-number.is in
+    let link : IsWordLink es a c.index.result.now =
+    read_link es c.args.self.now c.requires.words a c.index.result.now number ca last.names.1.holds.0
+    (numbered-below es c.requires.numbered a ca) at c.index.ensures in
     let store : IsStore a = subst IsStore same (c.is_store.ensures.0 c.if-not-is_store.false) in
-    highest-first es c.requires.numbered c.args.word number a ca at last store (subst (IsHighestStore es a.word a.id.seq) c.in_default.is link.highest)
+    highest-first es c.requires.numbered c.args.word number a ca at last store
+    (subst (IsHighestStore es a.word a.id.seq) c.in_default.is link.highest)
 
 pub returns-then-events-store : goal.returns-then-events-store
 returns-then-events-store c =
     let es : List Event = c.args.events.now in
     let number : ℕ = c.in_ok-number.number in
-    let last : IsLastBelow es c.args.word (length es) (Some number) = subst (IsLastBelow es c.args.word (length es)) (sym c.last.ensures ∙ c.in_ok-number.was) (c.requires.words.lasts c.args.word) in
+    let last : IsLastBelow es c.args.word (length es) (Some number) = subst (IsLastBelow es c.args.word (length es))
+    (sym c.last.ensures ∙ c.in_ok-number.was) (c.requires.words.lasts c.args.word) in
     let a : Event = last.names.1.a in
     let ca = last.names.1.of_list in
     let at = last.names.1.at in
-    let same : c.index-events-number.result ≡ a = numbered-read es c.requires.numbered a c.index-events-number.result number ca at c.index-events-number.is in
-    let link : IsWordLink es a c.index.result.now = read_link es c.args.self.now c.requires.words a c.index.result.now number ca last.names.1.holds.0 (numbered-below es c.requires.numbered a ca) at c.index.ensures in
+    let same : c.index-events-number.result ≡ a =
+    numbered-read es c.requires.numbered a c.index-events-number.result number ca at c.index-events-number.is in
+    let link : IsWordLink es a c.index.result.now =
+    read_link es c.args.self.now c.requires.words a c.index.result.now number ca last.names.1.holds.0
+    (numbered-below es c.requires.numbered a ca) at c.index.ensures in
     let store : IsStore a = subst IsStore same (c.is_store.ensures.0 c.if-not-is_store.false) in
-    let high : IsHighestStore es a.word a.id.seq (Some c.in-Some.store) = subst (IsHighestStore es a.word a.id.seq) c.in-Some.is link.highest in
-    let other : c.index-events-store.result ≡ high.1.a = numbered-read es c.requires.numbered high.1.a c.index-events-store.result c.in-Some.store high.1.of_list high.1.at c.index-events-store.is in
-    highest-here es c.requires.numbered c.args.word number a ca at last store c.in-Some.store high (omega (arith, c.if-events-store.true, wrote-same c.index-events-number.result a same, wrote-same c.index-events-store.result high.1.a other, ap (λ (x : Event). x.wrote) c.index-events-store.is))
+    let high : IsHighestStore es a.word a.id.seq (Some c.in-Some.store) =
+    subst (IsHighestStore es a.word a.id.seq) c.in-Some.is link.highest in
+    let other : c.index-events-store.result ≡ high.1.a =
+    numbered-read es c.requires.numbered high.1.a c.index-events-store.result c.in-Some.store high.1.of_list
+    high.1.at c.index-events-store.is in
+    highest-here es c.requires.numbered c.args.word number a ca at last store c.in-Some.store high
+    (omega (
+      arith,
+      c.if-events-store.true,
+      wrote-same c.index-events-number.result a same,
+      wrote-same c.index-events-store.result high.1.a other,
+      ap (λ (x : Event). x.wrote) c.index-events-store.is,
+    ))
 
 pub returns-else-events-store : goal.returns-else-events-store
 returns-else-events-store c =
     let es : List Event = c.args.events.now in
     let number : ℕ = c.in_ok-number.number in
-    let last : IsLastBelow es c.args.word (length es) (Some number) = subst (IsLastBelow es c.args.word (length es)) (sym c.last.ensures ∙ c.in_ok-number.was) (c.requires.words.lasts c.args.word) in
+    let last : IsLastBelow es c.args.word (length es) (Some number) = subst (IsLastBelow es c.args.word (length es))
+    (sym c.last.ensures ∙ c.in_ok-number.was) (c.requires.words.lasts c.args.word) in
     let a : Event = last.names.1.a in
     let ca = last.names.1.of_list in
     let at = last.names.1.at in
-    let same : c.index-events-number.result ≡ a = numbered-read es c.requires.numbered a c.index-events-number.result number ca at c.index-events-number.is in
-    let link : IsWordLink es a c.index.result.now = read_link es c.args.self.now c.requires.words a c.index.result.now number ca last.names.1.holds.0 (numbered-below es c.requires.numbered a ca) at c.index.ensures in
+    let same : c.index-events-number.result ≡ a =
+    numbered-read es c.requires.numbered a c.index-events-number.result number ca at c.index-events-number.is in
+    let link : IsWordLink es a c.index.result.now =
+    read_link es c.args.self.now c.requires.words a c.index.result.now number ca last.names.1.holds.0
+    (numbered-below es c.requires.numbered a ca) at c.index.ensures in
     let store : IsStore a = subst IsStore same (c.is_store.ensures.0 c.if-not-is_store.false) in
-    let high : IsHighestStore es a.word a.id.seq (Some c.in-Some.store) = subst (IsHighestStore es a.word a.id.seq) c.in-Some.is link.highest in
-    let other : c.index-events-store.result ≡ high.1.a = numbered-read es c.requires.numbered high.1.a c.index-events-store.result c.in-Some.store high.1.of_list high.1.at c.index-events-store.is in
-    highest-there es c.requires.numbered c.args.word number a ca at last c.in-Some.store high (omega (arith, c.if-events-store.false, wrote-same c.index-events-number.result a same, wrote-same c.index-events-store.result high.1.a other, ap (λ (x : Event). x.wrote) c.index-events-store.is))
+    let high : IsHighestStore es a.word a.id.seq (Some c.in-Some.store) =
+    subst (IsHighestStore es a.word a.id.seq) c.in-Some.is link.highest in
+    let other : c.index-events-store.result ≡ high.1.a =
+    numbered-read es c.requires.numbered high.1.a c.index-events-store.result c.in-Some.store high.1.of_list
+    high.1.at c.index-events-store.is in
+    highest-there es c.requires.numbered c.args.word number a ca at last c.in-Some.store high
+    (omega (
+      arith,
+      c.if-events-store.false,
+      wrote-same c.index-events-number.result a same,
+      wrote-same c.index-events-store.result high.1.a other,
+      ap (λ (x : Event). x.wrote) c.index-events-store.is,
+    ))

@@ -10,7 +10,8 @@ use Rattle.rv_hart.proofs.words.Words.push.Goals as goal
 use Rattle.rv_hart.proofs.words.Words.push.Goals.{then-is_memory+in_ok-insert, else-is_memory}
 
 -- the words' last operations
-lasts : (c : goal.After-push_reserved) → (word : ℕ) → IsLastBelow (c.args.events.now ++ c.args.event.now ∷ []) word (length (c.args.events.now ++ c.args.event.now ∷ [])) (get nat_eq c.if-is_memory.self.lasts word)
+lasts : (c : goal.After-push_reserved) → (word : ℕ) → IsLastBelow (c.args.events.now ++ c.args.event.now ∷ []) word
+    (length (c.args.events.now ++ c.args.event.now ∷ [])) (get nat_eq c.if-is_memory.self.lasts word)
 lasts c =
     let es : List Event = c.args.events.now in
     let e : Event = c.args.event.now in
@@ -26,10 +27,13 @@ lasts c =
           (λ word apart. ap (λ m. get nat_eq m word) is ∙ u.2 word (ne_eqb e.word word apart)))
       | else-is_memory w ↦ (
           let is = ap (λ (x : Words). x.lasts) w.self-is in
-          lasts-same es e c.requires.numbered c.requires.next old new (λ m. false≢true (sym w.if-is_memory.false ∙ c.is_memory.ensures.1 m)) c.requires.words.lasts (λ word. ap (λ m. get nat_eq m word) is))
+          lasts-same es e c.requires.numbered c.requires.next old new
+          (λ m. false≢true (sym w.if-is_memory.false ∙ c.is_memory.ensures.1 m)) c.requires.words.lasts
+          (λ word. ap (λ m. get nat_eq m word) is))
     ]
 
-links : (c : goal.After-push_reserved) → c.push_reserved.new.self.items ≡ c.args.self.now.links.items ++ c.link_of-link.result ∷ []
+links : (c : goal.After-push_reserved) → c.push_reserved.new.self.items ≡ c.args.self.now.links.items ++
+    c.link_of-link.result ∷ []
 links c =
     let same : c.if-is_memory.self.links.items ≡ c.args.self.now.links.items = elim c.if-is_memory.branch [
       | then-is_memory+in_ok-insert w ↦ (ap (λ (x : Words). x.links.items) w.self-is ∙ c.reserve.ensures.items)
@@ -39,5 +43,6 @@ links c =
 
 pub returns-clause-pushed : goal.returns-clause-pushed
 returns-clause-pushed c =
-    words-push c.args.events.now c.args.event.now c.requires.numbered c.requires.next c.args.self.now (record { lasts = c.if-is_memory.self.lasts; links = c.push_reserved.new.self }) c.link_of-link.result
+    words-push c.args.events.now c.args.event.now c.requires.numbered c.requires.next c.args.self.now
+    (record { lasts = c.if-is_memory.self.lasts; links = c.push_reserved.new.self }) c.link_of-link.result
     c.requires.words (links c) c.link_of-link.ensures (lasts c)

@@ -115,7 +115,8 @@ returns-clause-placed c =
           low_succs grown local;
       exchanged = exchanged edges order preds succs low marks split list o inverse found new_edges new low_preds
           low_succs grown local;
-      taken = taken edges order preds succs low marks split list o inverse found new_edges new low_preds low_succs grown local;
+      taken = taken edges order preds succs low marks split list o inverse found new_edges new low_preds
+          low_succs grown local;
       visits = rw c.in_ok-add.ensures.visits (visits_listed edges order preds succs low marks split list o
           inverse found);
       rounds = c.in_ok-add.ensures.rounds ∙ c.search.ensures.same.rounds ∙ c.in_ok-begin.ensures.rounds;

@@ -5,7 +5,8 @@ use Rattle.rv_rows.proofs.row.Row.join_words.Given as goal
 abbrev pub invariant-words : goal.invariant-words
 invariant-words l =
     (length l.self-inside.words ≡ 64)
-    × ((j : ℕ) → j < l.k → get_or l.self-inside.words (l.initial.first + j) 0 ≡ bit_or (get_or l.initial.self-inside.words (l.initial.first + j) 0) (get_or l.initial.words j 0))
+    × ((j : ℕ) → j < l.k → get_or l.self-inside.words (l.initial.first + j) 0 ≡ bit_or
+    (get_or l.initial.self-inside.words (l.initial.first + j) 0) (get_or l.initial.words j 0))
     × ((j : ℕ) → j < l.initial.first → get_or l.self-inside.words j 0 ≡ get_or l.initial.self-inside.words j 0)
     × ((j : ℕ) → l.initial.first + l.k ≤ j → get_or l.self-inside.words j 0 ≡ get_or l.initial.self-inside.words j 0)
     × (l.self-inside.low ≡ l.initial.self-inside.low)

@@ -17,12 +17,14 @@ module _ (c : goal.After-truncate) where
 
 pub invariant_of-self : goal.invariant_of-self
 invariant_of-self c =
-    subst (λ (ws : List ℕ). AreLaid ws (front c)) (sym c.truncate.ensures.items) (laid_less (words c) (front c) c.in-Some.place (laid c))
+    subst (λ (ws : List ℕ). AreLaid ws (front c)) (sym c.truncate.ensures.items)
+    (laid_less (words c) (front c) c.in-Some.place (laid c))
 
 pub returns-in-Some : goal.returns-in-Some
 returns-in-Some c rows last is =
     ap (λ (ws : List ℕ). rows_of ws (front c)) c.truncate.ensures.items
-    ∙ rows_less (words c) (front c) c.in-Some.place rows last (laid c) (ap (rows_of (words c)) (sym c.in-Some.ensures.items) ∙ c.self.view_is ∙ is)
+    ∙ rows_less (words c) (front c) c.in-Some.place rows last (laid c)
+    (ap (rows_of (words c)) (sym c.in-Some.ensures.items) ∙ c.self.view_is ∙ is)
 
 pub returns-in_default : goal.returns-in_default
 returns-in_default c rows last is =

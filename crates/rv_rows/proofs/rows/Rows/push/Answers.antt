@@ -27,19 +27,22 @@ module _ (c : goal.After-push_reserved) where
   begins = c.len.ensures ∙ c.self.inside.words.ok.0
 
   few : length places < 4096
-  few = let below = c.requires.few in omega (arith, rows_count words places, ap (λ (rs : List (List ℕ)). length rs) c.self.view_is)
+  few = let below = c.requires.few in omega
+      (arith, rows_count words places, ap (λ (rs : List (List ℕ)). length rs) c.self.view_is)
 
 pub invariant_of-self-2 : goal.invariant_of-self-2
 invariant_of-self-2 c =
     subst (λ (ws : List ℕ). AreLaid ws c.push_reserved.new.self.items) (sym (longer c)) (
     subst (AreLaid (words c ++ part c)) (sym (more c))
-    (laid_more (words c) (part c) (places c) (place c) c.self.invariant (few c) (begins c) refl c.used-first.ensures.within))
+    (laid_more (words c) (part c) (places c) (place c) c.self.invariant (few c)
+    (begins c) refl c.used-first.ensures.within))
 
 pub returns-clause-pushed : goal.returns-clause-pushed
 returns-clause-pushed c = record {
   last = shifted (place c).first (part c);
   is_last =
-      (λ i. rows_of (longer c i) (more c i)) ∙ rows_more (words c) (part c) (places c) (place c) c.self.invariant (begins c) refl
+      (λ i. rows_of (longer c i) (more c i)) ∙ rows_more (words c) (part c) (places c) (place c) c.self.invariant
+      (begins c) refl
       ∙ ap (λ (rs : List (List ℕ)). rs ++ shifted (place c).first (part c) ∷ []) c.self.view_is;
   same = c.used-first.ensures.same;
 }

@@ -16,7 +16,8 @@ invariant_of-self-2 c =
     let xs = c.args.self.now in
     let n = c.start-place.result in
     subst AreByVersion (sym (made c))
-    (ordered_inserted xs (subst AreByVersion c.self.view_is c.self.invariant) c.args.access n c.start-place.ensures.bound
+    (ordered_inserted xs (subst AreByVersion c.self.view_is c.self.invariant) c.args.access n
+    c.start-place.ensures.bound
     c.requires (subst (λ (v : ℕ). IsStart xs (v + 1) n) c.from.ensures c.start-place.ensures.parted))
 
 pub returns-clause-inserted : goal.returns-clause-inserted

@@ -3,7 +3,8 @@ use Rattle.std.specs.HashMap.{get}
 use Rattle.rv_versions.specs.Indexes.{AreInserted, AreSame, AreAbsent}
 use Rattle.rv_versions.specs.Words.{no_accesses, together}
 use Rattle.rv_versions.specs.declared.accesses.Accesses.{Accesses}
-use Rattle.rv_versions.proofs.Placed.{here_is, from_inserted, from_same, still_in_place, are_inserted, are_same, absent_here}
+use Rattle.rv_versions.proofs.Placed.{here_is, from_inserted, from_same, still_in_place, are_inserted}
+use Rattle.rv_versions.proofs.Placed.{are_same, absent_here}
 use Rattle.rv_versions.proofs.Posted.{on_err, all_same}
 use Rattle.rv_versions.proofs.indexes.Indexes.insert_to.Goals.{After-index_mut-accesses, In_ok-insert, In_err-insert}
 use Rattle.rv_versions.proofs.indexes.Indexes.insert_to.Goals as goal

@@ -1,7 +1,8 @@
 -- What is listed is what the edges by versions ask for.
 use Rattle.rv_cover.proofs.Indexing.{indexed_from_events}
 use Rattle.rv_event.proofs.Indexed.{Indexed, Sound, sound_of}
-use Rattle.rv_versions.proofs.Around.{edge_before, edge_after, reason_of, other_of, warrant_before, warrant_after, Into, Out}
+use Rattle.rv_versions.proofs.Around.{edge_before, edge_after, reason_of, other_of, warrant_before}
+use Rattle.rv_versions.proofs.Around.{warrant_after, Into, Out}
 use Rattle.rv_versions.proofs.Carrying.{carried_before, carried_after}
 use Rattle.rv_versions.proofs.Nearest.{nearest}
 use Rattle.rv_versions.proofs.versions.Versions.around.Goals as goal

@@ -6,7 +6,8 @@ use Rattle.rv_versions.specs.Listed.{link}
 use Rattle.rv_versions.specs.Lookups.{IsForeignHigher}
 use Rattle.rv_versions.proofs.Listing.{no_atomic_out_after, atomic_out_after_of}
 use Rattle.rv_versions.proofs.versions.Versions.atomic_out_after.Goals as goal
-use Rattle.rv_versions.proofs.versions.Versions.atomic_out_after.Goals.{in_default-via-in-None-1, in_default-via-in-Some+in-None-1}
+use Rattle.rv_versions.proofs.versions.Versions.atomic_out_after.Goals.{in_default-via-in-None-1}
+use Rattle.rv_versions.proofs.versions.Versions.atomic_out_after.Goals.{in_default-via-in-Some+in-None-1}
 
 pub returns-in_ok-push : goal.returns-in_ok-push
 returns-in_ok-push c =

@@ -4,7 +4,8 @@ use Rattle.rv_versions.specs.Accesses.{id_of}
 use Rattle.rv_versions.specs.Lookups.{IsPairBetween}
 use Rattle.rv_versions.proofs.Listing.{on_ok, atomic_outs_before_of, no_atomic_outs}
 use Rattle.rv_versions.proofs.versions.Versions.atomic_out_before.Goals as goal
-use Rattle.rv_versions.proofs.versions.Versions.atomic_out_before.Goals.{then-not-is_store-via-then-not-is_store, then-not-is_store-via-else-not-is_store+then-not-has_pair_below}
+use Rattle.rv_versions.proofs.versions.Versions.atomic_out_before.Goals.{then-not-is_store-via-then-not-is_store}
+use Rattle.rv_versions.proofs.versions.Versions.atomic_out_before.Goals.{then-not-is_store-via-else-not-is_store+then-not-has_pair_below}
 
 pub returns : goal.returns
 returns c =

@@ -6,7 +6,8 @@ use Rattle.rv_versions.specs.Listed.{link}
 use Rattle.rv_versions.specs.Lookups.{IsHigherStore}
 use Rattle.rv_versions.proofs.Listing.{no_coherence_after, coherence_after_of}
 use Rattle.rv_versions.proofs.versions.Versions.coherence_after.Goals as goal
-use Rattle.rv_versions.proofs.versions.Versions.coherence_after.Goals.{else-is_store-via-else-is_store, else-is_store-via-then-is_store+in-None-1}
+use Rattle.rv_versions.proofs.versions.Versions.coherence_after.Goals.{else-is_store-via-else-is_store}
+use Rattle.rv_versions.proofs.versions.Versions.coherence_after.Goals.{else-is_store-via-then-is_store+in-None-1}
 
 pub returns-in_ok-push : goal.returns-in_ok-push
 returns-in_ok-push c =

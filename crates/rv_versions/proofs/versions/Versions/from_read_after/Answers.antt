@@ -6,7 +6,8 @@ use Rattle.rv_versions.specs.Listed.{link}
 use Rattle.rv_versions.specs.Lookups.{IsHigherStore}
 use Rattle.rv_versions.proofs.Listing.{no_from_read_after, from_read_after_of}
 use Rattle.rv_versions.proofs.versions.Versions.from_read_after.Goals as goal
-use Rattle.rv_versions.proofs.versions.Versions.from_read_after.Goals.{else-is_load-via-else-is_load, else-is_load-via-then-is_load+in-None-1}
+use Rattle.rv_versions.proofs.versions.Versions.from_read_after.Goals.{else-is_load-via-else-is_load}
+use Rattle.rv_versions.proofs.versions.Versions.from_read_after.Goals.{else-is_load-via-then-is_load+in-None-1}
 
 pub returns-in_ok-push : goal.returns-in_ok-push
 returns-in_ok-push c =

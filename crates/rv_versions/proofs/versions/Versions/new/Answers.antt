@@ -9,6 +9,7 @@ use Rattle.rv_versions.proofs.versions.Versions.new.Goals as goal
 
 pub invariant_of-result : goal.invariant_of-result
 invariant_of-result c =
-    subst (λ (log : List Event). AreIndexes log c.new-2.result.items c.new-3.result) (sym (ap events c.new.ensures.items))
+    subst (λ (log : List Event). AreIndexes log c.new-2.result.items c.new-3.result)
+    (sym (ap events c.new.ensures.items))
     (subst (λ (reserved : List (Option Reservation)). AreIndexes [] reserved c.new-3.result) (sym c.new-2.ensures.items)
     (subst (λ (indexes : Accesses). AreIndexes [] [] indexes) (sym c.new-3.ensures) indexes-nil))
