@@ -1,11 +1,12 @@
 -- A sweep over the candidates from the highest on.
 use Rattle.std.proofs.Common.{◌≡◌, ◌≢◌, ℕ, ◌<◌, ◌≤◌, Bool, true, false, not, ◌&&◌, ◌||◌, List, [], ◌∷◌, ◌++◌}
 use Rattle.std.proofs.Common.{Contains, Some, None, ◌∙◌, ap, sym, refl, inl, inr, arith, ◌⊎◌, ◌↔◌}
-use Rattle.std.proofs.Common.{slice_index_or, subst}
+use Rattle.std.proofs.Common.{slice_index_or, subst, append-nil, append_assoc, ◌+◌}
 use Rattle.std.proofs.lemmas.Bool.{cases_eq, cases_lt, false≢true}
 use Rattle.std.proofs.lemmas.List.Elements.{Contains-push, Contains-push_cases, Contains-append_left}
 use Rattle.rv_rows.specs.Bits.{has_bit, Has, IsHighest}
 use Rattle.rv_rows.specs.Closure.{RowHas, IsClosed, IsReached, IsThinned}
+use Rattle.rv_rows.specs.Laws.{IsSwept}
 
 -- what holds between two candidates that are taken
 pub record Swept (rows : List (List ℕ)) (first left : List ℕ) (listed : List ℕ) (top : ℕ) : Type 0 where
@@ -143,6 +144,32 @@ module _ (rows : List (List ℕ)) (first left left' listed : List ℕ) (top b : 
     unsplit = unsplit';
     apart = apart';
   }
+
+-- ---- a whole sweep
+module _ (rows : List (List ℕ)) (first : List ℕ) (closed : IsClosed rows)
+    (own : (j : ℕ) → Has first j → RowHas rows j j) where
+  -- the steps that are left, after some were done
+  rest-thins : (left listed rest : List ℕ) (top : ℕ) → Swept rows first left listed top → IsSwept rows left rest →
+      IsThinned rows first (listed ++ rest)
+  rest-thins left listed [] top s none =
+      subst (IsThinned rows first) (sym (append-nil listed)) (swept-done rows first left listed top s none)
+  rest-thins left listed (n ∷ rest) top s steps =
+      subst (IsThinned rows first) (append_assoc listed (n ∷ []) rest)
+      (rest-thins steps.0 (listed ++ n ∷ []) rest n
+      (swept-step rows first left steps.0 listed top n closed own s steps.1.0 steps.1.1) steps.2)
+
+  pub sweeps : (taken : List ℕ) → IsSwept rows first taken → IsThinned rows first taken
+  sweeps [] none =
+      let low : (b : ℕ) → Has first b → b < 0 = λ b h. absurd (false≢true (sym (none b) ∙ h)) in
+      swept-done rows first first [] 0 (swept-init rows first 0 low) none
+  sweeps (n ∷ rest) steps = rest-thins first [] (n ∷ rest) (n + 1) (swept-init rows first (n + 1) low) steps
+    where
+      low : (b : ℕ) → Has first b → b < n + 1
+      low b h = go (cases_lt b (n + 1))
+        where
+          go : (b < n + 1) ⊎ (n + 1 ≤ b) → b < n + 1
+          go (inl l) = l
+          go (inr l) = absurd (false≢true (sym (steps.1.0.2 b (omega arith)) ∙ h))
 
 -- ---- the rows of what was taken, joined
 -- the row has what the first one has, and what the rows of the numbers that were taken have

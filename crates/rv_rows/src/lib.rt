@@ -6,19 +6,22 @@
 //!
 //! - `row`: a set of numbers. `rows`: many, kept one after the other in one list of words.
 //! - `thinning`: a step of the sweep.
-//! - `specs/`: what a row has (`Bits`), how rows lie one after the other (`Flat`), what a step of a sweep takes, and what
-//!   a sweep leaves (`Closure`).
-//! - `proofs/Sweep`: a sweep of such steps leaves just that.
+//! - `laws`: what the steps of a whole sweep take.
+//! - `specs/`: what a row has (`Bits`), how rows lie one after the other (`Flat`), what a step of a sweep takes, and when
+//!   candidates are thinned (`Closure`), the law (`Laws`).
 //!
-//! It stands on std alone. Its one contract to the others: the highest candidate is taken, with all that its row has.
+//! It stands on std alone. Its one contract to the others: a step takes the highest candidate, with all that its row has;
+//! and the steps of a whole sweep over closed rows thin the candidates.
 #![tactic(auto)]
 
+mod laws;
 mod row;
 mod rows;
 #[cfg(test)]
 mod tests;
 mod thinning;
 
+pub use laws::sweeps_thin;
 pub use row::Row;
 pub use rows::Rows;
 pub use thinning::take_highest;
