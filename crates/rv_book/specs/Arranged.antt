@@ -52,10 +52,10 @@ pub record IsArranged (v : Arranged) : Type 0 where
   pub only : (a : ℕ) → a < length v.ids → IsOperation (happened v.history) (at v.ids a)
   pub once : (a b : ℕ) → a < length v.ids → b < length v.ids → at v.ids a ≡ at v.ids b → a ≡ b
   pub inside : (a b : ℕ) → Edge v.edges a b → (a < length v.ids) × (b < length v.ids)
-  pub true_edges : (a b : ℕ) → Edge v.edges a b → (r : Reason) × IsEdge v.model (happened v.history)
-      (at v.ids a) r (at v.ids b)
-  pub tied : (a b : ℕ) (r : Reason) → a < length v.ids → b < length v.ids → IsKept v.history (at v.ids a) r
-      (at v.ids b) → Edge v.edges a b
+  pub true_edges : (a b : ℕ) → Edge v.edges a b →
+      (r : Reason) × IsEdge v.model (happened v.history) (at v.ids a) r (at v.ids b)
+  pub tied : (a b : ℕ) (r : Reason) → a < length v.ids → b < length v.ids →
+      IsKept v.history (at v.ids a) r (at v.ids b) → Edge v.edges a b
   pub none_itself : (i : Id) (r : Reason) → IsEdge v.model (happened v.history) i r i → ⊥
   pub none_stale : (load store : Id) → IsStale (happened v.history) load store → ⊥
 

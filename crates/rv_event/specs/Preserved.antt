@@ -49,8 +49,7 @@ pub record AfterDependentAddress (log : List Event) (a b : Event) : Type 0 where
 
 -- The condition of each rule, by its number. 4: a fence orders a before b. 5: a has an acquire annotation. 6: b has a
 -- release annotation. 7: both have RCsc annotations. 8: a is paired with b. 9, 10: b has an address or a data
--- dependency
--- on a. 11: b is a store with a control dependency on a.
+-- dependency on a. 11: b is a store with a control dependency on a.
 pub data Condition (model : MemoryModel) (log : List Event) (a b : Event) : ℕ → Type 0 where
   overlapping_store : OverlappingStore a b → Condition model log a b 1
   different_reads : DifferentReads log a b → Condition model log a b 2

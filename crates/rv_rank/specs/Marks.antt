@@ -57,8 +57,8 @@ pub record IsSpread (ranks : List ℕ) (low : ℕ) (old new : List Mark) (mark :
   pub kept : (a : ℕ) → IsMarked low ranks old a → mark_of low ranks new a ≡ mark_of low ranks old a
   pub found : (a : ℕ) → Contains targets a → low ≤ slice_index ranks a → IsMarked low ranks new a
   pub only : (a : ℕ) → mark_of low ranks old a ≡ Free →
-      (mark_of low ranks new a ≡ Free) ⊎ ((mark_of low ranks new a ≡ mark) × Contains targets a ×
-      (low ≤ slice_index ranks a))
+      (mark_of low ranks new a ≡ Free) ⊎
+      ((mark_of low ranks new a ≡ mark) × Contains targets a × (low ≤ slice_index ranks a))
 
 -- the search forward has gone through the ranks below r, and each mark says where its node was found first
 pub record IsSearched (edges : List (List ℕ)) (ranks succs : List ℕ) (low : ℕ) (marks : List Mark)
