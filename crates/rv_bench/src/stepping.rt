@@ -3,7 +3,7 @@ ghost use Rattle.std.specs.Prelude.{◌≤◌, All, vec_len};
 ghost use Rattle.rv_run.specs.Gates.{IsAnswerFor};
 
 use rv_book::ChunkOffer;
-use rv_event::Chunk;
+use rv_chunk::Chunk;
 use rv_run::{Gate, InStep, drive};
 use rv_slots::{Slots, TableCarrier};
 use rv_verdict::VerdictCell;

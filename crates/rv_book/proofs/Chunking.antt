@@ -15,7 +15,7 @@ use Rattle.rv_cert.specs.declared.verdict.Verdict.TheVariants as verdict
 use Rattle.rv_book.specs.Booked.{Booked, IsTaken, IsOffered, IsVerdictOn, IsMalformedOn, IsForbiddenOn, Unchanged}
 use Rattle.rv_book.specs.declared.book.Offer.{Offer}
 use Rattle.rv_book.specs.declared.book.Offer.TheVariants.{Malformed, Forbidden}
-use Rattle.rv_event.specs.Packing.{Content}
+use Rattle.rv_chunk.specs.Packing.{Content}
 use Rattle.rv_book.specs.Chunked.{count_of_source, entries_of, HasTaken, StopsAt, IsTurn, IsOfferedAll}
 use Rattle.rv_book.specs.Chunked.{IsAnswered, rest_of, first_of}
 use Rattle.rv_book.specs.declared.book.ChunkOffer.{ChunkOffer}

@@ -7,7 +7,7 @@ use Rattle.std.proofs.lemmas.List.{drop-append-le, length-take-le, map-append}
 use Rattle.std.proofs.lemmas.List.Elements.{filter-append}
 use Rattle.rv_event.specs.Log.{events}
 use Rattle.rv_event.specs.Merges.{from_source}
-use Rattle.rv_event.specs.Packing.{Content}
+use Rattle.rv_chunk.specs.Packing.{Content}
 use Rattle.rv_event.specs.declared.event.Event.{Event}
 use Rattle.rv_event.specs.declared.event.Entry.{Entry}
 use Rattle.rv_book.specs.Booked.{Booked}

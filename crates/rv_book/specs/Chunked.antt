@@ -5,7 +5,7 @@ use Rattle.rv_event.specs.Log.{events}
 use Rattle.rv_event.specs.Merges.{from_source}
 use Rattle.rv_event.specs.declared.event.Event.{Event}
 use Rattle.rv_event.specs.declared.event.Entry.{Entry}
-use Rattle.rv_event.specs.Packing.{Content}
+use Rattle.rv_chunk.specs.Packing.{Content}
 use Rattle.rv_book.specs.Booked.{Booked, IsVerdictOn}
 use Rattle.rv_book.specs.declared.book.ChunkOffer.{ChunkOffer}
 use Rattle.rv_book.specs.declared.book.ChunkOffer.TheVariants.{Applied, NotYet, Already, Halted, Stopped, NoMemory}

@@ -10,7 +10,8 @@ use crate::arrangement::{Added, Arrangement};
 use crate::counts::count_operations;
 use crate::tally::Tally;
 use rv_cert::{Evidence, Forbidden, Malformed, Verdict};
-use rv_event::{Chunk, Entry, Event, Fault, Id, MemoryModel, NoMemory, find_deps_fault, unpack};
+use rv_chunk::{Chunk, unpack};
+use rv_event::{Entry, Event, Fault, Id, MemoryModel, NoMemory, find_deps_fault};
 use std::alloc::Global;
 use std::marker::Model;
 

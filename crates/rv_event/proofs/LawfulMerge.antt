@@ -4,10 +4,10 @@ use Rattle.std.proofs.Common.{◌≡◌, ℕ, List, [], Contains, Some, sym, ◌
 use Rattle.rv_event.proofs.Indexed.{Indexed, indexed_from_WellFormed}
 use Rattle.rv_event.proofs.Growing.{Grows, grows_from_Continues, named-grows, Contains-grows, Rule-grows}
 use Rattle.rv_event.proofs.Growing.{writer-grows, Paired-grows}
+use Rattle.rv_event.proofs.Merged.{SameHarts}
 use Rattle.rv_event.specs.Log.{events, writer}
 use Rattle.rv_event.specs.Orders.{IsOperation, Candidate, Lawful}
 use Rattle.rv_event.specs.WellFormed.{WellFormed, Continues, entries_of}
-use Rattle.rv_event.specs.Merges.{SameHarts}
 use Rattle.rv_event.specs.declared.event.Id.{Id}
 use Rattle.rv_event.specs.declared.event.Event.{Event}
 use Rattle.rv_event.specs.declared.event.Entry.{Entry}

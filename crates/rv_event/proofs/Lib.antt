@@ -1,8 +1,4 @@
 pub mod Bounded
-pub mod ChunkBack
-pub mod ChunkFill
-pub mod ChunkRead
-pub mod ChunkTest
 pub mod Checked
 pub mod Conditions
 pub mod Contexts

@@ -20,7 +20,6 @@ use Rattle.rv_event.specs.Faults.{fault_if, first_faults, expected, can_be_named
 use Rattle.rv_event.specs.Faults.{dependency_fault, taken_fault, reservation_fault, source_fault, deps_fault}
 use Rattle.rv_event.specs.Faults.{fault_of}
 use Rattle.rv_event.specs.WellFormed.{WellFormed, entries_of}
-use Rattle.rv_event.specs.Merges.{SameHarts}
 use Rattle.rv_event.specs.declared.event.Id.{Id}
 use Rattle.rv_event.specs.declared.event.Dep.{Dep}
 use Rattle.rv_event.specs.declared.event.Event.{Event}
@@ -166,6 +165,10 @@ Contains-unfilter {X} p (y ∷ ys) x c = go (p y) c (λ d. Contains-unfilter p y
     go true c again = ⊎_elim (λ e. Contains-here y ys x e) (λ d. Contains-there y ys x (again d))
         (Contains-cons y (filter p ys) x c)
     go false c again = Contains-there y ys x (again c)
+
+-- the two logs have the same entries of each hart, in the same order
+abbrev pub SameHarts : List Entry → List Entry → Type 0
+SameHarts one other = (hart : ℕ) → entries_of hart one ≡ entries_of hart other
 
 -- an event of a log is one of any log with the same events of its hart
 moved : (one other : List Event) (w : Event) → of_hart w.id.hart one ≡ of_hart w.id.hart other → Contains one w →

@@ -7,11 +7,11 @@ use Rattle.std.proofs.lemmas.Bool.{false≢true, or_parts, not-false}
 use Rattle.std.proofs.lemmas.List.Elements.{Contains-push_cases, All-contains, filter_passes}
 use Rattle.rv_event.proofs.Names.{Contains-cons, Contains-here, Contains-there}
 use Rattle.rv_event.proofs.Indexed.{NoneOf, lowest-none, fault_if-none}
-use Rattle.rv_event.proofs.Merged.{Contains-filter, Contains-unfilter, WellFormed-merge}
+use Rattle.rv_event.proofs.Merged.{SameHarts, Contains-filter, Contains-unfilter, WellFormed-merge}
 use Rattle.rv_event.specs.Log.{events}
 use Rattle.rv_event.specs.Faults.{first_faults, source_fault, deps_fault, fault_of}
 use Rattle.rv_event.specs.WellFormed.{WellFormed, entries_of}
-use Rattle.rv_event.specs.Merges.{SameHarts, SameSources}
+use Rattle.rv_event.specs.Merges.{SameSources}
 use Rattle.rv_event.specs.declared.event.Entry.{Entry}
 use Rattle.rv_event.specs.declared.fault.Fault.TheVariants.{OtherSource}
 

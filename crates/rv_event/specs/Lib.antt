@@ -1,6 +1,4 @@
 pub mod Annotations
-pub mod ChunkTexts
-pub mod Chunks
 pub mod Contexts
 pub mod Edges
 pub mod Faults
@@ -9,7 +7,6 @@ pub mod Log
 pub mod Merges
 pub mod Operations
 pub mod Orders
-pub mod Packing
 pub mod Preserved
 pub mod Relations
 pub mod Texts

@@ -1,11 +1,6 @@
--- Merges: logs that hold the same entries of each hart or source in their order. These are this project's own.
+-- Merges: logs that hold the same entries of each source in their order. These are this project's own.
 use Rattle.std.specs.Prelude.{ℕ, ◌==◌, ◌≡◌, List, filter}
-use Rattle.rv_event.specs.WellFormed.{entries_of}
 use Rattle.rv_event.specs.declared.event.Entry.{Entry}
-
--- the two logs have the same entries of each hart, in the same order
-abbrev pub SameHarts : List Entry → List Entry → Type 0
-SameHarts one other = (hart : ℕ) → entries_of hart one ≡ entries_of hart other
 
 -- the entries of a source, in order
 abbrev pub from_source : ℕ → List Entry → List Entry

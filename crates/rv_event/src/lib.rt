@@ -6,14 +6,10 @@
 //!   relations over lists of events, and take the memory model as a parameter.
 //! - [`search`], [`relations`], [`rules`], [`preserved`], [`edges`], [`faults`]: the plain program. It takes no memory, and
 //!   each function is exact against its definition. Nothing above this crate decides a definition a second time.
-//! - [`chunk`]: one to eight events as 58 words, the form in which they pass between threads.
 //!
-//! It stands on std alone. Its one contract to all others: what the plain program answers is what the definition says,
-//! and a chunk's words are the chunk text of its events.
+//! It stands on std alone. Its one contract to all others: what the plain program answers is what the definition says.
 #![tactic(auto)]
 
-mod chunk;
-mod codes;
 mod context;
 mod edges;
 mod event;
@@ -22,14 +18,12 @@ mod faults;
 mod laws;
 mod memory_model;
 mod no_memory;
-mod pack_fault;
 mod preserved;
 mod reason;
 mod relations;
 mod rules;
 mod search;
 
-pub use chunk::{Chunk, chunk_texts_tell, pack, unpack};
 pub use context::{Context, find_deps_fault, first_fault, is_bad_dependency};
 pub use edges::{find_reason, is_edge, is_stale};
 pub use event::{Dep, DepKind, Deps, Entry, Event, Id, Op, Set, is_same};
@@ -41,7 +35,6 @@ pub use laws::{
 };
 pub use memory_model::MemoryModel;
 pub use no_memory::NoMemory;
-pub use pack_fault::PackFault;
 pub use preserved::{is_preserved_by, lowest_rule};
 pub use reason::{Link, Reason};
 pub use relations::{

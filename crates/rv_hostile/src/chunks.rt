@@ -2,7 +2,8 @@
 use crate::offers::order_of;
 use crate::traces::{Class, Worked, entries_of, worked_traces};
 use rv_book::{Book, ChunkOffer};
-use rv_event::{Chunk, Entry, Event, NoMemory, pack};
+use rv_chunk::{Chunk, pack};
+use rv_event::{Entry, Event, NoMemory};
 use std::alloc::Global;
 use std::process::Abort;
 

@@ -1,7 +1,8 @@
 //! Each read of a source fails once: what was read before it is given, then the fault with its row, for ever.
 use crate::readers::Failing;
 use crate::traces::{HEADER, Worked, class_of, entries_of, text_of, texts_of, worked_traces};
-use rv_event::{Entry, NoMemory, unpack};
+use rv_chunk::unpack;
+use rv_event::{Entry, NoMemory};
 use rv_run::{Outcome, RunFault, Settings, run};
 use rv_trace::{Chunks, FaultKind, Trace, TraceFault};
 use std::alloc::Global;

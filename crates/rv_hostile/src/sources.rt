@@ -1,7 +1,8 @@
 //! Want of memory while a source is read: the events before it are given, then the fault with the row that was being
 //! read, for ever.
 use crate::traces::{entries_of, text_of, worked_traces};
-use rv_event::{Chunk, Entry, unpack};
+use rv_chunk::{Chunk, unpack};
+use rv_event::Entry;
 use rv_trace::{Chunks, FaultKind, Trace};
 use std::alloc::Global;
 use std::process::Abort;

@@ -1,8 +1,6 @@
 //! Chunk texts as the format has them, printed texts, and copies.
-use rv_event::{
-    Chunk, Dep, DepKind, Deps, Entry, Event, Fault, Id, NoMemory, Op, PackFault, Reason, Set,
-    is_same, pack, unpack,
-};
+use rv_chunk::{Chunk, PackFault, pack, unpack};
+use rv_event::{Dep, DepKind, Deps, Entry, Event, Fault, Id, NoMemory, Op, Reason, Set, is_same};
 use std::alloc::{AllocError, Global};
 use std::process::Abort;
 

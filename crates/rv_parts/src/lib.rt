@@ -3,7 +3,7 @@
 //! It has tests alone, and they call public functions alone. A crate with tests is proved twice, so they stand here in
 //! place of the crates that they test.
 //!
-//! - `event`: chunk texts, printed texts, refusals to pack and copies of `rv_event`.
+//! - `event`: printed texts and copies of `rv_event`, chunk texts and refusals to pack of `rv_chunk`.
 //! - `rank`: placements by the order keeper of `rv_rank`, some of them beside brute force.
 //! - `hart`: the links by rules of a hart's next event, of `rv_hart`.
 //! - `versions`: the links by versions of a log's next event, of `rv_versions`.

@@ -1,6 +1,6 @@
 -- What the answer to an offered chunk says of the chunk alone.
 use Rattle.std.specs.Prelude.{◌≤◌, ◌<◌, ◌*◌, length, ⊤}
-use Rattle.rv_event.specs.Packing.{Content}
+use Rattle.rv_chunk.specs.Packing.{Content}
 use Rattle.rv_book.specs.declared.book.ChunkOffer.{ChunkOffer}
 use Rattle.rv_book.specs.declared.book.ChunkOffer.TheVariants.{Applied, NotYet, Already, Halted, Stopped, NoMemory}
 

@@ -7,7 +7,8 @@ ghost use Rattle.rv_run.specs.Desks.{IsComplete, IsOver};
 ghost use Rattle.rv_run.specs.declared.desk.Progress.{Progress};
 
 use rv_book::{Book, ChunkOffer};
-use rv_event::{Chunk, MemoryModel};
+use rv_chunk::Chunk;
+use rv_event::MemoryModel;
 use std::alloc::Global;
 
 /// How far a source is: how many of its events the book has accepted, and how many it has in all, once it has

@@ -7,7 +7,8 @@ ghost use Rattle.rv_run.specs.Feeds.{GoesOn, IsFedOf, IsFeeding, IsPut, IsReadOf
 
 use crate::gate::Gate;
 use crate::waiting::Patience;
-use rv_event::{Chunk, Event, NoMemory, unpack};
+use rv_chunk::{Chunk, unpack};
+use rv_event::{Event, NoMemory};
 use rv_slots::{Carrier, Put};
 use rv_trace::{Chunks, TraceFault};
 use std::alloc::Global;

@@ -4,7 +4,8 @@ ghost use Rattle.rv_run.specs.Gates.{IsAnswerFor};
 
 use crate::desk::Desk;
 use rv_book::{Book, ChunkOffer};
-use rv_event::{Chunk, MemoryModel};
+use rv_chunk::Chunk;
+use rv_event::MemoryModel;
 use std::alloc::Global;
 use std::sync::{Mutex, Wait};
 use std::thread;

@@ -10,7 +10,7 @@ ghost use Rattle.std.specs.Prelude.{◌≡◌};
 
 use crate::gate::Gate;
 use rv_book::ChunkOffer;
-use rv_event::Chunk;
+use rv_chunk::Chunk;
 use rv_slots::{Carrier, Looked, Put};
 use std::sync::atomic::{AtomicU64, Ordering};
 use std::sync::{Condvar, Wait};

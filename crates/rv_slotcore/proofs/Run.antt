@@ -12,7 +12,7 @@ use Rattle.rv_slotcore.specs.Machine.{all_put, put_words, done_slot, freed_slot}
 use Rattle.rv_slotcore.specs.Machine.{claims, puts, publishes, publishes_if, pins_as}
 use Rattle.rv_slotcore.specs.Machine.{pins_on, gets, finishes, unpins, is_free_word, frees}
 use Rattle.rv_slotcore.specs.Machine.{frees_if, if_fits, word_of}
-use Rattle.rv_event.specs.Chunks.{is_chunk_text}
+use Rattle.rv_chunk.specs.Chunks.{is_chunk_text}
 use Rattle.rv_slotcore.specs.Safe.{Protected, Agreeing, Dated}
 use Rattle.rv_slotcore.proofs.Updates.{put_cases}
 use Rattle.rv_slotcore.proofs.Words.{word_reads, free_word, both_true}

@@ -5,7 +5,7 @@ use Rattle.std.specs.Prelude.{false, not, ◌&&◌, if◌then◌else◌, ◌==�
 use Rattle.std.specs.Prelude.{slice_index, slice_set, replicate}
 use Rattle.std.specs.Prelude.{Option, Some, None}
 use Rattle.std.specs.Int.{bit_at}
-use Rattle.rv_event.specs.Chunks.{is_chunk_text}
+use Rattle.rv_chunk.specs.Chunks.{is_chunk_text}
 use Rattle.rv_slotcore.specs.Places.{seats_at_most, claimed_bit, full_bit, done_bit, generation_bit}
 use Rattle.rv_slotcore.specs.Places.{last_generation}
 

@@ -2,7 +2,7 @@
 ghost use Rattle.std.specs.Prelude.{◌≡◌, ◌<◌, ◌≤◌, ◌&&◌, IfOk, OnErr, map, unwrap_or, is_some};
 ghost use Rattle.std.specs.Prelude.{vec_len};
 ghost use Rattle.std.specs.List.{list_all};
-ghost use Rattle.rv_event.specs.Chunks.{is_chunk_text};
+ghost use Rattle.rv_chunk.specs.Chunks.{is_chunk_text};
 ghost use Rattle.rv_slotcore.specs.Places.{seats_at_most};
 ghost use Rattle.rv_slotcore.specs.Machine.{claims, puts, publishes, pins_on, gets, finishes};
 ghost use Rattle.rv_slotcore.specs.Machine.{lets_go, unpins, frees, moves};
@@ -11,7 +11,8 @@ ghost use Rattle.rv_slotcore.specs.CoreIs.{Went, core_of, act_of, IsHeld, AllHel
 use crate::parts::{Parts, Record, SeatState};
 use crate::step::{Act, Answer, Step};
 use crate::word::{is_free_word, is_last};
-use rv_event::{Chunk, NoMemory};
+use rv_chunk::Chunk;
+use rv_event::NoMemory;
 
 /// The words that were put, 0 where there is none.
 fn put_words(words: &[Option<u64>; 58]) -> [u64; 58]

@@ -1,6 +1,6 @@
 -- A put and a publish keep the rule, and are the steps of the machine.
 use Rattle.rv_slotcore.specs.Places.{full_bit, generation_bit, slot_words}
-use Rattle.rv_event.specs.Chunks.{is_chunk_text}
+use Rattle.rv_chunk.specs.Chunks.{is_chunk_text}
 use Rattle.std.proofs.Common.{◌≡◌, ℕ, zero, suc, ◌+◌, ◌*◌, ◌/◌, ◌^◌, ◌<◌}
 use Rattle.std.proofs.Common.{true, ◌&&◌, nat_lt, List, [], ◌∷◌, get_or}
 use Rattle.std.proofs.Common.{set, bit_or, Option, Some, None, Contains, sym, refl, ap, ◌∙◌}

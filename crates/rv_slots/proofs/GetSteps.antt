@@ -1,6 +1,6 @@
 -- A get keeps the rule, and is the step of the machine.
 use Rattle.rv_slotcore.specs.Places.{seats_at_most, slot_words}
-use Rattle.rv_event.specs.Chunks.{is_chunk_text}
+use Rattle.rv_chunk.specs.Chunks.{is_chunk_text}
 use Rattle.std.proofs.Common.{◌≡◌, ◌⊎◌, ℕ, zero, suc, ◌+◌, ◌*◌, ◌<◌}
 use Rattle.std.proofs.Common.{true, ◌&&◌, nat_lt, List, [], ◌∷◌, length, get_or}
 use Rattle.std.proofs.Common.{set, Option, Some, None, Contains, sym, refl, ap, ◌∙◌}

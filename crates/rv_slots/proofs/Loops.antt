@@ -13,7 +13,10 @@ use Rattle.rv_slots.specs.declared.seats.Seat.{Seat}
 use Rattle.rv_slots.specs.declared.seats.Free.{Free}
 use Rattle.rv_slots.specs.Calls.{IsUnpin, IsFree}
 use Rattle.rv_slots.specs.Carried.{IsLetGo}
-use Rattle.rv_slots.specs.Carrying.{HasWords}
+
+-- the words below j are there
+abbrev pub HasWords : List (Option ℕ) → List ℕ → ℕ → Type 0
+HasWords ws xs j = (m : ℕ) → m < j → get_or ws m None ≡ Some (get_or xs m 0)
 
 pub has_none : (ws : List (Option ℕ)) (xs : List ℕ) → HasWords ws xs 0
 has_none ws xs m h = absurd (omega arith)

@@ -1,6 +1,6 @@
 -- A pin keeps the rule, and is the step of the machine.
 use Rattle.rv_slotcore.specs.Places.{generation_bit, seats_at_most, slot_words}
-use Rattle.rv_event.specs.Chunks.{is_chunk_text}
+use Rattle.rv_chunk.specs.Chunks.{is_chunk_text}
 use Rattle.std.proofs.Common.{◌≡◌, ◌⊎◌, ℕ, ◌*◌, ◌/◌, ◌^◌, ◌<◌}
 use Rattle.std.proofs.Common.{Bool, true, false, not, ◌&&◌, nat_lt, List, [], ◌∷◌}
 use Rattle.std.proofs.Common.{get_or, bit_or, Contains, sym, refl, ap}

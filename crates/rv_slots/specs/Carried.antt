@@ -1,8 +1,8 @@
 -- What the calls of a carrier over the table do, in the words of the table's own calls.
 use Rattle.std.specs.Prelude.{◌≡◌, ◌<◌, ◌≤◌, ◌+◌, ◌⊎◌, ℕ, Bool, true, false, List, Some, drop}
 use Rattle.std.specs.Int.{bit_at}
-use Rattle.rv_event.specs.Chunks.{chunk_text}
-use Rattle.rv_event.specs.Packing.{Content}
+use Rattle.rv_chunk.specs.Chunks.{chunk_text}
+use Rattle.rv_chunk.specs.Packing.{Content}
 use Rattle.rv_slotcore.specs.Places.{claimed_bit}
 use Rattle.rv_slotcore.specs.Machine.{all_put, put_words}
 use Rattle.rv_slots.specs.declared.views.SeatView.{SeatView}

@@ -2,8 +2,8 @@
 use Rattle.std.specs.Prelude.{◌≡◌, ℕ, List}
 use Rattle.std.specs.declared.option.Option.{Option}
 use Rattle.std.specs.declared.option.Option.TheVariants.{Some, None}
-use Rattle.rv_event.specs.Chunks.{chunk_text}
-use Rattle.rv_event.specs.Packing.{Content}
+use Rattle.rv_chunk.specs.Chunks.{chunk_text}
+use Rattle.rv_chunk.specs.Packing.{Content}
 
 abbrev pub words_of : Content → List ℕ
 words_of c = chunk_text c.source c.number c.events

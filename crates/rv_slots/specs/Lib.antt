@@ -7,7 +7,6 @@ pub mod Steps
 pub mod Looks
 pub mod Carried
 pub mod Says
-pub mod Carrying
 pub mod Here
 pub mod Held
 pub mod Leases

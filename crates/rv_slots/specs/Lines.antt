@@ -1,7 +1,7 @@
 -- What a seat knows after each of its steps, and what a step tells it.
 use Rattle.rv_slotcore.specs.Places.{claimed_bit, done_bit, full_bit, generation_bit, last_seat}
 use Rattle.rv_slotcore.specs.Places.{slot_words}
-use Rattle.rv_event.specs.Chunks.{is_chunk_text}
+use Rattle.rv_chunk.specs.Chunks.{is_chunk_text}
 use Rattle.std.specs.Prelude.{◌≡◌, ◌/◌, ◌*◌, ◌+◌, ◌^◌, ◌<◌, ◌≤◌, slice_set, Contains, Bool, true}
 use Rattle.std.specs.Prelude.{false, ◌-◌, ℕ, zero, suc, List, [], ◌∷◌, slice_index_or, drop, take}
 use Rattle.std.specs.Prelude.{Option, Some, None, replicate, ◌==◌, ◌++◌}

@@ -1,7 +1,7 @@
 -- The table's rule: between any two exchanges the words, the views' seats and their records are a
 -- state that the machine reaches.
 use Rattle.rv_slotcore.specs.Places.{seats_at_most, slot_words}
-use Rattle.rv_event.specs.Chunks.{is_chunk_text}
+use Rattle.rv_chunk.specs.Chunks.{is_chunk_text}
 use Rattle.std.specs.Prelude.{◌≡◌, ◌<◌, ◌≤◌, ◌+◌, ◌*◌, ℕ, Bool, true}
 use Rattle.std.specs.Prelude.{List, [], ◌∷◌, length, slice_index, slice_index_or, Option}
 use Rattle.std.specs.Prelude.{Some, None, Contains}

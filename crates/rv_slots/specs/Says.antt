@@ -1,7 +1,7 @@
 -- What the rule says of the table between any two exchanges.
 use Rattle.rv_slotcore.specs.Places.{claimed_bit, done_bit, full_bit, generation_bit}
 use Rattle.rv_slotcore.specs.Places.{seats_at_most, slot_words}
-use Rattle.rv_event.specs.Chunks.{is_chunk_text}
+use Rattle.rv_chunk.specs.Chunks.{is_chunk_text}
 use Rattle.std.specs.Prelude.{◌≡◌, ◌<◌, ◌≤◌, ◌+◌, ◌*◌, ◌/◌, ◌^◌, ◌↔◌, ℕ, true, List, slice_index}
 use Rattle.std.specs.Prelude.{slice_index_or, Option, Some, None, Contains}
 use Rattle.std.specs.Int.{bit_at}

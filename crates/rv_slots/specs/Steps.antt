@@ -1,7 +1,7 @@
 -- Each exchange is the step of the machine that its name says.
 use Rattle.rv_slotcore.specs.Places.{claimed_bit, done_bit, full_bit, generation_bit}
 use Rattle.rv_slotcore.specs.Places.{last_generation, slot_words}
-use Rattle.rv_event.specs.Chunks.{is_chunk_text}
+use Rattle.rv_chunk.specs.Chunks.{is_chunk_text}
 use Rattle.std.specs.Prelude.{◌≡◌, ◌≢◌, ◌<◌, ◌+◌, ◌*◌, ◌/◌, ◌^◌, ◌==◌, ℕ, true, bit_or, slice_index}
 use mathlib.Core.Option.{some, none}
 use lib.ListN.{get_elem?}

@@ -1,6 +1,6 @@
 //! The calls by which a seat fills, reads and frees slots, each of them one exchange.
 ghost use Rattle.std.specs.Prelude.{◌≡◌, ◌<◌, ◌*◌, ℕ, true, Some};
-ghost use Rattle.rv_event.specs.Chunks.{is_chunk_text};
+ghost use Rattle.rv_chunk.specs.Chunks.{is_chunk_text};
 ghost use Rattle.rv_slotcore.specs.Machine.{all_put, put_words};
 ghost use Rattle.rv_slots.specs.Calls.{IsClaim, IsSameFilling, IsPublish, IsPin, IsSamePinned};
 ghost use Rattle.rv_slots.specs.Calls.{IsUnpin, IsFree, filling_view, pinned_view, stray_view};

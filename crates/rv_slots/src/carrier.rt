@@ -1,7 +1,7 @@
 //! What hands chunks from thread to thread.
 ghost use Rattle.rv_slots.specs.Looks.{LooksFit};
 
-use rv_event::Chunk;
+use rv_chunk::Chunk;
 use std::sync::Wait;
 
 /// What became of a chunk that was to be put.

@@ -15,7 +15,7 @@
 //! - `specs/Rule.antt`: the rule that ties the words of the table, and what all seats know, to a state of the machine.
 //!   `specs/Lines.antt`: each exchange's change of what its seat knows. `specs/Says.antt`, `Steps.antt`: the laws.
 //!
-//! It stands on `rv_event` for chunks, on `rv_slotcore` for the machine and on the kit's `atomic_table` and `thiserror`.
+//! It stands on `rv_chunk` for chunks, on `rv_slotcore` for the machine and on the kit's `atomic_table` and `thiserror`.
 //! Its contract to the others: what is found is a chunk, a seat that comes back is one of the carrier's, and over every
 //! interleaving no slot of the table is freed or filled anew while a seat has it pinned.
 #![tactic(auto)]

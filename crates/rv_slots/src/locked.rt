@@ -7,7 +7,7 @@ ghost use Rattle.rv_slots.specs.declared.fault.SlotsFault.TheVariants as fault;
 use crate::carrier::{Carrier, Looked, Put};
 use crate::fault::SlotsFault;
 use crate::slot::Slot;
-use rv_event::Chunk;
+use rv_chunk::Chunk;
 use std::alloc::{AllocError, Global};
 use std::marker::Model;
 use std::sync::{Mutex, Wait};

@@ -4,7 +4,7 @@ ghost use Rattle.rv_slots.specs.Held.{HasChunk};
 ghost use Rattle.rv_slots.specs.declared.carrier.Put.TheVariants as put;
 
 use crate::carrier::Put;
-use rv_event::Chunk;
+use rv_chunk::Chunk;
 
 /// A place for one chunk. It is full where it has one.
 ///

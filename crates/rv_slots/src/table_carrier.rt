@@ -1,6 +1,6 @@
 //! A carrier over the table.
 ghost use Rattle.std.specs.Prelude.{◌≡◌, ◌<◌, ◌*◌, ℕ, true, length};
-ghost use Rattle.rv_event.specs.Chunks.{is_chunk_text};
+ghost use Rattle.rv_chunk.specs.Chunks.{is_chunk_text};
 ghost use Rattle.rv_slots.specs.Calls.{IsSamePinned};
 ghost use Rattle.rv_slots.specs.Looks.{LooksFit};
 ghost use Rattle.rv_slots.specs.Here.{IsHere, IsLent};
@@ -9,7 +9,7 @@ ghost use Rattle.rv_slots.specs.Carried.{IsFilled, IsRead, IsPutOf, IsLook, IsFi
 use crate::carrier::{Carrier, Looked, Put};
 use crate::seats::{Claim, Filling, Pin, Pinned, Seat};
 use crate::slots::Slots;
-use rv_event::Chunk;
+use rv_chunk::Chunk;
 use std::sync::Wait;
 
 /// A carrier whose slots stand in a table without a lock.

@@ -1,5 +1,6 @@
 //! Worked runs of the machine, and its refusals.
-use rv_event::{Deps, Event, Id, Op, pack};
+use rv_chunk::pack;
+use rv_event::{Deps, Event, Id, Op};
 use rv_slotcore::{Act, Answer, Core, SeatState, Step};
 use std::alloc::Global;
 use std::process::Abort;

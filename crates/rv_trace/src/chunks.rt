@@ -1,7 +1,7 @@
 //! The events of a source, eight to a chunk.
 ghost use Rattle.std.specs.Prelude.{◌≡◌, ◌+◌, ◌*◌, ◌<◌, ◌≤◌, [], length, All, true, false};
 ghost use Rattle.std.specs.Prelude.{IfOk, IfErr, IfSome, IsOkAnd, OnOk};
-ghost use Rattle.rv_event.specs.Chunks.{IsPackable};
+ghost use Rattle.rv_chunk.specs.Chunks.{IsPackable};
 ghost use Rattle.rv_trace.specs.Calls.{IfFirst, IfGiven, IsAtEnd, IsReadWhere, OnEnd};
 ghost use Rattle.rv_trace.specs.Chunks.{IsFaultWithin, IsFullOrLast, IsNearRow, TakesEvents, fresh_chunks};
 ghost use Rattle.rv_trace.specs.Faults.{NeverCsv};
@@ -9,7 +9,8 @@ ghost use Rattle.rv_trace.specs.Trace.{IsWhole};
 
 use crate::fault::{FaultKind, TraceFault};
 use crate::trace::Trace;
-use rv_event::{Chunk, Event, pack};
+use rv_chunk::{Chunk, pack};
+use rv_event::Event;
 use std::alloc::Global;
 use std::io::Read;
 use std::marker::Model;

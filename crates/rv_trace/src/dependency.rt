@@ -1,6 +1,6 @@
 //! The dependencies of a row.
 ghost use Rattle.std.specs.Prelude.{◌≡◌, ◌≤◌, true, length, IfOk, IfErr};
-ghost use Rattle.rv_event.specs.Chunks.{AreSmall};
+ghost use Rattle.rv_chunk.specs.Chunks.{AreSmall};
 ghost use Rattle.rv_trace.specs.Dependencies.{dependencies, dependency, each_dependency, letter, parts};
 ghost use Rattle.rv_trace.specs.Faults.{IsOfTextOrMemory, is_of_text};
 ghost use Rattle.rv_trace.specs.Steps.{Gives, GivesOrMemory};

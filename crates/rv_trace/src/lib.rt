@@ -7,8 +7,8 @@
 //! - `specs/`: the grammar of a row by cases, and what the bytes of a source say as a whole: its events in order, and
 //!   how it ends.
 //!
-//! It stands on `rv_event` for events and chunks, and on the kit's `csv` and `thiserror`. Its one contract to all others:
-//! what is given is what the grammar makes of the records of the source, in order, up to its first fault.
+//! It stands on `rv_event` and `rv_chunk`, and on the kit's `csv` and `thiserror`. Its one contract to all others: what is
+//! given is what the grammar makes of the records of the source, in order, up to its first fault.
 #![tactic(auto)]
 
 mod chunks;

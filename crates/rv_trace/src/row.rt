@@ -1,7 +1,7 @@
 //! What one record says.
 ghost use Rattle.std.specs.Prelude.{◌≡◌, IfOk, IfErr};
 ghost use Rattle.csv.specs.Records.{fields_of};
-ghost use Rattle.rv_event.specs.Chunks.{IsPackable};
+ghost use Rattle.rv_chunk.specs.Chunks.{IsPackable};
 ghost use Rattle.rv_trace.specs.Faults.{IsOfTextOrMemory};
 ghost use Rattle.rv_trace.specs.Row.{event_of, field};
 ghost use Rattle.rv_trace.specs.Steps.{GivesOrMemory};

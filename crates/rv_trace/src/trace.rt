@@ -2,7 +2,7 @@
 ghost use Rattle.std.specs.Prelude.{◌≡◌, ◌+◌, ◌<◌, ◌≤◌, true, false, bytes_eq};
 ghost use Rattle.std.specs.Prelude.{IfErr, IfSome, OnOk, option_map};
 ghost use Rattle.csv.specs.Records.{fields_of};
-ghost use Rattle.rv_event.specs.Chunks.{IsPackable};
+ghost use Rattle.rv_chunk.specs.Chunks.{IsPackable};
 ghost use Rattle.rv_trace.specs.Calls.{IfFirst, IfGiven, IsAtEnd, IsReadWhere, OnEnd};
 ghost use Rattle.rv_trace.specs.Faults.{NeverCsv};
 ghost use Rattle.rv_trace.specs.Row.{field};

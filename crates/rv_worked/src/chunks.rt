@@ -2,7 +2,8 @@
 use crate::allowed::{WorkedAllowed, allowed};
 use crate::rows::{Bits, Row, X, Y, event_of, load, row, store};
 use rv_book::{Book, ChunkOffer};
-use rv_event::{Chunk, Id, MemoryModel, Op, pack, unpack};
+use rv_chunk::{Chunk, pack, unpack};
+use rv_event::{Id, MemoryModel, Op};
 use std::alloc::Global;
 use std::process::Abort;
 

@@ -1,6 +1,6 @@
 //! The events of a source in chunks.
 use super::readers::{Endless, Failing, HEADER, fault};
-use rv_event::unpack;
+use rv_chunk::unpack;
 use rv_trace::{Chunks, FaultKind, TraceFault};
 use std::alloc::Global;
 use std::io::Read;

@@ -3,7 +3,8 @@ ghost use Rattle.std.specs.Prelude.{◌≤◌, All, vec_len};
 
 use super::rows::{STORE_BUFFERING, source_of};
 use rv_book::ChunkOffer;
-use rv_event::{Chunk, MemoryModel};
+use rv_chunk::Chunk;
+use rv_event::MemoryModel;
 use rv_run::{BookGate, FeedEnd, Gate, ServeEnd, drive};
 use rv_slots::{Carrier, LockedSlots, Looked, Put, Slots, TableCarrier};
 use rv_trace::Chunks;

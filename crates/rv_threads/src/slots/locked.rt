@@ -1,5 +1,6 @@
 //! Slots under the lock.
-use rv_event::{Chunk, Deps, Event, Id, Op, pack};
+use rv_chunk::{Chunk, pack};
+use rv_event::{Deps, Event, Id, Op};
 use rv_slots::{Carrier, LockedLease, LockedSeat, LockedSlots, Looked, Put, SlotsFault};
 use std::alloc::Global;
 use std::process::Abort;

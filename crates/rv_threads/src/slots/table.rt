@@ -1,7 +1,8 @@
 //! Worked rows of the table, two threads at one slot, and a carrier over a table.
 ghost use Rattle.std.specs.Prelude.{◌≡◌, ◌<◌, ℕ, All};
 
-use rv_event::{Chunk, Deps, Event, Id, Op, pack};
+use rv_chunk::{Chunk, pack};
+use rv_event::{Deps, Event, Id, Op};
 use rv_slots::{
     Carrier, Claim, Free, Looked, Pin, Pinned, Put, Seat, Slots, SlotsFault, TableCarrier,
 };

@@ -1,5 +1,5 @@
 use Rattle.std.proofs.Common.{◌≡◌, ◌+◌, ◌-◌, ◌≤◌, [], None, true, false, length, All}
-use Rattle.rv_event.specs.Chunks.{IsPackable}
+use Rattle.rv_chunk.specs.Chunks.{IsPackable}
 use Rattle.rv_trace.specs.Chunks.{TakesEvents}
 use Rattle.rv_trace.proofs.chunks.take_events.Given as goal
 

@@ -1,5 +1,5 @@
 use Rattle.std.proofs.Common.{◌≡◌, drop, length}
-use Rattle.rv_event.specs.Chunks.{AreSmall}
+use Rattle.rv_chunk.specs.Chunks.{AreSmall}
 use Rattle.rv_trace.specs.Dependencies.{each_dependency, parts}
 use Rattle.rv_trace.proofs.Parts.{with_front}
 use Rattle.rv_trace.proofs.dependency.each_of.Given as goal

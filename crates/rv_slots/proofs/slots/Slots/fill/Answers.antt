@@ -1,5 +1,5 @@
 use Rattle.std.proofs.Common.{ℕ, ap, ◌∙◌}
-use Rattle.rv_event.specs.Chunks.{is_chunk_text}
+use Rattle.rv_chunk.specs.Chunks.{is_chunk_text}
 use Rattle.rv_slots.specs.Lines.{put_in, published}
 use Rattle.rv_slots.specs.Calls.{filling_view}
 use Rattle.rv_slots.proofs.Loops.{put_all}

@@ -1,7 +1,7 @@
 use Rattle.std.proofs.Common.{◌≡◌}
 use Rattle.rv_slots.specs.Calls.{filling_view}
 use Rattle.rv_slots.specs.Lines.{put_in}
-use Rattle.rv_slots.specs.Carrying.{HasWords}
+use Rattle.rv_slots.proofs.Loops.{HasWords}
 use Rattle.rv_slots.specs.Carried.{IsSameBook}
 use Rattle.rv_slots.proofs.slots.Slots.fill.Given as goal
 

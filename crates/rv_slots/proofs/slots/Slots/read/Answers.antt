@@ -1,5 +1,5 @@
 use Rattle.std.proofs.Common.{◌≡◌, length, arith, sym, ap, ◌∙◌, List, ℕ, Option, true≢false}
-use Rattle.rv_event.specs.Chunks.{is_chunk_text}
+use Rattle.rv_chunk.specs.Chunks.{is_chunk_text}
 use Rattle.rv_slots.specs.Lines.{pin_words}
 use Rattle.rv_slots.specs.Calls.{pinned_view}
 use Rattle.rv_slots.specs.declared.seats.Pinned.{Pinned}

@@ -1,7 +1,7 @@
 use Rattle.std.proofs.Common.{◌≡◌, ◌<◌, length, drop}
 use Rattle.rv_slots.specs.Calls.{pinned_view, IsSamePinned}
 use Rattle.rv_slots.specs.Lines.{pin_words, IsText}
-use Rattle.rv_slots.specs.Carrying.{HasWords}
+use Rattle.rv_slots.proofs.Loops.{HasWords}
 use Rattle.rv_slots.proofs.slots.Slots.read.Given as goal
 
 abbrev pub invariant-loop-place : goal.invariant-loop-place

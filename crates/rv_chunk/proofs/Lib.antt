@@ -1,0 +1,4 @@
+pub mod ChunkBack
+pub mod ChunkFill
+pub mod ChunkRead
+pub mod ChunkTest

@@ -1,0 +1,3 @@
+pub mod ChunkTexts
+pub mod Chunks
+pub mod Packing
