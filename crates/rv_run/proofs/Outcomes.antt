@@ -23,7 +23,7 @@ use Rattle.rv_report.specs.declared.outcome.Outcome.TheVariants.{Allowed, Forbid
 use Rattle.rv_run.specs.Comparisons.{AgreesWith, IsBegun, IsFaultIn}
 use Rattle.rv_run.specs.Feeds.{IsFedOf, IsEndOf}
 use Rattle.rv_run.specs.Replays.{IsConsistent, IsReplayed, IsAllowed}
-use Rattle.rv_run.specs.Sources.{AreWellFormed, EndsIn, HasReadAll, IsAllOf, IsFaultAmong, IsForbidden}
+use Rattle.rv_run.specs.Sources.{AreWellFormed, EndsIn, HasReadAll, IsAllOf, IsFaultAmong, IsRefused}
 use Rattle.rv_run.specs.Sources.{IsPartOf, IsTrueOf}
 use Rattle.rv_run.specs.declared.fault.RunFault.{RunFault}
 use Rattle.rv_run.specs.declared.fault.RunFault.TheVariants as fault
@@ -187,18 +187,19 @@ final-refutes model streams f entries known told read ok =
 pub runs-agree :
     (model : MemoryModel) (streams : List (Option Stream)) (one other : Outcome) → All IsSome streams →
     IsTrueOf model streams one → IsTrueOf model streams other →
-    IsAllowed one → IsForbidden other → ⊥
-runs-agree model streams (Allowed e o w) (Forbidden f) known one other allowed forbidden =
+    IsAllowed one → IsRefused other → ⊥
+runs-agree model streams (Allowed e o w) (Forbidden f) known one other allowed refused =
     final-refutes model streams f one.0 known other one.1 one.2
-runs-agree model streams (Allowed e o w) (Allowed e' o' w') known one other allowed forbidden = forbidden
-runs-agree model streams (Allowed e o w) (Malformed m) known one other allowed forbidden = forbidden
-runs-agree model streams (Forbidden f) other known one told allowed forbidden = allowed
-runs-agree model streams (Malformed m) other known one told allowed forbidden = allowed
+runs-agree model streams (Allowed e o w) (Malformed m) known one other allowed refused =
+    other.3 known (one.0, one.1, one.2.well_formed)
+runs-agree model streams (Allowed e o w) (Allowed e' o' w') known one other allowed refused = refused
+runs-agree model streams (Forbidden f) other known one told allowed refused = allowed
+runs-agree model streams (Malformed m) other known one told allowed refused = allowed
 
-not-both : (outcome : Outcome) → IsAllowed outcome → IsForbidden outcome → ⊥
-not-both (Allowed e o w) allowed forbidden = forbidden
-not-both (Forbidden f) allowed forbidden = allowed
-not-both (Malformed m) allowed forbidden = allowed
+not-both : (outcome : Outcome) → IsAllowed outcome → IsRefused outcome → ⊥
+not-both (Allowed e o w) allowed refused = refused
+not-both (Forbidden f) allowed refused = allowed
+not-both (Malformed m) allowed refused = allowed
 
 run-allowed :
     (model : MemoryModel) (streams : List (Option Stream)) (entries : List Entry) (run : Outcome) → All IsSome streams →
@@ -209,26 +210,27 @@ run-allowed model streams entries (Allowed e o w) known read told allowed =
 run-allowed model streams entries (Forbidden f) known read told allowed = absurd allowed
 run-allowed model streams entries (Malformed m) known read told allowed = absurd allowed
 
-run-forbidden :
+run-refused :
     (model : MemoryModel) (streams : List (Option Stream)) (entries : List Entry) (run : Outcome) → All IsSome streams →
     HasReadAll 0 streams entries →
-    IsTrueOf model streams run → IsForbidden run → IsConsistent model entries → ⊥
-run-forbidden model streams entries (Allowed e o w) known read told forbidden ok = forbidden
-run-forbidden model streams entries (Forbidden f) known read told forbidden ok =
+    IsTrueOf model streams run → IsRefused run → IsConsistent model entries → ⊥
+run-refused model streams entries (Allowed e o w) known read told refused ok = refused
+run-refused model streams entries (Forbidden f) known read told refused ok =
     final-refutes model streams f entries known told read ok
-run-forbidden model streams entries (Malformed m) known read told forbidden ok = forbidden
+run-refused model streams entries (Malformed m) known read told refused ok =
+    told.3 known (entries, read, ok.well_formed)
 
 pub passes-agree :
     (model : MemoryModel) (streams : List (Option Stream)) (entries merge : List Entry) (run pass : Outcome) →
     All IsSome streams → HasReadAll 0 streams entries → SameSources entries merge → IsTrueOf model streams run →
     IsReplayed model merge pass →
-    (IsAllowed run → IsForbidden pass → ⊥) × (IsForbidden run → IsAllowed pass → ⊥)
+    (IsAllowed run → IsRefused pass → ⊥) × (IsRefused run → IsAllowed pass → ⊥)
 passes-agree model streams entries merge run pass known read same told passed = (
-  λ allowed forbidden. not-both pass
+  λ allowed refused. not-both pass
       ((exactly_allowed model merge pass passed).1
       (consistent-merge model entries merge same (run-allowed model streams entries run known read told allowed)))
-      forbidden,
-  λ forbidden allowed. run-forbidden model streams entries run known read told forbidden
+      refused,
+  λ refused allowed. run-refused model streams entries run known read told refused
       (consistent-merge model merge entries (λ source. sym (same source))
       ((exactly_allowed model merge pass passed).0 allowed)),
 )

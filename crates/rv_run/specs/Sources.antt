@@ -68,16 +68,16 @@ IsFaultAmong streams NoMemory = ⊤
 IsFaultAmong streams Lost = ⊤
 IsFaultAmong streams Settings = ⊤
 
-abbrev pub IsForbidden : Outcome → Type 0
-IsForbidden (Allowed events operations waiting) = ⊥
-IsForbidden (Forbidden f) = ⊤
-IsForbidden (Malformed m) = ⊥
+abbrev pub IsRefused : Outcome → Type 0
+IsRefused (Allowed events operations waiting) = ⊥
+IsRefused (Forbidden f) = ⊤
+IsRefused (Malformed m) = ⊤
 
--- runs over the same sources, whose bytes are known, agree: none is allowed where another is forbidden
+-- runs over the same sources, whose bytes are known, agree: none is allowed where another is refused
 abbrev pub RunsAgree : Type 0
 RunsAgree =
     (model : MemoryModel) (streams : List (Option Stream)) (one other : Outcome) → All IsSome streams →
-    IsTrueOf model streams one → IsTrueOf model streams other → IsAllowed one → IsForbidden other → ⊥
+    IsTrueOf model streams one → IsTrueOf model streams other → IsAllowed one → IsRefused other → ⊥
 
 -- and so do a run over sources and a pass over their entries, in whatever order the sources are merged
 abbrev pub PassesAgree : Type 0
@@ -85,4 +85,4 @@ PassesAgree =
     (model : MemoryModel) (streams : List (Option Stream)) (entries merge : List Entry) (run pass : Outcome) →
     All IsSome streams → HasReadAll 0 streams entries → SameSources entries merge →
     IsTrueOf model streams run → IsReplayed model merge pass →
-    (IsAllowed run → IsForbidden pass → ⊥) × (IsForbidden run → IsAllowed pass → ⊥)
+    (IsAllowed run → IsRefused pass → ⊥) × (IsRefused run → IsAllowed pass → ⊥)
