@@ -9,6 +9,7 @@ use Rattle.rv_report.specs.declared.outcome.Outcome.TheVariants as outcome
 use Rattle.rv_run.specs.declared.fault.RunFault.TheVariants as fault
 use Rattle.rv_trace.specs.declared.fault.FaultKind.{FaultKind}
 use Rattle.rv_trace.specs.declared.fault.FaultKind.TheVariants as kind
+use Rattle.rv_words.specs.declared.request.WordsFault.TheVariants as words
 use Rattle.rvmon.specs.declared.ending.Ending.{Ending}
 use Rattle.rvmon.specs.declared.ending.Ending.TheVariants.{Ran, Failed, Words, NotText, NotOpened}
 
@@ -40,14 +41,17 @@ printed false o = report_text o
 printed true o = json_text o ⋯ line_feed
 
 -- Where the sources were judged: the whole report and the status of the outcome, or status 3. Else nothing stands on
--- standard output, and the status says whether the input was wrong (2) or something failed (3). What is said of
--- refused words, and of help, is the parser's.
+-- standard output, and the status says whether the input was wrong (2) or something failed (3). What is said where the
+-- parser refuses the words, or is asked for help, is the parser's; help that cannot be written is status 3.
 abbrev pub IsSettled : Ending → Bool → Option (List ℕ) → Option (List ℕ) → ℕ → Type 0
 IsSettled (Ran o) json old new status = ((status ≡ status_of o) × Appends old new (printed json o)) ⊎ (status ≡ 3)
 IsSettled (Failed (fault.Trace source f)) json old new status = (status ≡ status_of_kind f.kind) × (new ≡ old)
 IsSettled (Failed fault.NoMemory) json old new status = (status ≡ 3) × (new ≡ old)
 IsSettled (Failed fault.Lost) json old new status = (status ≡ 3) × (new ≡ old)
 IsSettled (Failed fault.Settings) json old new status = (status ≡ 3) × (new ≡ old)
-IsSettled (Words f) json old new status = ⊤
+IsSettled (Words words.TooMany) json old new status = (status ≡ 2) × (new ≡ old)
+IsSettled (Words words.NoMemory) json old new status = (status ≡ 3) × (new ≡ old)
+IsSettled (Words (words.Parse e)) json old new status =
+    ((status ≡ 2) × (new ≡ old)) ⊎ ((status ≡ 0) ⊎ (status ≡ 3))
 IsSettled NotText json old new status = (status ≡ 2) × (new ≡ old)
 IsSettled (NotOpened name) json old new status = (status ≡ 3) × (new ≡ old)

@@ -120,7 +120,10 @@ fn status_of(outcome: &Outcome) -> u8
 }
 
 /// Writes the help, or why the words were refused.
-fn settle_parse<O: Write, E: Write>(out: &mut O, errors: &mut E, error: &ParseError) -> u8 {
+fn settle_parse<O: Write, E: Write>(out: &mut O, errors: &mut E, error: &ParseError) -> u8
+    ensures { ((result ≡ WRONG_INPUT) × (O.contents out.new ≡ O.contents out.old))
+        ⊎ ((result ≡ ALLOWED) ⊎ (result ≡ FAILED)) }
+{
     if error.use_stderr() {
         let _ = write!(errors, "{error}");
         return WRONG_INPUT;
