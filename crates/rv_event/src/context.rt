@@ -19,7 +19,7 @@ pub struct Context {
     /// How many events of the event's hart the log has.
     pub count: u32,
     /// Whether one of the event's dependencies is bad: on no earlier event, on one that returns no value, or of a kind that
-    /// the operation has not.
+    /// the operation does not have.
     pub depends_badly: bool,
     /// The first store that wrote the version that the event writes.
     pub writer: Option<Id>,

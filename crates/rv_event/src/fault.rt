@@ -14,7 +14,8 @@ pub enum Fault {
     Hart,
     /// The event's number is not the number of its hart's events so far, which is named.
     Sequence(u32),
-    /// A dependency on an event that is not earlier, on one that returns no value, or of a kind that the operation has not.
+    /// A dependency on an event that is not earlier, on one that returns no value, or of a kind that the operation does
+    /// not have.
     Dependency,
     /// A store of version 0, which is the word's initial value.
     VersionZero,

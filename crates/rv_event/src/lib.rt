@@ -5,7 +5,9 @@
 //! - `specs/`: the definitions, one file a topic, each with the section of the RISC-V manual that it restates. They are
 //!   relations over lists of events, and take the memory model as a parameter.
 //! - [`search`], [`relations`], [`rules`], [`preserved`], [`edges`], [`faults`]: the plain program. It takes no memory, and
-//!   each function is exact against its definition. Nothing above this crate decides a definition a second time.
+//!   each function is exact against its definition. [`context`] has the faults of an event by what a log tells of it, for
+//!   the plain program's scans and for whoever keeps an index.
+//! - [`laws`]: what the definitions say of one another.
 //!
 //! It stands on std alone. Its one contract to all others: what the plain program answers is what the definition says.
 #![tactic(auto)]
@@ -40,4 +42,5 @@ pub use reason::{Link, Reason};
 pub use relations::{
     depends_on, does_order, is_acquire, is_fenced, is_paired, is_rcsc, is_release,
 };
+pub use rules::{is_overlapping_store, reads_atomic_write};
 pub use search::{find_named, find_writer};

@@ -22,8 +22,8 @@ fn does_return(load: &Event, store: &Event) -> bool
     load.word == store.word && load.read == store.wrote
 }
 
-/// Whether b is a store of the word of a.
-fn is_overlapping_store(a: &Event, b: &Event) -> bool
+/// Whether b is a store of the word of a: rule 1 (manual, section 14.1, "Preserved Program Order").
+pub fn is_overlapping_store(a: &Event, b: &Event) -> bool
     ensures { IsTrue result ↔ OverlappingStore a.now b.now }
 {
     b.is_store() && a.word == b.word
@@ -49,8 +49,9 @@ fn are_different_reads(log: &[Entry], a: &Event, b: &Event) -> bool
         && is_free_of_stores(log, a, b)
 }
 
-/// Whether a is an AMO or an SC, and b a load that returns what it wrote.
-fn reads_atomic_write(a: &Event, b: &Event) -> bool
+/// Whether a is an AMO or an SC, and b a load that returns what it wrote: rule 3 (manual, section 14.1, "Preserved Program
+/// Order").
+pub fn reads_atomic_write(a: &Event, b: &Event) -> bool
     ensures { IsTrue result ↔ ReadsAtomicWrite a.now b.now }
 {
     (a.op == Op::Amo || a.op == Op::Sc) && b.is_load() && does_return(b, a)

@@ -2,9 +2,9 @@
 //!
 //! Preserved program order is what the manual's thirteen rules order of a hart's operations (section 14.1,
 //! "Preserved Program Order"). A [`HartOrder`] keeps a hart's events, and lists for the next one the earlier events
-//! that a rule orders before it, each with the lowest such rule, but none before which another listed one stands by
-//! rules. It looks at no pair of events: sets of the hart's events, one bit an event, are joined and subtracted 64
-//! at a time.
+//! that a rule orders before it, each with the lowest such rule, and leaves out those from which rules lead on to
+//! another listed one. It looks at no pair of events: sets of the hart's events, one bit an event, are joined and
+//! subtracted 64 at a time.
 //!
 //! - [`hart`]: the type. Inside it [`kept`]: events, rows, sets and words together.
 //! - [`sets`]: rows of the events by what a rule asks of them (loads, acquires, what a fence orders); they grow

@@ -1,7 +1,6 @@
 //! The lowest rule of preserved program order that orders one of a hart's operations before the next one, by a test of
 //! a few steps for each rule (manual, section 14.1, "Preserved Program Order").
 ghost use Rattle.std.specs.Prelude.{◌↔◌, ◌⊎◌, IsTrue};
-ghost use Rattle.rv_event.specs.Preserved.{OverlappingStore, ReadsAtomicWrite};
 ghost use Rattle.rv_event.specs.Annotations.{IsRcsc};
 ghost use Rattle.rv_event.specs.Relations.{DependsOn};
 ghost use Rattle.rv_event.specs.declared.event.DepKind.TheVariants.{Addr, DataOf};
@@ -12,8 +11,10 @@ ghost use Rattle.rv_hart.specs.RuleRows.{RuleRowIs, IsOperationOf, ConditionOf, 
 
 use crate::kept::Kept;
 use crate::rows::has_if;
-use crate::rules::is_atomic;
-use rv_event::{DepKind, Event, MemoryModel, Op, depends_on, is_acquire, is_rcsc, is_release};
+use rv_event::{
+    DepKind, Event, MemoryModel, Op, depends_on, is_acquire, is_overlapping_store, is_rcsc,
+    is_release, reads_atomic_write,
+};
 use rv_rows::Row;
 
 impl Kept {
@@ -56,7 +57,7 @@ impl Kept {
         ensures { IsTrue result ↔ ConditionOf (hart_of self.now) event.now rule met.now }
     {
         match rule {
-            1 => does_overlap(met, event),
+            1 => is_overlapping_store(met, event),
             2 => reads.has(met.id.seq as usize),
             3 => reads_atomic_write(met, event),
             4 => self.is_fenced(met, event),
@@ -127,20 +128,6 @@ impl Kept {
     {
         has_if(&self.sets.addressed, event.is_store(), met.id.seq as usize)
     }
-}
-
-/// Rule 1: whether the event is a store of the word of the one that was met.
-fn does_overlap(met: &Event, event: &Event) -> bool
-    ensures { IsTrue result ↔ OverlappingStore met.now event.now }
-{
-    event.is_store() && met.word == event.word
-}
-
-/// Rule 3: whether the event is a load that returns what the other one, an AMO or an SC, wrote.
-fn reads_atomic_write(met: &Event, event: &Event) -> bool
-    ensures { IsTrue result ↔ ReadsAtomicWrite met.now event.now }
-{
-    is_atomic(met.op) && event.is_load() && event.word == met.word && event.read == met.wrote
 }
 
 /// Rule 7: whether both have an RCsc annotation.

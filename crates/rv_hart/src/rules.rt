@@ -139,7 +139,7 @@ impl Kept {
 }
 
 /// Whether it is an AMO or an SC.
-pub fn is_atomic(op: Op) -> bool
+fn is_atomic(op: Op) -> bool
     ensures { IsTrue result ↔ ((op ≡ Amo) ⊎ (op ≡ Sc)) }
 {
     matches!(op, Op::Amo | Op::Sc)

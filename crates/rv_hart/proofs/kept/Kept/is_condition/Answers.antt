@@ -24,8 +24,8 @@ pub returns-in-1 : goal.returns-in-1
 returns-in-1 c =
     let h : Hart = hart_of c.args.self.now in
     let e : Event = c.args.event.now in
-    overlapping_store_at h.model (followed h e) c.args.met.now e c.args.rule c.does_overlap.result c.in-1.is
-    c.does_overlap.ensures
+    overlapping_store_at h.model (followed h e) c.args.met.now e c.args.rule c.is_overlapping_store.result c.in-1.is
+    c.is_overlapping_store.ensures
 
 pub returns-in-2 : goal.returns-in-2
 returns-in-2 c =
