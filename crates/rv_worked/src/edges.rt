@@ -85,12 +85,7 @@ fn histories_preserve_program_order_by_the_lowest_rule(rt: HostRuntime) {
             hart: 0,
             seq: worked.to,
         };
-        assert_eq!(rt;
-            history.preserved(from, to).unwrap_or(0),
-            worked.rule,
-            "{}",
-            worked.name
-        );
+        assert_eq!(rt; history.preserved(from, to), worked.rule, "{}", worked.name);
     }
 }
 

@@ -5,14 +5,14 @@ use crate::rows::{
 };
 use rv_event::{Id, MemoryModel, Op, is_preserved_by, lowest_rule};
 
-/// A history of one hart, two of its events, and the lowest rule between them, 0 for none.
+/// A history of one hart, two of its events, and the lowest rule between them.
 pub struct WorkedHistory {
     pub name: &'static str,
     pub model: MemoryModel,
     pub rows: &'static [Row],
     pub from: u32,
     pub to: u32,
-    pub rule: u8,
+    pub rule: Option<u8>,
 }
 
 const HISTORIES: &[WorkedHistory] = &[
@@ -22,7 +22,7 @@ const HISTORIES: &[WorkedHistory] = &[
         rows: &[load!(0: 0, X = 0), store!(0: 1, X = 1)],
         from: 0,
         to: 1,
-        rule: 1,
+        rule: Some(1),
     },
     WorkedHistory {
         name: "loads of one word that return one version",
@@ -30,7 +30,7 @@ const HISTORIES: &[WorkedHistory] = &[
         rows: &[load!(0: 0, X = 1), load!(0: 1, X = 1)],
         from: 0,
         to: 1,
-        rule: 0,
+        rule: None,
     },
     WorkedHistory {
         name: "an acquire before a load",
@@ -38,7 +38,7 @@ const HISTORIES: &[WorkedHistory] = &[
         rows: &[lr!(0: 0, X = 0, Acquire), load!(0: 1, Y = 0)],
         from: 0,
         to: 1,
-        rule: 5,
+        rule: Some(5),
     },
     WorkedHistory {
         name: "a release after a store",
@@ -46,7 +46,7 @@ const HISTORIES: &[WorkedHistory] = &[
         rows: &[store!(0: 0, X = 1), amo!(0: 1, Y, 0, 1, Release)],
         from: 0,
         to: 1,
-        rule: 6,
+        rule: Some(6),
     },
     WorkedHistory {
         name: "a release before an acquire, both RCsc",
@@ -54,7 +54,7 @@ const HISTORIES: &[WorkedHistory] = &[
         rows: &[amo!(0: 0, X, 0, 1, Release), amo!(0: 1, Y, 0, 1, Acquire)],
         from: 0,
         to: 1,
-        rule: 7,
+        rule: Some(7),
     },
     WorkedHistory {
         name: "an address that depends on a load",
@@ -62,7 +62,7 @@ const HISTORIES: &[WorkedHistory] = &[
         rows: &[load!(0: 0, X = 0), load!(0: 1, Y = 0, ADDRESS_0)],
         from: 0,
         to: 1,
-        rule: 9,
+        rule: Some(9),
     },
     WorkedHistory {
         name: "data that depend on a load",
@@ -70,7 +70,7 @@ const HISTORIES: &[WorkedHistory] = &[
         rows: &[load!(0: 0, X = 0), store!(0: 1, Y = 1, DATA_0)],
         from: 0,
         to: 1,
-        rule: 10,
+        rule: Some(10),
     },
     WorkedHistory {
         name: "a store after a branch on a load",
@@ -82,7 +82,7 @@ const HISTORIES: &[WorkedHistory] = &[
         ],
         from: 0,
         to: 2,
-        rule: 11,
+        rule: Some(11),
     },
     WorkedHistory {
         name: "a branch is no memory operation",
@@ -94,7 +94,7 @@ const HISTORIES: &[WorkedHistory] = &[
         ],
         from: 0,
         to: 1,
-        rule: 0,
+        rule: None,
     },
     WorkedHistory {
         name: "a load that returns what a dependent store wrote",
@@ -106,7 +106,7 @@ const HISTORIES: &[WorkedHistory] = &[
         ],
         from: 0,
         to: 2,
-        rule: 12,
+        rule: Some(12),
     },
     WorkedHistory {
         name: "forwarding alone orders nothing",
@@ -118,7 +118,7 @@ const HISTORIES: &[WorkedHistory] = &[
         ],
         from: 1,
         to: 2,
-        rule: 0,
+        rule: None,
     },
     WorkedHistory {
         name: "a store after an address that depends on a load",
@@ -130,7 +130,7 @@ const HISTORIES: &[WorkedHistory] = &[
         ],
         from: 0,
         to: 2,
-        rule: 13,
+        rule: Some(13),
     },
     WorkedHistory {
         name: "a store after a load of another word",
@@ -142,7 +142,7 @@ const HISTORIES: &[WorkedHistory] = &[
         ],
         from: 1,
         to: 2,
-        rule: 0,
+        rule: None,
     },
     WorkedHistory {
         name: "a load after a store of another word",
@@ -150,7 +150,7 @@ const HISTORIES: &[WorkedHistory] = &[
         rows: &[store!(0: 0, X = 1), load!(0: 1, Y = 0)],
         from: 0,
         to: 1,
-        rule: 0,
+        rule: None,
     },
     WorkedHistory {
         name: "a pair of two words",
@@ -158,7 +158,7 @@ const HISTORIES: &[WorkedHistory] = &[
         rows: &[lr!(0: 0, X = 0), sc!(0: 1, Y = 1)],
         from: 0,
         to: 1,
-        rule: 8,
+        rule: Some(8),
     },
     WorkedHistory {
         name: "a load of what an AMO wrote: the lower of two rules",
@@ -166,7 +166,7 @@ const HISTORIES: &[WorkedHistory] = &[
         rows: &[amo!(0: 0, X, 0, 1), load!(0: 1, X = 1)],
         from: 0,
         to: 1,
-        rule: 2,
+        rule: Some(2),
     },
     WorkedHistory {
         name: "a load of what an SC wrote",
@@ -174,7 +174,7 @@ const HISTORIES: &[WorkedHistory] = &[
         rows: &[lr!(0: 0, X = 0), sc!(0: 1, X = 1), load!(0: 2, X = 1)],
         from: 1,
         to: 2,
-        rule: 3,
+        rule: Some(3),
     },
     WorkedHistory {
         name: "a load of what an AMO wrote, past a store",
@@ -182,7 +182,7 @@ const HISTORIES: &[WorkedHistory] = &[
         rows: &[amo!(0: 0, X, 0, 1), store!(0: 1, X = 2), load!(0: 2, X = 1)],
         from: 0,
         to: 2,
-        rule: 3,
+        rule: Some(3),
     },
     WorkedHistory {
         name: "a fence of all operations",
@@ -194,7 +194,7 @@ const HISTORIES: &[WorkedHistory] = &[
         ],
         from: 0,
         to: 2,
-        rule: 4,
+        rule: Some(4),
     },
     WorkedHistory {
         name: "a fence of loads orders no store",
@@ -206,7 +206,7 @@ const HISTORIES: &[WorkedHistory] = &[
         ],
         from: 0,
         to: 2,
-        rule: 0,
+        rule: None,
     },
     WorkedHistory {
         name: "a fence of stores takes an AMO",
@@ -218,7 +218,7 @@ const HISTORIES: &[WorkedHistory] = &[
         ],
         from: 0,
         to: 2,
-        rule: 4,
+        rule: Some(4),
     },
     WorkedHistory {
         name: "FENCE.TSO leaves a store before a load unordered",
@@ -230,7 +230,7 @@ const HISTORIES: &[WorkedHistory] = &[
         ],
         from: 0,
         to: 2,
-        rule: 0,
+        rule: None,
     },
     WorkedHistory {
         name: "FENCE.TSO orders a load before a store",
@@ -242,7 +242,7 @@ const HISTORIES: &[WorkedHistory] = &[
         ],
         from: 0,
         to: 2,
-        rule: 4,
+        rule: Some(4),
     },
     WorkedHistory {
         name: "total store ordering: an SC before an LR, both RCpc",
@@ -250,7 +250,7 @@ const HISTORIES: &[WorkedHistory] = &[
         rows: &[lr!(0: 0, X = 0), sc!(0: 1, X = 1), lr!(0: 2, Y = 0)],
         from: 1,
         to: 2,
-        rule: 0,
+        rule: None,
     },
     WorkedHistory {
         name: "total store ordering: an SC before an LR, both RCsc",
@@ -262,7 +262,7 @@ const HISTORIES: &[WorkedHistory] = &[
         ],
         from: 1,
         to: 2,
-        rule: 7,
+        rule: Some(7),
     },
     WorkedHistory {
         name: "total store ordering: a load before a load",
@@ -270,7 +270,7 @@ const HISTORIES: &[WorkedHistory] = &[
         rows: &[load!(0: 0, X = 0), load!(0: 1, Y = 0)],
         from: 0,
         to: 1,
-        rule: 5,
+        rule: Some(5),
     },
     WorkedHistory {
         name: "total store ordering: a store before a store",
@@ -278,7 +278,7 @@ const HISTORIES: &[WorkedHistory] = &[
         rows: &[store!(0: 0, X = 1), store!(0: 1, Y = 1)],
         from: 0,
         to: 1,
-        rule: 6,
+        rule: Some(6),
     },
     WorkedHistory {
         name: "total store ordering: a store before a load",
@@ -286,7 +286,7 @@ const HISTORIES: &[WorkedHistory] = &[
         rows: &[store!(0: 0, X = 1), load!(0: 1, Y = 0)],
         from: 0,
         to: 1,
-        rule: 0,
+        rule: None,
     },
     WorkedHistory {
         name: "total store ordering: AMOs are RCsc",
@@ -294,7 +294,7 @@ const HISTORIES: &[WorkedHistory] = &[
         rows: &[amo!(0: 0, X, 0, 1), amo!(0: 1, Y, 0, 1)],
         from: 0,
         to: 1,
-        rule: 5,
+        rule: Some(5),
     },
 ];
 
@@ -316,7 +316,7 @@ fn lowest_rules(rt: HostRuntime) {
             seq: history.to,
         };
         let found = lowest_rule(history.model, log.as_slice(), from, to);
-        assert_eq!(rt; found.unwrap_or(0), history.rule, "{}", history.name);
+        assert_eq!(rt; found, history.rule, "{}", history.name);
     }
 }
 

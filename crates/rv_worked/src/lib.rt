@@ -3,7 +3,7 @@
 //!
 //! Its tables ([`allowed`], [`circles`], [`refused`], `histories`, `malformed`, made of [`rows`]) stand in one place,
 //! so that the plain program, the checker and all that is built above them are held to the same executions; the first
-//! three are there for other crates' tests too. All else are tests. It stands on each crate that it tests.
+//! three are there for other crates' tests too. The rest are tests. It stands on each crate that it tests.
 #![tactic(auto)]
 
 pub mod allowed;

@@ -38,7 +38,7 @@ pub(super) const FENCED_STORE_BUFFERING: [&str; 2] = [
     "1,0,S,1,,1,,\n1,1,F,,,,rw-rw,\n1,2,L,0,0,,,\n",
 ];
 
-pub(super) const WORKED: [Worked; 17] = [
+pub(super) const WORKED: [Worked; 23] = [
     Worked {
         name: "store buffering",
         harts: STORE_BUFFERING,
@@ -48,6 +48,14 @@ pub(super) const WORKED: [Worked; 17] = [
         name: "store buffering with fences",
         harts: FENCED_STORE_BUFFERING,
         class: Class::Forbidden,
+    },
+    Worked {
+        name: "store buffering with FENCE.TSO",
+        harts: [
+            "0,0,S,0,,1,,\n0,1,FT,,,,,\n0,2,L,1,0,,,\n",
+            "1,0,S,1,,1,,\n1,1,FT,,,,,\n1,2,L,0,0,,,\n",
+        ],
+        class: Class::Allowed,
     },
     Worked {
         name: "message passing with a fence and an address",
@@ -74,6 +82,11 @@ pub(super) const WORKED: [Worked; 17] = [
         class: Class::Allowed,
     },
     Worked {
+        name: "the loads of load buffering alone",
+        harts: ["0,0,L,0,1,,,\n", "1,0,L,1,1,,,\n"],
+        class: Class::Allowed,
+    },
+    Worked {
         name: "load buffering with data",
         harts: [
             "0,0,L,0,1,,,\n0,1,S,1,,1,,d0\n",
@@ -97,8 +110,21 @@ pub(super) const WORKED: [Worked; 17] = [
         class: Class::Forbidden,
     },
     Worked {
+        name: "a pair over two words",
+        harts: [
+            "0,0,S,0,,1,,\n0,1,LR,0,1,,,\n0,2,SC,1,,1,,\n",
+            "1,0,L,1,1,,,\n1,1,L,0,0,,,a0\n",
+        ],
+        class: Class::Forbidden,
+    },
+    Worked {
         name: "a store between an AMO's halves",
         harts: ["0,0,AMO,0,0,2,,\n", "1,0,S,0,,1,,\n"],
+        class: Class::Forbidden,
+    },
+    Worked {
+        name: "an AMO that reads its own version",
+        harts: ["0,0,AMO,0,1,1,,\n", ""],
         class: Class::Forbidden,
     },
     Worked {
@@ -118,6 +144,14 @@ pub(super) const WORKED: [Worked; 17] = [
         class: Class::Forbidden,
     },
     Worked {
+        name: "no forwarding from an AMO",
+        harts: [
+            "0,0,AMO,0,0,1,,\n0,1,L,0,1,,,\n0,2,L,1,0,,,a1\n",
+            "1,0,S,1,,1,,\n1,1,F,,,,rw-rw,\n1,2,L,0,0,,,\n",
+        ],
+        class: Class::Forbidden,
+    },
+    Worked {
         name: "a load of what depends on a load",
         harts: [
             "0,0,L,0,1,,,\n0,1,S,1,,1,,d0\n0,2,L,1,1,,,\n0,3,S,2,,1,,d2\n",
@@ -129,6 +163,14 @@ pub(super) const WORKED: [Worked; 17] = [
         name: "a store after a dependent address",
         harts: [
             "0,0,L,0,1,,,\n0,1,L,2,0,,,a0\n0,2,S,1,,1,,\n",
+            "1,0,L,1,1,,,\n1,1,S,0,,1,,d0\n",
+        ],
+        class: Class::Forbidden,
+    },
+    Worked {
+        name: "a store after a branch",
+        harts: [
+            "0,0,L,0,1,,,\n0,1,BR,,,,,c0\n0,2,S,1,,1,,\n",
             "1,0,L,1,1,,,\n1,1,S,0,,1,,d0\n",
         ],
         class: Class::Forbidden,
