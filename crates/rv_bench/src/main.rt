@@ -1,5 +1,5 @@
 //! Benchmarks: what judging, the trace reader and the order keeper cost, and how far sources get ahead of one another.
-//! No promise stands on them, and no test is timed.
+//! No promise stands on them, and no test is timed. It stands on what it measures, and on the kit's `csv`.
 //!
 //! - `judging`: a trace of up to 65,536 events, read alone, and read and offered to a book.
 //! - `reading`: the trace reader beside the CSV reader alone, over the same bytes in memory.

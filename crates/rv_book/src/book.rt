@@ -82,6 +82,7 @@ impl Book {
         ensures going { IsFalse result.stopped }
     {
         let arrangement = Arrangement::new(alloc, model);
+        // For the proof alone, which has the model from this call.
         let _model = arrangement.model();
         Book {
             alloc,
@@ -246,6 +247,7 @@ impl Book {
         self.entries.reserve(1)?;
         let copy = entry.copy(self.alloc)?;
         let added = self.arrangement.add(&entry.event)?;
+        // For the proof alone, which has from this call that the model stayed.
         let _model = self.arrangement.model();
         match added {
             Added::Taken => {

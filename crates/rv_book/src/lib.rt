@@ -8,8 +8,8 @@
 //! edge goes forward; [`book`] adds the entries and the faults, with what [`tally`] counts of the log; [`closing`] and
 //! [`nodes`] make certificates and node lists, the latter by [`hints`] that are looked at before they are believed.
 //!
-//! It stands on `rv_edges`, `rv_rank` and `rv_cert`. Its one contract to the others: the log is well formed, its order is
-//! lawful, and each answer is exact.
+//! It stands on `rv_event`, `rv_chunk`, `rv_cert`, `rv_cover`, `rv_edges` and `rv_rank`. Its one contract to the others:
+//! the log is well formed, its order is lawful, and each answer is exact.
 #![tactic(auto)]
 
 mod arrangement;

@@ -5,8 +5,8 @@
 //! carry every edge: wherever the log has an edge between two events, a path of links leads from the one to the other. So
 //! an order that respects the links respects all edges.
 //!
-//! It is near-linear: each hart keeps closed rows of what rules lead to its events (`rv_hart`), and the stores, loads and
-//! pairs of each word stand in the order of their versions (`rv_versions`). So links are listed only to the nearest events,
+//! Few links are listed: each hart keeps closed rows of what rules lead to its events (`rv_hart`), and the stores, loads
+//! and pairs of each word stand in the order of their versions (`rv_versions`). So links go only to the nearest events,
 //! and the others follow (`rv_cover`): an edge need not be listed where an older event splits it. The plain program that
 //! decides each edge is `rv_event`'s.
 //!

@@ -111,6 +111,7 @@ fn take_seat<C: Carrier>(carrier: &C, seats: &mut Vec<C::Seat>) -> C::Seat
     ensures fits { All (λ s. C.fits carrier.now s) seats.new.items }
     ensures len { vec_len seats.new + 1 ≡ vec_len seats.old }
 {
+    // Its contract alone speaks of the carrier.
     let _ = carrier;
     match seats.pop() {
         Some(seat) => seat,

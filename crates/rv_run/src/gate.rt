@@ -31,7 +31,7 @@ pub trait Gate {
         0
     }
 
-    /// Waits for a moment, or until there are more news than `seen`. Nothing is promised of how long. A gate that
+    /// Waits for a moment, or until there is more news than `seen`. Nothing is promised of how long. A gate that
     /// is told of no news gives other threads the processor.
     fn rest<R: Wait>(&self, _rt: &R, _seen: u64) {
         thread::yield_now();

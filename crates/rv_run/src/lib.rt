@@ -13,9 +13,9 @@
 //! - [`replaying`]: the pass in one thread; [`fault`]: why a run has no outcome; [`laws`]: that outcomes agree.
 //! - `specs/`: what each thread tells of its source, and an outcome of all.
 //!
-//! It stands on `rv_trace` for sources, on `rv_slots`, `rv_book` and `rv_verdict` for the threads' shared
-//! parts, and on `rv_report` for outcomes. Its one contract to the others: an outcome is true of the entries,
-//! or of the sources' bytes where they are known.
+//! It stands on `rv_event`, `rv_chunk` and `rv_cert`, on `rv_trace` for sources, on `rv_slots`, `rv_book` and `rv_verdict`
+//! for the threads' shared parts, on `rv_report` for outcomes, and on the kit's `thiserror`. Its one contract to the
+//! others: an outcome is true of the entries, or of the sources' bytes where they are known.
 #![tactic(auto)]
 
 mod comparing;

@@ -13,6 +13,7 @@ fn pass(book: &mut Book, entries: &[Entry]) -> Result<Outcome, NoMemory>
     requires going { IsFalse book.old.stopped }
     ensures { IfOk result (IsReplayed book.old.model entries.now) }
 {
+    // For the proof alone, which has the model from this call.
     let _model = book.model();
     for entry in entries {
         match book.offer(entry) {

@@ -25,7 +25,7 @@ impl Patience {
     }
 
     /// Gives up the processor, or, where that was of no use for some turns, rests until the gate has more news
-    /// than those that were seen before the last look.
+    /// than was seen before the last look.
     pub(crate) fn wait<RT: Wait, G: Gate>(&mut self, rt: &RT, gate: &G, seen: u64) {
         if self.turns < TURNS {
             self.turns += 1;

@@ -11,9 +11,9 @@
 //!   law. `specs/Word.antt`: a state word read by its bits. `specs/CoreIs.antt`: the machine's
 //!   state that a `Core` is in.
 //!
-//! It stands on the chunk texts of `rv_chunk`, which a seat's words are to be before it publishes
-//! them. Its one contract to the crates above is the definition of the machine, with the law that
-//! after every list of steps the state is safe.
+//! It stands on `rv_event`, and on the chunk texts of `rv_chunk`, which a seat's words are to be
+//! before it publishes them. Its one contract to the crates above is the definition of the
+//! machine, with the law that after every list of steps the state is safe.
 #![tactic(auto)]
 
 mod acts;

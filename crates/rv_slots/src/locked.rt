@@ -8,12 +8,10 @@ use crate::carrier::{Carrier, Looked, Put};
 use crate::fault::SlotsFault;
 use crate::slot::Slot;
 use rv_chunk::Chunk;
+use rv_slotcore::SEATS_AT_MOST;
 use std::alloc::{AllocError, Global};
 use std::marker::Model;
 use std::sync::{Mutex, Wait};
-
-/// How many seats there are.
-const SEATS: u8 = 32;
 
 /// The slots, as whoever has the lock sees them.
 #[derive(Drop)]
@@ -130,7 +128,7 @@ fn idle_seats(alloc: Global) -> Result<Vec<LockedSeat>, AllocError>
     ensures { IfOk result (λ seats. seats.items ≡ range_with_len 0 32) }
 {
     let mut seats = Vec::new(alloc);
-    for number in 0..SEATS {
+    for number in 0..SEATS_AT_MOST {
         seats.push(LockedSeat { number })?;
     }
     Ok(seats)

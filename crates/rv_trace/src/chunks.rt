@@ -126,6 +126,7 @@ impl<R: Read> Chunks<R> {
         ensures next { IfGiven result (λ _. self.new.number ≡ self.old.number + 1) }
         ensures count { IfGiven result
             (λ c. self.new.given ≡ self.old.given + length c.events) }
+        ensures few { IfGiven result (λ _. self.new.given ≤ 65536) }
 
         ensures whole { OnEnd result (IsWhole self.old.stream) }
         ensures end { OnEnd result (IsAtEnd self.new.ended self.new.stream) }

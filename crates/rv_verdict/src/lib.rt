@@ -2,7 +2,7 @@
 //!
 //! Each thread that works for a monitor may come upon a verdict. It raises it in the one
 //! [`VerdictCell`] that all of them share: the first verdict stays for ever, and whoever comes
-//! second gets the own one back. What a thread has learned of the cell stands in its
+//! second gets its own one back. What a thread has learned of the cell stands in its
 //! [`VerdictNote`], which takes no bytes when the program runs. A cell takes no lock and never
 //! waits.
 //!

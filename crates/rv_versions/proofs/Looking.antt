@@ -7,7 +7,7 @@ use Rattle.rv_event.proofs.Indexed.{Indexed}
 use Rattle.rv_event.specs.Operations.{IsStore}
 use Rattle.rv_event.specs.declared.event.Event.{Event}
 use Rattle.rv_event.specs.declared.event.Id.{Id}
-use Rattle.rv_versions.specs.Accesses.{access, IsOf, IsLower, IsFirstFrom, IsForeignFrom, IsBetween}
+use Rattle.rv_versions.specs.Accesses.{access, IsOf, IsLower, IsFirstFrom, IsForeignFrom}
 use Rattle.rv_versions.specs.Indexes.{AreIndexes}
 use Rattle.rv_versions.specs.Lookups.{IsLowerStore, IsHigherStore, IsForeign, IsForeignLower, IsForeignHigher}
 use Rattle.rv_versions.specs.Lookups.{IsLoadBetween, IsPairBetween}
@@ -18,6 +18,7 @@ use Rattle.rv_versions.proofs.Found.{store_access, store_found, store_listed, lo
 use Rattle.rv_versions.proofs.Found.{pair_found, pair_listed}
 use Rattle.rv_versions.specs.Accesses.{id_of}
 use Rattle.rv_versions.proofs.Nearing.{same_version}
+use Rattle.rv_versions.proofs.Placed.{IsBetween}
 
 module _ (log : List Event) (rs : List (Option Reservation)) (ix : Accesses) (known : AreIndexes log rs ix) where
   of_word : (w : ℕ) (a : Event) → Contains log a → IsStore a → a.word ≡ w → IsOf ix.stores w (store_access a)

@@ -7,7 +7,7 @@ use Rattle.std.proofs.lemmas.List.{length-set, get_or-set_same, get_or-set_other
 use Rattle.std.proofs.lemmas.List.Elements.{at_read}
 use Rattle.std.proofs.lemmas.Option.{same_Some, none-some}
 use Rattle.rv_event.specs.declared.event.Id.{Id}
-use Rattle.rv_versions.specs.Accesses.{access, id_of, IsOf, AreAllOf, IsBetween}
+use Rattle.rv_versions.specs.Accesses.{access, id_of, IsOf, AreAllOf}
 use Rattle.rv_versions.specs.Indexes.{ArePostingsTo, IsInserted, IsRemoved, ByEach, AreInserted, AreRemoved}
 use Rattle.rv_versions.specs.Indexes.{AreSame, AreAbsent}
 use Rattle.rv_versions.specs.Words.{no_accesses, together, AreNumbers, StandInPlace, AreInPlace, AreThoseTo}
@@ -358,6 +358,13 @@ module _ (place_of : ℕ → Option ℕ) (words : List Accesses) (in_place : Are
     }
 
 -- ---- ids
+
+-- the event accessed a version of the word from the first on and below the second
+pub record IsBetween (accesses : List Access) (word from to : ℕ) (i : Id) : Type 0 where
+  pub version : ℕ
+  pub at_least : from ≤ version
+  pub below : version < to
+  pub known : Contains accesses (access word version i)
 
 module _ (accesses : List Access) (word from to : ℕ) where
   of_between : (i : Id) (b : IsBetween accesses word from to i) → IsOf accesses word (access word b.version i)

@@ -55,10 +55,3 @@ IsForeignFrom accesses word version hart None =
 IsForeignFrom accesses word version hart (Some t) =
     IsOf accesses word t × (version ≤ t.version) × (t.hart ≢ hart)
     × ((x : Access) → IsOf accesses word x → version ≤ x.version → x.hart ≢ hart → t.version ≤ x.version)
-
--- the event accessed a version of the word from the first on and below the second
-pub record IsBetween (accesses : List Access) (word from to : ℕ) (i : Id) : Type 0 where
-  pub version : ℕ
-  pub at_least : from ≤ version
-  pub below : version < to
-  pub known : Contains accesses (access word version i)

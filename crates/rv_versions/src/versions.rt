@@ -125,6 +125,7 @@ impl Versions {
             IsTrue result ↔
             ((r : Reason) × IsEdge model (self.now ++ event.now ∷ []) event.now.id r event.now.id) }
     {
+        // Its contract alone speaks of the log; the two events tell the answer.
         let _ = &self.alloc;
         returns_own(event, reserved)
     }
