@@ -82,7 +82,8 @@ RVWMO forbids this. With these lines in sb.csv, rvmon sb.csv prints:
   h0:2 from-read h1:0
   h1:0 rule 4 h1:2
 
-The report is one of these three. An ID such as h1:2 is the event of hart 1, seq 2.
+The report is one of these three. An ID such as h1:2 is the event of hart 1,
+seq 2.
 
   allowed: E events, O operations, W waiting loads
       Some order explains the E events, O of which are loads or stores. A load
