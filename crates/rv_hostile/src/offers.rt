@@ -56,20 +56,29 @@ fn assert_answer(rt: &impl Abort, one: &Worked, book: &Book, entries: &[Entry], 
     }
 }
 
-/// Offers the entries one by one.
-fn assert_offers(rt: &impl Abort, alloc: Global, one: &Worked) {
-    let list = entries_of(rt, alloc, one.rows);
-    let entries = list.as_slice();
-    let mut book = Book::new(alloc, one.model);
+/// Offers the entries one by one: all but the last are accepted.
+fn offer_each(rt: &impl Abort, book: &mut Book, one: &Worked, entries: &[Entry]) {
     for count in 0..entries.len() {
-        let answer = offer_twice(rt, &mut book, &entries[..count], &entries[count]);
+        let answer = offer_twice(rt, book, &entries[..count], &entries[count]);
         if count + 1 == entries.len() {
-            assert_answer(rt, one, &book, entries, &answer);
-            assert_eq!(rt; order_of(rt, &book).len(), book.operations());
-            return;
+            assert_answer(rt, one, book, entries, &answer);
+        } else {
+            assert!(rt; matches!(answer, Offer::Accepted), "{}", one.name);
         }
-        assert!(rt; matches!(answer, Offer::Accepted), "{}", one.name);
+        drop(answer);
     }
+}
+
+/// Offers the entries of the execution to a new book.
+fn assert_offers(rt: &impl Abort, alloc: Global, one: &Worked) {
+    let entries = entries_of(rt, alloc, one.rows);
+    let mut book = Book::new(alloc, one.model);
+    offer_each(rt, &mut book, one, entries.as_slice());
+    let order = order_of(rt, &book);
+    assert_eq!(rt; order.len(), book.operations());
+    drop(order);
+    drop(book);
+    drop(entries);
 }
 
 #[test]

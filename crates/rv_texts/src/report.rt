@@ -140,6 +140,30 @@ fn store_buffering(rt: &impl Abort, alloc: Global) -> Outcome {
     circular(rt, alloc, &rows, &steps)
 }
 
+/// The report of an outcome, and behind it that of its copy.
+fn reports_of(alloc: Global, outcome: &Outcome) -> Result<Vec<u8>, Fail> {
+    let mut written = Vec::new(alloc);
+    report(alloc, &mut written, outcome)?;
+    let copy = outcome.copy(alloc)?;
+    report(alloc, &mut written, &copy)?;
+    drop(copy);
+    Ok(written)
+}
+
+/// Holds the report as a line of JSON against its text.
+fn assert_line(rt: &impl Abort, alloc: Global, outcome: &Outcome, json: &str) -> Result<(), Fail> {
+    let value = report_json(alloc, outcome)?.to_string(alloc)?;
+    assert_eq!(rt; value.as_str(), json);
+    drop(value);
+    let line = format!(in alloc; "{json}\n")?;
+    let mut written = Vec::new(alloc);
+    report_json_line(alloc, &mut written, outcome)?;
+    assert!(rt; written.as_slice() == line.as_bytes(), "{json}");
+    drop(written);
+    drop(line);
+    Ok(())
+}
+
 /// Holds both reports of an outcome, and those of its copy, against their texts.
 fn assert_reports(
     rt: &impl Abort,
@@ -148,20 +172,12 @@ fn assert_reports(
     text: &str,
     json: &str,
 ) -> Result<(), Fail> {
-    let mut written = Vec::new(alloc);
-    report(alloc, &mut written, outcome)?;
-    assert_eq!(rt; str::from_utf8(written.as_slice())?, text);
-    report(alloc, &mut written, &outcome.copy(alloc)?)?;
     let twice = format!(in alloc; "{text}{text}")?;
-    assert_eq!(rt; str::from_utf8(written.as_slice())?, twice.as_str());
-
-    let value = report_json(alloc, outcome)?.to_string(alloc)?;
-    assert_eq!(rt; value.as_str(), json);
-    let mut written = Vec::new(alloc);
-    report_json_line(alloc, &mut written, outcome)?;
-    let line = format!(in alloc; "{json}\n")?;
-    assert_eq!(rt; str::from_utf8(written.as_slice())?, line.as_str());
-    Ok(())
+    let written = reports_of(alloc, outcome)?;
+    assert!(rt; written.as_slice() == twice.as_bytes(), "{text}");
+    drop(written);
+    drop(twice);
+    assert_line(rt, alloc, outcome, json)
 }
 
 #[test]
