@@ -38,7 +38,8 @@ pub(super) const FENCED_STORE_BUFFERING: [&str; 2] = [
     "1,0,S,1,,1,,\n1,1,F,,,,rw-rw,\n1,2,L,0,0,,,\n",
 ];
 
-pub(super) const WORKED: [Worked; 23] = [
+/// The worked traces.
+const WORKED: &[Worked] = &[
     Worked {
         name: "store buffering",
         harts: STORE_BUFFERING,
@@ -197,6 +198,11 @@ pub(super) const WORKED: [Worked; 23] = [
         class: Class::Malformed,
     },
 ];
+
+/// The worked traces. What they are is told to no proof, as a table of this size is dear in each function that names it.
+pub(super) fn worked_traces() -> &'static [Worked] {
+    WORKED
+}
 
 /// The class of the outcome.
 pub(super) fn class_of(outcome: &Outcome) -> Class {

@@ -1,7 +1,7 @@
 //! Whole runs in threads.
 use super::rows::{
-    Class, FENCED_STORE_BUFFERING, HEADER, STORE_BUFFERING, WORKED, Worked, class_of, read_rows,
-    run_rows, run_rows_locked,
+    Class, FENCED_STORE_BUFFERING, HEADER, STORE_BUFFERING, Worked, class_of, read_rows, run_rows,
+    run_rows_locked, worked_traces,
 };
 use rv_cert::check;
 use rv_event::{Fault, Id, MemoryModel};
@@ -36,7 +36,7 @@ fn assert_class(rt: &impl Abort, worked: &Worked, ran: &Result<Outcome, RunFault
 
 #[test]
 fn same_class(rt: HostRuntime) {
-    for worked in &WORKED {
+    for worked in worked_traces() {
         assert!(rt; replayed_class(&rt, rt.alloc(), &worked.harts) == worked.class);
         for (workers, slots) in [(1, 2), (8, 16), (24, 16)] {
             let table = run_rows(&rt, rt.alloc(), &worked.harts, workers, slots);
@@ -51,7 +51,7 @@ fn same_class(rt: HostRuntime) {
 
 #[test]
 fn ample_memory(rt: HostRuntime) {
-    for worked in &WORKED {
+    for worked in worked_traces() {
         for _ in 0..3 {
             let ran = run_rows(&rt, rt.alloc(), &worked.harts, 4, 8);
             assert!(rt; ran.is_ok(), "{}", worked.name);
