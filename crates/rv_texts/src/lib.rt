@@ -3,11 +3,12 @@
 //! It has tests alone, and they call public functions alone. A crate with tests is proved twice, so they stand here in
 //! place of the crates that they test.
 //!
-//! - `trace`: rows, sources in every state of repair, and readers that fail, of `rv_trace`.
+//! - `trace`: fields and operations, chunks, and readers that fail, of `rv_trace`.
 //! - `report`: the exact texts of reports, and writers that do not take them whole, of `rv_report`.
-//! - `words`: command lines that are taken or refused, and the text of help, of `rv_words`.
+//! - `words`: command lines that are taken, and faults, of `rv_words`.
 //!
-//! It stands on each crate that it tests.
+//! What the program prints of each wrong row and of wrong words stands in `tests/traces.md` and `tests/refusals.md`, as
+//! commands. It stands on each crate that it tests.
 #![tactic(auto)]
 
 #[cfg(test)]

@@ -210,35 +210,6 @@ fn a_circle_is_reported(rt: HostRuntime) -> Result<(), Fail> {
 }
 
 #[test]
-fn a_circle_of_one_is_reported(rt: HostRuntime) -> Result<(), Fail> {
-    let amo = Row {
-        read: 1,
-        wrote: 1,
-        ..other(id(0, 0), Op::Amo)
-    };
-    let outcome = circular(&rt, rt.alloc(), &[amo], &[(id(0, 0), Reason::ReadsFrom)]);
-    let text = "forbidden: h0:0 after 0 events\ncircle of 1\nh0:0 reads-from h0:0\n";
-    let json = "{\"after\":0,\"certificate\":{\"circle\":[\
-        {\"from\":\"h0:0\",\"reason\":\"reads-from\",\"to\":\"h0:0\"}\
-        ]},\"event\":\"h0:0\",\"outcome\":\"forbidden\"}";
-    assert_reports(&rt, rt.alloc(), &outcome, text, json)
-}
-
-#[test]
-fn a_stale_pair_is_reported(rt: HostRuntime) -> Result<(), Fail> {
-    let rows = [store(id(0, 0), 0, 1), load(id(0, 1), 0, 0)];
-    let stale = Certificate::Stale {
-        load: id(0, 1),
-        store: id(0, 0),
-    };
-    let outcome = forbidden(&rt, rt.alloc(), &rows, stale);
-    let text = "forbidden: h0:1 after 1 events\nstale: h0:1 reads below h0:0\n";
-    let json = "{\"after\":1,\"certificate\":{\"stale\":{\"load\":\"h0:1\",\"store\":\"h0:0\"}},\
-        \"event\":\"h0:1\",\"outcome\":\"forbidden\"}";
-    assert_reports(&rt, rt.alloc(), &outcome, text, json)
-}
-
-#[test]
 fn a_missing_reservation_is_reported(rt: HostRuntime) -> Result<(), Fail> {
     let rows = [other(id(0, 0), Op::Lr), other(id(0, 1), Op::ScFailed)];
     let sc = Row {
@@ -249,25 +220,6 @@ fn a_missing_reservation_is_reported(rt: HostRuntime) -> Result<(), Fail> {
     let text = "malformed: h0:2 after 2 events: fault 6 no reservation\n";
     let json = "{\"after\":2,\"event\":\"h0:2\",\"fault\":6,\"outcome\":\"malformed\",\
         \"text\":\"no reservation\"}";
-    assert_reports(&rt, rt.alloc(), &outcome, text, json)
-}
-
-#[test]
-fn a_taken_version_is_reported(rt: HostRuntime) -> Result<(), Fail> {
-    let rows = [store(id(0, 0), 0, 3)];
-    let outcome = malformed(&rt, rt.alloc(), &rows, store(id(1, 0), 0, 3));
-    let text = "malformed: h1:0 after 1 events: fault 5 version taken by h0:0\n";
-    let json = "{\"after\":1,\"event\":\"h1:0\",\"fault\":5,\"outcome\":\"malformed\",\
-        \"text\":\"version taken by h0:0\"}";
-    assert_reports(&rt, rt.alloc(), &outcome, text, json)
-}
-
-#[test]
-fn an_event_out_of_sequence_is_reported(rt: HostRuntime) -> Result<(), Fail> {
-    let outcome = malformed(&rt, rt.alloc(), &[], store(id(0, 1), 0, 1));
-    let text = "malformed: h0:1 after 0 events: fault 2 sequence, expected 0\n";
-    let json = "{\"after\":0,\"event\":\"h0:1\",\"fault\":2,\"outcome\":\"malformed\",\
-        \"text\":\"sequence, expected 0\"}";
     assert_reports(&rt, rt.alloc(), &outcome, text, json)
 }
 

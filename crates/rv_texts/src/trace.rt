@@ -1,8 +1,7 @@
-//! The rows of the format, sources in every state of repair, and readers that fail.
+//! The fields of rows, the chunks of sources, and readers that fail.
 
 mod calls;
 mod chunked;
-mod forms;
 mod readers;
 mod reading;
 mod rows;

@@ -1,9 +1,7 @@
 //! Readers that misbehave, and what all tests of readers need.
 use rv_trace::{FaultKind, Trace, TraceFault};
-use std::alloc::Global;
 use std::io;
 use std::io::Read;
-use std::test::Fail;
 
 /// The header's line.
 pub const HEADER: &str = "hart,seq,op,word,read,wrote,ann,deps\n";
@@ -23,20 +21,6 @@ pub fn outcome_of<R: Read>(trace: &mut Trace<R>) -> (u32, Option<TraceFault>) {
         }
     }
     (given, None)
-}
-
-/// The outcome of a text.
-pub fn outcome_of_text(alloc: Global, text: &[u8]) -> (u32, Option<TraceFault>) {
-    let mut trace = Trace::new(alloc, text, 0);
-    let outcome = outcome_of(&mut trace);
-    drop(trace);
-    outcome
-}
-
-/// The outcome of the header and one row.
-pub fn outcome_of_row(alloc: Global, row: &str) -> Result<(u32, Option<TraceFault>), Fail> {
-    let text = format!(in alloc; "{HEADER}{row}\n")?;
-    Ok(outcome_of_text(alloc, text.as_str().as_bytes()))
 }
 
 /// A fault of a kind in a row.
