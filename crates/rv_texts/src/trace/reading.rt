@@ -1,6 +1,6 @@
 //! Readers that never end, readers that fail, and calls after a fault or the end.
 use super::readers::{Endless, FOUR_ROWS, Failing, HEADER, fault, outcome_of};
-use rv_trace::{FaultKind, Trace, TraceFault};
+use rv_trace::{FaultKind, Trace};
 
 #[test]
 fn too_many_rows_are_a_fault(rt: HostRuntime) {
@@ -76,21 +76,5 @@ fn a_fault_of_a_row_stays(rt: HostRuntime) {
     assert_eq!(rt; outcome_of(&mut trace), (1, wanted));
     assert_eq!(rt; outcome_of(&mut trace), (0, wanted));
     assert_eq!(rt; outcome_of(&mut trace), (0, wanted));
-    drop(trace);
-}
-
-#[test]
-fn want_of_memory_is_named_and_stays(rt: HostRuntime) {
-    let text = b"hart,seq,op,word,read,wrote,ann,deps\n0,0,S,0,,1,,\n0,1,L,0,1,,,a0\n";
-    let mut trace = Trace::new(rt.alloc(), text.as_slice(), 0);
-    // With ample memory there is no fault; where an allocation is refused, this is the one.
-    match outcome_of(&mut trace) {
-        (given, None) => assert_eq!(rt; given, 2),
-        (given, Some(TraceFault { kind, row })) => {
-            assert_eq!(rt; kind, FaultKind::NoMemory);
-            assert!(rt; row == given.saturating_add(1) || (row, given) == (0, 0));
-            assert_eq!(rt; outcome_of(&mut trace), (0, fault(kind, row)));
-        }
-    }
     drop(trace);
 }
