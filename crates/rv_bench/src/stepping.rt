@@ -4,6 +4,7 @@ ghost use Rattle.rv_run.specs.Gates.{IsAnswerFor};
 
 use rv_book::ChunkOffer;
 use rv_chunk::Chunk;
+use rv_pipe::Bell;
 use rv_run::{Gate, InStep, drive};
 use rv_slots::{Slots, TableCarrier};
 use rv_verdict::VerdictCell;
@@ -137,8 +138,9 @@ fn largest_lead<RT: Threads + Wait + Sync>(
     let carrier = TableCarrier::new(slots);
     let cell = VerdictCell::new(alloc);
     let gate = gate_of();
+    let bell = Bell::new();
     let gate = if in_step {
-        let step = InStep::new(carrier, gate, SOURCES);
+        let step = InStep::new(carrier, gate, SOURCES, &bell);
         drive(rt, alloc, readers, WORKERS, &step, seats, &step, &cell)?;
         step.into_gate()
     } else {

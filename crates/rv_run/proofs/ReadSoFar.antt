@@ -1,15 +1,18 @@
--- A source of which some chunks were read.
-use Rattle.std.proofs.Common.{◌≡◌, ℕ, List, [], ◌++◌, Option, Some, None, option_map, true, false, inl, inr}
-use Rattle.std.proofs.Common.{refl, sym, ap, ◌∙◌, append_assoc, append-nil, subst}
+-- A source of which some events were read.
+use Rattle.std.proofs.Common.{◌≡◌, ◌+◌, ◌≤◌, ◌<◌, ℕ, List, [], ◌∷◌, ◌++◌, Bool, Option, Some, None, option_map}
+use Rattle.std.proofs.Common.{true, false, inl, inr, All}
+use Rattle.std.proofs.Common.{refl, sym, ap, ◌∙◌, append_assoc, append-nil, subst, arith, length-append}
+use Rattle.std.proofs.lemmas.List.Elements.{All-append, All-cons, All-nil}
+use Rattle.rv_chunk.specs.Chunks.{IsPackable}
 use Rattle.rv_event.specs.declared.event.Event.{Event}
-use Rattle.rv_trace.specs.Chunks.{ChunksLeft, TakesEvents, IsFaultWithin, fresh_chunks}
+use Rattle.rv_trace.specs.Chunks.{TakesEvents}
 use Rattle.rv_trace.specs.Faults.{IsOutside, is_of_text}
 use Rattle.rv_trace.specs.Source.{Stream, source_says}
-use Rattle.rv_trace.specs.Trace.{IsWhole}
+use Rattle.rv_trace.specs.Trace.{IsFaultOf, IsWhole, TakesEvent, TraceLeft, fresh_trace}
 use Rattle.rv_trace.specs.declared.fault.TraceFault.{TraceFault}
 use Rattle.rv_run.specs.declared.feeding.FeedEnd.{FeedEnd}
 use Rattle.rv_run.specs.declared.feeding.FeedEnd.TheVariants.{Whole, Stopped, Fault, NoMemory}
-use Rattle.rv_run.specs.Feeds.{GoesOn, IsEndOf, IsFeeding, IsPut, IsReadOf}
+use Rattle.rv_run.specs.Feeds.{GoesOn, IsEndOf, IsFeeding, IsReadOf, IsSettledEnd}
 use Rattle.rv_run.specs.Sources.{IsAllOf, EndsIn}
 
 takes-none : (s : Option Stream) → TakesEvents s s []
@@ -36,22 +39,16 @@ takes-all (Some s) (Some t) None es more taken next = absurd next
 takes-all (Some s) (Some t) (Some u) es more taken next =
     rw (taken, next) (ap (λ (l : List Event). record { events = l; end = u.end }) (sym (append_assoc es more u.events)))
 
-pub feeding-begin : (known : Option (List ℕ)) (source : ℕ) (chunks : ChunksLeft) → chunks ≡ fresh_chunks source known →
-    IsFeeding (option_map source_says known) [] chunks
-feeding-begin known source chunks fresh = record {
-  good = ap (λ (c : ChunksLeft). c.fault) fresh;
+-- nothing was read yet
+pub feeding-begin : (known : Option (List ℕ)) (source : ℕ) (trace : TraceLeft) → trace ≡ fresh_trace source known →
+    IsFeeding (option_map source_says known) [] trace
+feeding-begin known source trace fresh = record {
+  good = ap (λ (c : TraceLeft). c.fault) fresh;
   taken = subst (λ (s : Option Stream). TakesEvents (option_map source_says known) s [])
-      (sym (ap (λ (c : ChunksLeft). c.stream) fresh)) (takes-none (option_map source_says known));
-}
-
-pub feeding-turn :
-    (start : Option Stream) (es more new : List Event) (chunks next : ChunksLeft) → IsFeeding start es chunks →
-    TakesEvents chunks.stream next.stream more → next.fault ≡ None → new ≡ es ++ more →
-    IsFeeding start new next
-feeding-turn start es more new chunks next so step good grown = record {
-  good = good;
-  taken = subst (λ (l : List Event). TakesEvents start next.stream l) (sym grown)
-      (takes-all start chunks.stream next.stream es more so.taken step);
+      (sym (ap (λ (c : TraceLeft). c.stream) fresh)) (takes-none (option_map source_says known));
+  packable = All-nil IsPackable;
+  count = ap (λ (c : TraceLeft). c.given) fresh;
+  few = omega (arith, ap (λ (c : TraceLeft). c.given) fresh);
 }
 
 -- ended at this point, whose part of the source's end is shown
@@ -66,39 +63,69 @@ whole-end : (start now : Option Stream) (es : List Event) → TakesEvents start 
 whole-end start now es taken end s is = subst (λ (o : Option Stream). IsAllOf o es) is
     (all-taken start now es taken end)
 
-pub feeding-whole : (start : Option Stream) (es : List Event) (chunks : ChunksLeft) → IsWhole chunks.stream →
-    IsFeeding start es chunks → IsReadOf start es Whole
-feeding-whole start es chunks whole so = ended start chunks.stream es Whole so.taken
-    (λ s is. whole-end start chunks.stream es so.taken whole s is)
+pub feeding-whole : (start : Option Stream) (es : List Event) (trace : TraceLeft) → IsWhole trace.stream →
+    IsFeeding start es trace → IsReadOf start es Whole
+feeding-whole start es trace whole so = ended start trace.stream es Whole so.taken
+    (λ s is. whole-end start trace.stream es so.taken whole s is)
 
 fault-end : (start now : Option Stream) (es : List Event) (f : TraceFault) → TakesEvents start now es →
-    IsFaultWithin now f → EndsIn start f
+    IsFaultOf now f → EndsIn start f
 fault-end None now es f taken fault = tt
 fault-end (Some s) None es f taken fault = absurd taken
-fault-end (Some s) (Some t) es f taken (inl own) = λ of_text. ap (λ (x : Stream). x.end) taken ∙ own.2
+fault-end (Some s) (Some t) es f taken (inl own) = λ of_text. ap (λ (x : Stream). x.end) taken ∙ ap (λ (x : Stream). x.end) own.1
 fault-end (Some s) (Some t) es f taken (inr outside) = λ of_text. absurd (not-of-text f outside of_text)
 
 pub feeding-fails :
-    (start : Option Stream) (es : List Event) (chunks : ChunksLeft) (f : TraceFault) →
-    (chunks.fault ≡ None → IsFaultWithin chunks.stream f) → IsFeeding start es chunks →
+    (start : Option Stream) (es : List Event) (trace : TraceLeft) (f : TraceFault) →
+    (trace.fault ≡ None → IsFaultOf trace.stream f) → IsFeeding start es trace →
     IsReadOf start es (Fault f)
-feeding-fails start es chunks f fault so =
-    ended start chunks.stream es (Fault f) so.taken
+feeding-fails start es trace f fault so =
+    ended start trace.stream es (Fault f) so.taken
     (λ s is. subst (λ (o : Option Stream). EndsIn o f) is
-    (fault-end start chunks.stream es f so.taken (fault so.good)))
+    (fault-end start trace.stream es f so.taken (fault so.good)))
 
--- a chunk was read, and put or not
-pub feeding-put :
-    (start : Option Stream) (es more new : List Event) (chunks next : ChunksLeft) (answer : Option FeedEnd) →
-    TakesEvents chunks.stream next.stream more → next.fault ≡ None →
-    IsPut es new more answer → IsFeeding start es chunks → GoesOn start new next answer
-feeding-put start es more new chunks next None step good grown so =
-    feeding-turn start es more new chunks next so step good grown
-feeding-put start es more new chunks next (Some Stopped) step good grown so =
-    ended start next.stream new Stopped (feeding-turn start es more new chunks next so step good grown).taken
-    (λ s is. tt)
-feeding-put start es more new chunks next (Some NoMemory) step good same so =
-    subst (λ (l : List Event). IsReadOf start l NoMemory) (sym same)
-    (ended start chunks.stream es NoMemory so.taken (λ s is. tt))
-feeding-put start es more new chunks next (Some Whole) step good none so = absurd none
-feeding-put start es more new chunks next (Some (Fault f)) step good none so = absurd none
+takes-one : (s t : Option Stream) (e : Event) → TakesEvent s t e → TakesEvents s t (e ∷ [])
+takes-one None t e step = tt
+takes-one (Some s) None e step = step
+takes-one (Some s) (Some t) e step = step
+
+-- an event was read, and listed
+pub feeding-event :
+    (start : Option Stream) (es new : List Event) (e : Event) (trace next : TraceLeft) →
+    TakesEvent trace.stream next.stream e → IsPackable e → next.given ≡ trace.given + 1 → next.given ≤ 65536 →
+    next.fault ≡ None → new ≡ es ++ e ∷ [] → IsFeeding start es trace → IsFeeding start new next
+feeding-event start es new e trace next step fits count few good grown so =
+    subst (λ (l : List Event). IsFeeding start l next) (sym grown) record {
+      good = good;
+      taken = takes-all start trace.stream next.stream es (e ∷ []) so.taken
+          (takes-one trace.stream next.stream e step);
+      packable = All-append IsPackable es (e ∷ []) so.packable (All-cons IsPackable e [] fits (All-nil IsPackable));
+      count = omega (arith, count, so.count, length-append es (e ∷ []));
+      few = few;
+    }
+
+-- what was read stays so, however the feeder ends
+pub stopped-there : (start : Option Stream) (es : List Event) (end : FeedEnd) → IsReadOf start es end →
+    IsReadOf start es Stopped
+stopped-there None es end read = tt
+stopped-there (Some s) es end read = (read.0, tt)
+
+pub feeding-stops : (start : Option Stream) (es : List Event) (trace : TraceLeft) → IsFeeding start es trace →
+    IsReadOf start es Stopped
+feeding-stops start es trace so = ended start trace.stream es Stopped so.taken (λ s is. tt)
+
+pub feeding-wants : (start : Option Stream) (es : List Event) (trace : TraceLeft) → IsFeeding start es trace →
+    IsReadOf start es NoMemory
+feeding-wants start es trace so = ended start trace.stream es NoMemory so.taken (λ s is. tt)
+
+-- so it does as the end is settled
+pub settled-end : (start : Option Stream) (es : List Event) (end new : FeedEnd) (is_put : Bool) →
+    IsSettledEnd end is_put new → IsReadOf start es end → IsReadOf start es new
+settled-end start es Whole new true same read = subst (λ (x : FeedEnd). IsReadOf start es x) (sym same) read
+settled-end start es Whole new false over read =
+    subst (λ (x : FeedEnd). IsReadOf start es x) (sym over) (stopped-there start es Whole read)
+settled-end start es Stopped new is_put same read = subst (λ (x : FeedEnd). IsReadOf start es x) (sym same) read
+settled-end start es (Fault f) new is_put (inl same) read = subst (λ (x : FeedEnd). IsReadOf start es x) (sym same) read
+settled-end start es (Fault f) new is_put (inr over) read =
+    subst (λ (x : FeedEnd). IsReadOf start es x) (sym over.1) (stopped-there start es (Fault f) read)
+settled-end start es NoMemory new is_put same read = subst (λ (x : FeedEnd). IsReadOf start es x) (sym same) read

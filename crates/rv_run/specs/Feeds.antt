@@ -1,10 +1,15 @@
 -- What a feeder has read of a source, where its reader tells its bytes.
-use Rattle.std.specs.Prelude.{◌≡◌, ◌++◌, List, Option, Some, None, true, ⊤}
+use Rattle.std.specs.Prelude.{◌≡◌, ◌⊎◌, ◌<◌, ◌≤◌, ◌+◌, ◌*◌, ℕ, List, All, drop, length}
+use Rattle.std.specs.Prelude.{Bool, true, false, Option, Some, None, ⊤}
+use Rattle.rv_chunk.specs.Chunks.{IsPackable}
+use Rattle.rv_chunk.specs.Packing.{Content}
 use Rattle.rv_event.specs.declared.event.Event.{Event}
 use Rattle.rv_book.specs.Chunked.{IsPrefix}
-use Rattle.rv_trace.specs.Chunks.{ChunksLeft, TakesEvents}
+use Rattle.rv_trace.specs.Chunks.{TakesEvents}
 use Rattle.rv_trace.specs.Faults.{is_of_text}
 use Rattle.rv_trace.specs.Source.{Stream}
+use Rattle.rv_trace.specs.Trace.{TraceLeft}
+use Rattle.rv_trace.specs.declared.fault.FaultKind.TheVariants.{Read}
 use Rattle.rv_run.specs.declared.feeding.Fed.{Fed}
 use Rattle.rv_run.specs.declared.feeding.FeedEnd.{FeedEnd}
 use Rattle.rv_run.specs.declared.feeding.FeedEnd.TheVariants.{Whole, Stopped, Fault, NoMemory}
@@ -25,20 +30,30 @@ IsReadOf (Some s) events end = IsPrefix events s.events × IsEndOf s events end
 abbrev pub IsFedOf : Option Stream → Fed → Type 0
 IsFedOf start fed = IsReadOf start fed.events.items fed.end
 
--- no fault was met, and these events were taken
-pub record IsFeeding (start : Option Stream) (events : List Event) (chunks : ChunksLeft) : Type 0 where
-  pub good : chunks.fault ≡ None
-  pub taken : TakesEvents start chunks.stream events
+-- no fault was met, and these events were taken, which can be packed
+pub record IsFeeding (start : Option Stream) (events : List Event) (trace : TraceLeft) : Type 0 where
+  pub good : trace.fault ≡ None
+  pub taken : TakesEvents start trace.stream events
+  pub packable : All IsPackable events
+  pub count : trace.given ≡ length events
+  pub few : trace.given ≤ 65536
 
 -- the feeder goes on, or it has ended
-abbrev pub GoesOn : Option Stream → List Event → ChunksLeft → Option FeedEnd → Type 0
-GoesOn start events chunks None = IsFeeding start events chunks
-GoesOn start events chunks (Some end) = IsReadOf start events end
+abbrev pub GoesOn : Option Stream → List Event → TraceLeft → Option FeedEnd → Type 0
+GoesOn start events trace None = IsFeeding start events trace
+GoesOn start events trace (Some end) = IsReadOf start events end
 
--- a chunk's events were taken, but for want of memory
-abbrev pub IsPut : List Event → List Event → List Event → Option FeedEnd → Type 0
-IsPut old new more None = new ≡ old ++ more
-IsPut old new more (Some Stopped) = new ≡ old ++ more
-IsPut old new more (Some NoMemory) = new ≡ old
-IsPut old new more (Some Whole) = ⊥
-IsPut old new more (Some (Fault f)) = ⊥
+-- the chunk has the events from the last multiple of eight on
+abbrev pub IsLastOf : List Event → ℕ → Content → Type 0
+IsLastOf events source chunk =
+    (chunk.source ≡ source) × (chunk.events ≡ drop (8 * chunk.number) events)
+    × (8 * chunk.number < length events) × (length events ≤ 8 * chunk.number + 8)
+
+-- The feeder's end, where its source ended so: the same, but for a whole source whose last chunk was not put, and for a
+-- read that failed as its reader was told to stop.
+abbrev pub IsSettledEnd : FeedEnd → Bool → FeedEnd → Type 0
+IsSettledEnd Whole true new = new ≡ Whole
+IsSettledEnd Whole false new = new ≡ Stopped
+IsSettledEnd Stopped is_put new = new ≡ Stopped
+IsSettledEnd (Fault f) is_put new = (new ≡ Fault f) ⊎ ((f.kind ≡ Read) × (new ≡ Stopped))
+IsSettledEnd NoMemory is_put new = new ≡ NoMemory

@@ -1,26 +1,28 @@
 //! A source's chunks, put into the carrier.
-ghost use Rattle.std.specs.Prelude.{◌≡◌, ◌++◌, ◌<◌, IfOk, IfErr, OnOk, OnErr, List, None, Option, option_map};
-ghost use Rattle.rv_event.specs.declared.event.Event.{Event};
-ghost use Rattle.rv_trace.specs.Chunks.{TakesEvents};
+ghost use Rattle.std.specs.Prelude.{◌≡◌, ◌<◌, ◌≤◌, All, IfSome, Option, length, option_map};
+ghost use Rattle.rv_chunk.specs.Chunks.{IsPackable};
 ghost use Rattle.rv_trace.specs.Source.{Stream, source_says};
-ghost use Rattle.rv_run.specs.Feeds.{GoesOn, IsFedOf, IsFeeding, IsPut, IsReadOf};
+ghost use Rattle.rv_run.specs.Feeds.{GoesOn, IsFedOf, IsFeeding, IsLastOf, IsSettledEnd};
 
-use crate::gate::Gate;
+use crate::gate::{Awaited, Gate};
 use crate::waiting::Patience;
-use rv_chunk::{Chunk, unpack};
-use rv_event::{Event, NoMemory};
+use rv_chunk::{Chunk, pack};
+use rv_event::Event;
 use rv_slots::{Carrier, Put};
-use rv_trace::{Chunks, TraceFault};
+use rv_trace::{FaultKind, Trace, TraceFault};
 use std::alloc::Global;
 use std::io::Read;
 use std::sync::Wait;
+
+/// How many events a chunk has, but for the last and those that are put before a wait.
+const FULL: usize = 8;
 
 /// How a feeder ended.
 #[derive(Clone, Copy, PartialEq, Eq, Debug)]
 pub enum FeedEnd {
     /// The source was read to its end, and each of its chunks was put.
     Whole,
-    /// The gate was stopped while a chunk waited for a free slot.
+    /// The gate was stopped before the source was read to its end, or before its last chunk was put.
     Stopped,
     /// The source has this fault.
     Fault(TraceFault),
@@ -37,23 +39,8 @@ pub struct Fed {
     pub end: FeedEnd,
 }
 
-/// Puts the events of the chunk at the end of the list, or leaves the list as it is.
-fn append(alloc: Global, events: &mut Vec<Event>, chunk: &Chunk) -> Result<(), NoMemory>
-    ensures taken { OnOk result (events.new.items ≡ events.old.items ++ chunk.now.events) }
-    ensures refused { OnErr result (events.new.items ≡ events.old.items) }
-{
-    let length = events.len();
-    for event in unpack(alloc, chunk)? {
-        let Ok(()) = events.push(event) else {
-            events.truncate(length);
-            return Err(NoMemory);
-        };
-    }
-    Ok(())
-}
-
 /// Tries until a slot has taken the chunk (`Placed`), or the gate is stopped (`Busy`). Between two tries other
-/// threads are given the processor, and after some tries the thread rests until the gate has news.
+/// threads are given the processor, and after some tries the thread rests until a slot may be free.
 fn place<RT: Wait, C: Carrier, G: Gate>(
     rt: &RT,
     carrier: &C,
@@ -66,79 +53,88 @@ fn place<RT: Wait, C: Carrier, G: Gate>(
 {
     let mut patience = Patience::new();
     for _ in rt.forever() {
-        let seen = gate.news();
+        let seen = gate.news(Awaited::Slot);
         let (back, put) = carrier.put_chunk(rt, seat, chunk);
         seat = back;
         if put == Put::Placed || gate.stopped(rt) {
             return (seat, put);
         }
-        patience.wait(rt, gate, seen);
+        patience.wait(rt, gate, Awaited::Slot, seen);
     }
     unreachable!()
 }
 
-/// Puts a chunk into the carrier, with its events taken into the list first, and tells how the source has ended,
-/// if it has.
-fn put_chunk<RT: Wait, C: Carrier, G: Gate>(
+/// The chunk that the last of the events is in: those from the last multiple of eight on, 1 to 8.
+fn last_chunk(events: &[Event], source: u8) -> Chunk
+    requires some { 0 < length events.now }
+    requires few { length events.now ≤ 65536 }
+    requires source { source < 8 }
+    requires packable { All IsPackable events.now }
+    ensures { IsLastOf events.now source result }
+{
+    let number = (events.len() - 1) / FULL;
+    match pack(&events[FULL * number..], source, number as u32) {
+        Ok(chunk) => chunk,
+        Err(_) => unreachable!(),
+    }
+}
+
+/// Puts the chunk that the last of the events is in, and says whether it did: not where the gate was stopped.
+///
+/// A chunk may be put again once more of its events are there, as the gate takes those that it does not have.
+fn put_last<RT: Wait, C: Carrier, G: Gate>(
     rt: &RT,
-    alloc: Global,
-    events: &mut Vec<Event>,
-    chunk: &Chunk,
+    events: &[Event],
+    source: u8,
     carrier: &C,
     seat: C::Seat,
     gate: &G,
-) -> (C::Seat, Option<FeedEnd>)
-    requires { C.fits carrier.now seat }
-    ensures seat { C.fits carrier.now result.0 }
-    ensures taken { IsPut events.old.items events.new.items chunk.now.events result.1 }
+) -> (C::Seat, bool)
+    requires some { 0 < length events.now }
+    requires few { length events.now ≤ 65536 }
+    requires source { source < 8 }
+    requires packable { All IsPackable events.now }
+    requires seat { C.fits carrier.now seat }
+    ensures { C.fits carrier.now result.0 }
 {
-    let Ok(()) = append(alloc, events, chunk) else {
-        return (seat, Some(FeedEnd::NoMemory));
-    };
-    let (seat, put) = place(rt, carrier, seat, chunk, gate);
-    match put {
-        Put::Placed => (seat, None),
-        Put::Busy => (seat, Some(FeedEnd::Stopped)),
+    let chunk = last_chunk(events, source);
+    let (seat, put) = place(rt, carrier, seat, &chunk, gate);
+    (seat, put == Put::Placed)
+}
+
+/// The source's next event, put at the end of the list, or how the source has ended.
+fn read_next<R: Read>(trace: &mut Trace<R>, events: &mut Vec<Event>) -> Option<FeedEnd>
+    ensures fed { (start : Option Stream) → IsFeeding start events.old.items trace.old
+        → GoesOn start events.new.items trace.new result }
+    ensures kept { IfSome result (λ _. events.new.items ≡ events.old.items) }
+{
+    match trace.next_event() {
+        Ok(Some(event)) => match events.push(event) {
+            Ok(()) => None,
+            Err(_) => Some(FeedEnd::NoMemory),
+        },
+        Ok(None) => Some(FeedEnd::Whole),
+        Err(fault) => Some(FeedEnd::Fault(fault)),
     }
 }
 
-/// The source's next chunk, or how the source has ended.
-fn read_next<R: Read>(chunks: &mut Chunks<R>) -> Result<Chunk, FeedEnd>
-    ensures given { IfOk result
-        (λ c. TakesEvents chunks.old.stream chunks.new.stream c.events) }
-    ensures good { OnOk result (chunks.new.fault ≡ None) }
-    ensures end { IfErr result (λ end. (start : Option Stream) (events : List Event)
-        → IsFeeding start events chunks.old → IsReadOf start events end) }
+/// How the feeder has ended, where the source ended so. A read that failed while the gate is stopped is no fault of
+/// the source: its reader was told to stop.
+fn settle_end<RT: Wait, G: Gate>(rt: &RT, end: FeedEnd, is_put: bool, gate: &G) -> FeedEnd
+    ensures { IsSettledEnd end is_put result }
 {
-    match chunks.next_chunk() {
-        Ok(Some(chunk)) => Ok(chunk),
-        Ok(None) => Err(FeedEnd::Whole),
-        Err(fault) => Err(FeedEnd::Fault(fault)),
+    match end {
+        FeedEnd::Whole if !is_put => FeedEnd::Stopped,
+        FeedEnd::Fault(fault) if fault.kind == FaultKind::Read && gate.stopped(rt) => {
+            FeedEnd::Stopped
+        }
+        _ => end,
     }
 }
 
-/// Reads the source's next chunk and puts it into the carrier, and tells how the source has ended, if it has.
-fn put_next<RT: Wait, R: Read, C: Carrier, G: Gate>(
-    rt: &RT,
-    alloc: Global,
-    chunks: &mut Chunks<R>,
-    events: &mut Vec<Event>,
-    carrier: &C,
-    seat: C::Seat,
-    gate: &G,
-) -> (C::Seat, Option<FeedEnd>)
-    requires { C.fits carrier.now seat }
-    ensures seat { C.fits carrier.now result.0 }
-    ensures fed { (start : Option Stream) → IsFeeding start events.old.items chunks.old
-        → GoesOn start events.new.items chunks.new result.1 }
-{
-    match read_next(chunks) {
-        Ok(chunk) => put_chunk(rt, alloc, events, &chunk, carrier, seat, gate),
-        Err(end) => (seat, Some(end)),
-    }
-}
-
-/// Reads the source and puts its chunks into the carrier, one after another.
+/// Reads the source and puts its chunks into the carrier, one after another. Before a read that would have to wait,
+/// the events at hand are put, however few. The gate is asked before each read whether it was told that it is
+/// stopped, and after each chunk whether it is.
 fn put_all<RT: Wait, R: Read + Drop, C: Carrier, G: Gate>(
     rt: &RT,
     alloc: Global,
@@ -152,12 +148,30 @@ fn put_all<RT: Wait, R: Read + Drop, C: Carrier, G: Gate>(
     requires seat { C.fits carrier.now seat }
     ensures { IsFedOf (option_map source_says (R.remaining reader)) result }
 {
-    let mut chunks = Chunks::new(alloc, reader, source);
+    let mut trace = Trace::new(alloc, reader, source);
     let mut events = Vec::new(alloc);
+    let mut put = 0;
     for _ in rt.forever() {
-        let (back, ended) = put_next(rt, alloc, &mut chunks, &mut events, carrier, seat, gate);
-        seat = back;
-        if let Some(end) = ended {
+        let count = events.len();
+        if put < count && (count % FULL == 0 || gate.is_dry(source)) {
+            let (back, is_put) = put_last(rt, events.as_slice(), source, carrier, seat, gate);
+            seat = back;
+            put = count;
+            if !is_put || gate.stopped(rt) {
+                let end = FeedEnd::Stopped;
+                return Fed { events, end };
+            }
+        }
+        if gate.is_over() {
+            let end = FeedEnd::Stopped;
+            return Fed { events, end };
+        }
+        if let Some(end) = read_next(&mut trace, &mut events) {
+            let mut is_put = true;
+            if end == FeedEnd::Whole && put < count {
+                (_, is_put) = put_last(rt, events.as_slice(), source, carrier, seat, gate);
+            }
+            let end = settle_end(rt, end, is_put, gate);
             return Fed { events, end };
         }
     }
@@ -166,10 +180,11 @@ fn put_all<RT: Wait, R: Read + Drop, C: Carrier, G: Gate>(
 
 /// Reads the source of this number, puts its chunks into the carrier, and tells the gate how it ended.
 ///
-/// A chunk's events are taken into the list before it is put, and a chunk that finds no free slot is tried
-/// again until it is placed or the gate is stopped. For a reader that tells its bytes, the events are the first
-/// of those that the bytes say, and all of them at `Whole`; a fault of the text is the one that the bytes end
-/// in. A fault `Read` or `NoMemory` is the trace's own.
+/// An event is taken into the list before its chunk is put, and a chunk that finds no free slot is tried again
+/// until it is placed or the gate is stopped. Where the next row has to be waited for, the events at hand are put as a
+/// chunk with fewer than eight, which is put again once it has more. The gate is asked before each read. For a reader
+/// that tells its bytes, the events are the first of those that the bytes say, and all of them at `Whole`; a fault of
+/// the text is the one that the bytes end in. A fault `Read` or `NoMemory` is the trace's own.
 pub fn feed<RT: Wait, R: Read + Drop, C: Carrier, G: Gate>(
     rt: &RT,
     alloc: Global,

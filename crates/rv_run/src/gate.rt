@@ -7,8 +7,20 @@ use rv_book::{Book, ChunkOffer};
 use rv_chunk::Chunk;
 use rv_event::MemoryModel;
 use std::alloc::Global;
-use std::sync::{Mutex, Wait};
-use std::thread;
+use std::sync::{Condvar, Mutex, Wait};
+use std::time::Duration;
+
+/// For how many milliseconds a thread rests at most where a gate is told of no news.
+const REST: u64 = 1;
+
+/// What a thread that finds nothing to do waits for.
+#[derive(Clone, Copy, PartialEq, Eq, Debug)]
+pub enum Awaited {
+    /// A chunk that can be offered.
+    Chunk,
+    /// A slot that is free.
+    Slot,
+}
 
 /// Where chunks are offered, and where it is known how far the sources are.
 ///
@@ -25,16 +37,27 @@ pub trait Gate {
     /// Whether nothing is left to be offered: the run is decided, or cannot be.
     fn stopped<R: Wait>(&self, rt: &R) -> bool;
 
-    /// How often this gate was told so far that a thread which found nothing to do may find something now. A
-    /// gate that is told of no news answers 0.
-    fn news(&self) -> u64 {
+    /// Whether this gate was told that it is stopped. One that is told of nothing says no, and is asked by
+    /// `stopped`.
+    fn is_over(&self) -> bool {
+        false
+    }
+
+    /// Whether the source's next row has to be waited for. A gate that is told of no waits says no.
+    fn is_dry(&self, _source: u8) -> bool {
+        false
+    }
+
+    /// How often this gate was told so far that what is awaited may be there. A gate that is told of no news
+    /// answers 0.
+    fn news(&self, _awaited: Awaited) -> u64 {
         0
     }
 
-    /// Waits for a moment, or until there is more news than `seen`. Nothing is promised of how long. A gate that
-    /// is told of no news gives other threads the processor.
-    fn rest<R: Wait>(&self, _rt: &R, _seen: u64) {
-        thread::yield_now();
+    /// Waits for a moment, or until there is more news of what is awaited than `seen`. Nothing is promised of how
+    /// long.
+    fn rest<R: Wait>(&self, rt: &R, _awaited: Awaited, _seen: u64) {
+        Condvar::new().sleep(rt, 0, Duration::from_millis(REST));
     }
 }
 

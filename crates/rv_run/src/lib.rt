@@ -14,8 +14,9 @@
 //! - `specs/`: what each thread tells of its source, and an outcome of all.
 //!
 //! It stands on `rv_event`, `rv_chunk` and `rv_cert`, on `rv_trace` for sources, on `rv_slots`, `rv_book` and `rv_verdict`
-//! for the threads' shared parts, on `rv_report` for outcomes, and on the kit's `thiserror`. Its one contract to the
-//! others: an outcome is true of the entries, or of the sources' bytes where they are known.
+//! for the threads' shared parts, on `rv_pipe` for the bell by which readers are told that a run is over, on
+//! `rv_report` for outcomes, and on the kit's `thiserror`. Its one contract to the others: an outcome is true of the
+//! entries, or of the sources' bytes where they are known.
 #![tactic(auto)]
 
 mod comparing;
@@ -35,10 +36,10 @@ mod waiting;
 pub use driving::{Driven, drive};
 pub use fault::RunFault;
 pub use feeding::{Fed, FeedEnd, feed};
-pub use gate::{BookGate, Gate};
+pub use gate::{Awaited, BookGate, Gate};
 pub use laws::{allowed_where_consistent, outcomes_agree};
 pub use replaying::replay;
-pub use running::{Settings, run, run_over};
+pub use running::{Settings, run, run_over, run_with_bell};
 pub use rv_report::Outcome;
 pub use serving::{ServeEnd, Served, serve};
 pub use step::InStep;

@@ -12,6 +12,7 @@ use crate::gate::BookGate;
 use crate::judging::judge;
 use crate::step::InStep;
 use rv_event::MemoryModel;
+use rv_pipe::Bell;
 use rv_report::Outcome;
 use rv_slots::{Carrier, Slots, SlotsFault, TableCarrier};
 use rv_verdict::VerdictCell;
@@ -45,6 +46,41 @@ impl Settings {
     }
 }
 
+/// As [`run_over`], where the readers are told by this bell that the run is over.
+fn run_in<RT: Threads + Wait + Sync, R: Read + Send + Drop, C: Carrier + Sync + Drop>(
+    rt: &RT,
+    alloc: Global,
+    readers: Vec<R>,
+    settings: Settings,
+    carrier: C,
+    seats: Vec<C::Seat>,
+    bell: &Bell,
+) -> Result<Outcome, RunFault>
+    requires sources { (0 < vec_len readers) × (vec_len readers ≤ 8) }
+    requires workers { 0 < settings.workers }
+    requires seats { vec_len readers + settings.workers ≤ vec_len seats }
+    requires fits { All (λ s. C.fits carrier s) seats.items }
+    ensures outcome { IfOk result (IsTrueOf settings.model
+        (map (λ r. option_map source_says (R.remaining r)) readers.items)) }
+    ensures fault { IfErr result (IsFaultAmong
+        (map (λ r. option_map source_says (R.remaining r)) readers.items)) }
+    ensures settings { result ≢ Err fault.Settings }
+{
+    let count = readers.len() as u8;
+    let cell = VerdictCell::new(alloc);
+    let gate = BookGate::new(alloc, settings.model, count);
+    let step = InStep::new(carrier, gate, count, bell);
+    let workers = settings.workers;
+    let driven = drive(rt, alloc, readers, workers, &step, seats, &step, &cell)?;
+    let fed = driven.fed.as_slice();
+    let served = driven.served.as_slice();
+    let book = step.into_gate().into_book();
+    let outcome = judge(alloc, settings.model, fed, served, &cell, &book);
+    // By a call: where the scope ends, the proof would take the book apart, field by field.
+    drop(book);
+    outcome
+}
+
 /// The same as [`run`], over a carrier of one's own that has not been used yet, with seats of it for all threads.
 ///
 /// There are 1 to 8 readers and at least one worker; the number of slots in the settings is not read. The outcome
@@ -70,19 +106,7 @@ pub fn run_over<RT: Threads + Wait + Sync, R: Read + Send + Drop, C: Carrier + S
         (map (λ r. option_map source_says (R.remaining r)) readers.items)) }
     ensures settings { result ≢ Err fault.Settings }
 {
-    let count = readers.len() as u8;
-    let cell = VerdictCell::new(alloc);
-    let gate = BookGate::new(alloc, settings.model, count);
-    let step = InStep::new(carrier, gate, count);
-    let workers = settings.workers;
-    let driven = drive(rt, alloc, readers, workers, &step, seats, &step, &cell)?;
-    let fed = driven.fed.as_slice();
-    let served = driven.served.as_slice();
-    let book = step.into_gate().into_book();
-    let outcome = judge(alloc, settings.model, fed, served, &cell, &book);
-    // By a call: where the scope ends, the proof would take the book apart, field by field.
-    drop(book);
-    outcome
+    run_in(rt, alloc, readers, settings, carrier, seats, &Bell::new())
 }
 
 /// Reads the sources in threads of their own, judges their events in other threads while they are read, and
@@ -112,6 +136,30 @@ pub fn run<RT: Threads + Wait + Sync, R: Read + Send + Drop>(
         (map (λ r. option_map source_says (R.remaining r)) readers.items)) }
     ensures settings { (result ≡ Err fault.Settings) ↔ IsOutOfRange (vec_len readers) settings }
 {
+    run_with_bell(rt, alloc, readers, settings, &Bell::new())
+}
+
+/// The same as [`run`], where the readers are told by this bell that the run is over, as those of `rv_pipe` are.
+///
+/// The bell is that of no other run. By it the run knows which source is silent, and puts the events that such a
+/// source gave so far as a chunk that is not full. Once the run is decided, or cannot be, the bell says so, and the
+/// readers that wait for bytes end.
+///
+/// # Errors
+/// As [`run`]. A read that fails because the run is over is no fault of its source.
+pub fn run_with_bell<RT: Threads + Wait + Sync, R: Read + Send + Drop>(
+    rt: &RT,
+    alloc: Global,
+    readers: Vec<R>,
+    settings: Settings,
+    bell: &Bell,
+) -> Result<Outcome, RunFault>
+    ensures outcome { IfOk result (IsTrueOf settings.model
+        (map (λ r. option_map source_says (R.remaining r)) readers.items)) }
+    ensures fault { IfErr result (IsFaultAmong
+        (map (λ r. option_map source_says (R.remaining r)) readers.items)) }
+    ensures settings { (result ≡ Err fault.Settings) ↔ IsOutOfRange (vec_len readers) settings }
+{
     if !settings.admit(readers.len()) {
         return Err(RunFault::Settings);
     }
@@ -120,12 +168,13 @@ pub fn run<RT: Threads + Wait + Sync, R: Read + Send + Drop>(
         Err(SlotsFault::Count) => unreachable!(),
         Err(SlotsFault::NoMemory) => return Err(RunFault::NoMemory),
     };
-    run_over(
+    run_in(
         rt,
         alloc,
         readers,
         settings,
         TableCarrier::new(slots),
         seats,
+        bell,
     )
 }

@@ -2,7 +2,7 @@
 ghost use Rattle.std.specs.Prelude.{◌≡◌};
 ghost use Rattle.rv_verdict.specs.Known.{StillKnows};
 
-use crate::gate::Gate;
+use crate::gate::{Awaited, Gate};
 use crate::waiting::Patience;
 use rv_book::ChunkOffer;
 use rv_slots::{Carrier, Looked};
@@ -136,7 +136,7 @@ pub fn serve<RT: Wait, C: Carrier, G: Gate>(
 {
     let mut patience = Patience::new();
     for _ in rt.forever() {
-        let seen = gate.news();
+        let seen = gate.news(Awaited::Chunk);
         if gate.stopped(rt) {
             let end = ServeEnd::Over;
             return Served { seat, note, end };
@@ -144,7 +144,7 @@ pub fn serve<RT: Wait, C: Carrier, G: Gate>(
         let (back, turn) = serve_round(rt, alloc, carrier, seat, gate, cell, &mut note);
         seat = back;
         match turn {
-            Turn::Idle => patience.wait(rt, gate, seen),
+            Turn::Idle => patience.wait(rt, gate, Awaited::Chunk, seen),
             Turn::Applied => patience.renew(),
             Turn::NoMemory => {
                 let end = ServeEnd::NoMemory;

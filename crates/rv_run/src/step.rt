@@ -5,12 +5,14 @@
 //! while.
 //!
 //! What is put in by one thread and taken out by another passes through here, so here the threads are woken that
-//! wait for it. Nothing is promised of either, since nothing rests on them but time.
+//! wait for it, and the readers are told that the run is over. Nothing is promised of either, since nothing rests on
+//! them but time.
 ghost use Rattle.std.specs.Prelude.{◌≡◌};
 
-use crate::gate::Gate;
+use crate::gate::{Awaited, Gate};
 use rv_book::ChunkOffer;
 use rv_chunk::Chunk;
+use rv_pipe::Bell;
 use rv_slots::{Carrier, Looked, Put};
 use std::sync::atomic::{AtomicU64, Ordering};
 use std::sync::{Condvar, Wait};
@@ -22,27 +24,41 @@ const AHEAD: u64 = 2;
 
 /// How often other threads are given the processor before a chunk that is ahead is put all the same, since a
 /// source that is slow to come must not stop the others.
-const TURNS: u32 = 1000;
+const TURNS: u64 = 1000;
 
 /// For how many milliseconds a thread rests at most, for the case that it was not woken.
-const REST: u64 = 50;
+const REST: u64 = 200;
 
 /// The count of a source that is not read, or not any more.
 const ENDED: u64 = u64::MAX;
 
-/// A carrier and a gate that are used together, with the number of chunks that each source has placed. What rests
-/// is woken where a chunk was placed or is done with, where a source has ended, and where the gate may be stopped.
+/// How far one source is.
 #[derive(Drop)]
-pub struct InStep<C, G> {
-    carrier: C,
-    gate: G,
-    placed: [AtomicU64; 8],
-    news: Condvar,
+struct Lane {
+    /// How many chunks were placed, or `ENDED`.
+    placed: AtomicU64,
+    /// How often its next chunk was held back.
+    turns: AtomicU64,
+    /// Whether its next chunk found no free slot: 1, else 0.
+    wants: AtomicU64,
 }
 
-impl<C: Drop, G: Drop> InStep<C, G> {
-    /// The two, for so many sources that are being read.
-    pub fn new(carrier: C, gate: G, sources: u8) -> InStep<C, G>
+/// A carrier and a gate that are used together, with how far each source is. A worker that rests is woken where a chunk
+/// was placed, a source's thread where a slot may be free, and all where the gate may be stopped. The readers are told
+/// by the bell.
+#[derive(Drop)]
+pub struct InStep<'a, C, G> {
+    carrier: C,
+    gate: G,
+    lanes: [Lane; 8],
+    chunks: Condvar,
+    slots: Condvar,
+    bell: &'a Bell,
+}
+
+impl<'a, C: Drop, G: Drop> InStep<'a, C, G> {
+    /// The two, for so many sources that are being read, and the bell of their readers.
+    pub fn new(carrier: C, gate: G, sources: u8, bell: &'a Bell) -> InStep<'a, C, G>
         ensures carrier { result.carrier ≡ carrier }
         ensures gate { result.gate ≡ gate }
     {
@@ -50,51 +66,84 @@ impl<C: Drop, G: Drop> InStep<C, G> {
         InStep {
             carrier,
             gate,
-            placed: array::from_fn(|i| AtomicU64::new(if i < count { 0 } else { ENDED })),
-            news: Condvar::new(),
+            lanes: array::from_fn(|i| Lane {
+                placed: AtomicU64::new(if i < count { 0 } else { ENDED }),
+                turns: AtomicU64::new(0),
+                wants: AtomicU64::new(0),
+            }),
+            chunks: Condvar::new(),
+            slots: Condvar::new(),
+            bell,
         }
     }
 
     /// The gate, once nobody shares them.
     pub fn into_gate(self) -> G
-        ensures { result ≡ self.gate }
+        ensures { result ≡ self.entry.gate }
     {
         self.gate
     }
 }
 
-impl<C, G> InStep<C, G> {
-    /// Whether another source that is still read is far behind this one.
-    fn is_ahead(&self, source: u8) -> bool {
-        match self.placed.get(source as usize) {
-            Some(placed) => {
-                let mine = placed.load(Ordering::SeqCst);
-                self.placed.iter().any(|other| other.load(Ordering::SeqCst).saturating_add(AHEAD)
-                    < mine)
-            }
-            None => false,
-        }
+impl<'a, C, G> InStep<'a, C, G> {
+    /// Whether another source that is still read is far behind this chunk.
+    fn is_ahead(&self, number: u64) -> bool {
+        self.lanes.iter().any(|lane| lane.placed.load(Ordering::SeqCst).saturating_add(AHEAD)
+            < number)
     }
 
-    /// Gives other threads the processor while this source is ahead, for so many turns at most.
-    fn hold(&self, source: u8) {
-        for _ in 0..TURNS {
-            if !self.is_ahead(source) {
+    /// Gives other threads the processor while the chunk is ahead, for so many turns at most in all. A chunk that was
+    /// put before, with fewer events, is not held back.
+    fn hold(&self, lane: &Lane, number: u64) {
+        if number < lane.placed.load(Ordering::SeqCst) {
+            return;
+        }
+        for _ in lane.turns.load(Ordering::SeqCst)..TURNS {
+            if !self.is_ahead(number) {
                 return;
             }
+            lane.turns.fetch_add(1, Ordering::SeqCst);
             thread::yield_now();
         }
     }
 
-    /// Counts a chunk that was placed.
-    fn count(&self, source: u8) {
-        if let Some(placed) = self.placed.get(source as usize) {
-            placed.fetch_add(1, Ordering::SeqCst);
+    /// Takes down that a chunk was placed, and wakes a worker.
+    fn count(&self, lane: &Lane, number: u64) {
+        lane.wants.store(0, Ordering::SeqCst);
+        if lane.placed.load(Ordering::SeqCst) <= number {
+            lane.placed
+                .store(number.saturating_add(1), Ordering::SeqCst);
+            lane.turns.store(0, Ordering::SeqCst);
         }
+        self.chunks.notify_one();
+    }
+
+    /// Wakes the sources' threads that wait for a free slot.
+    fn free(&self) {
+        if self
+            .lanes
+            .iter()
+            .any(|lane| lane.wants.load(Ordering::SeqCst) > 0)
+        {
+            self.slots.notify_all();
+        }
+    }
+
+    /// Wakes the threads that rest.
+    fn wake_all(&self) {
+        self.chunks.notify_all();
+        self.slots.notify_all();
+    }
+
+    /// Whether no source is read any more.
+    fn has_ended(&self) -> bool {
+        self.lanes
+            .iter()
+            .all(|lane| lane.placed.load(Ordering::SeqCst) == ENDED)
     }
 }
 
-impl<C: Carrier, G> Carrier for InStep<C, G> {
+impl<'a, C: Carrier, G> Carrier for InStep<'a, C, G> {
     type Seat = C::Seat;
 
     type Lease = C::Lease;
@@ -103,62 +152,101 @@ impl<C: Carrier, G> Carrier for InStep<C, G> {
 
     ghost holds = { λ s lease. C.holds s.carrier lease };
 
-    /// Puts the chunk, after it was held back where its source is ahead.
+    /// Puts the chunk, after it was held back where its source is ahead. Where no slot is free, it says so and tries
+    /// once more, so that no slot is freed unseen.
     fn put_chunk<R: Wait>(&self, rt: &R, seat: C::Seat, chunk: &Chunk) -> (C::Seat, Put) {
-        self.hold(chunk.source());
-        let (seat, put) = self.carrier.put_chunk(rt, seat, chunk);
+        let Some(lane) = self.lanes.get(chunk.source() as usize) else {
+            return self.carrier.put_chunk(rt, seat, chunk);
+        };
+        let number = u64::from(chunk.number());
+        self.hold(lane, number);
+        let (mut seat, mut put) = self.carrier.put_chunk(rt, seat, chunk);
+        if put == Put::Busy {
+            lane.wants.store(1, Ordering::SeqCst);
+            (seat, put) = self.carrier.put_chunk(rt, seat, chunk);
+        }
         if put == Put::Placed {
-            self.count(chunk.source());
-            self.news.notify_all();
+            self.count(lane, number);
         }
         (seat, put)
     }
 
+    /// Looks at the slot. A look that finds nothing may be the last that kept the slot from being free.
     fn read_chunk<R: Wait>(
         &self,
         rt: &R,
         seat: C::Seat,
         index: usize,
     ) -> Looked<C::Seat, C::Lease> {
-        self.carrier.read_chunk(rt, seat, index)
+        let looked = self.carrier.read_chunk(rt, seat, index);
+        if matches!(&looked, Looked::Nothing(_)) {
+            self.free();
+        }
+        looked
     }
 
     fn finish_chunk<R: Wait>(&self, rt: &R, lease: C::Lease, applied: bool) -> C::Seat {
         let seat = self.carrier.finish_chunk(rt, lease, applied);
-        if applied {
-            self.news.notify_all();
-        }
+        self.free();
         seat
     }
 }
 
-impl<C, G: Gate> Gate for InStep<C, G> {
+impl<'a, C, G: Gate> Gate for InStep<'a, C, G> {
     fn offer_chunk<R: Wait>(&self, rt: &R, chunk: &Chunk) -> ChunkOffer {
         let offer = self.gate.offer_chunk(rt, chunk);
-        if matches!(&offer, ChunkOffer::Halted(_) | ChunkOffer::NoMemory) {
-            self.news.notify_all();
+        match &offer {
+            ChunkOffer::Halted(_) | ChunkOffer::NoMemory => {
+                self.bell.end();
+                self.wake_all();
+            }
+            ChunkOffer::Applied(_) => {
+                if self.has_ended() && self.gate.stopped(rt) {
+                    self.wake_all();
+                }
+            }
+            _ => {}
         }
         offer
     }
 
-    /// Ends the source, for which nobody waits from here on.
+    /// Ends the source, for which nobody waits from here on. Where it did not end whole, the run is over.
     fn end_source<R: Wait>(&self, rt: &R, source: u8, total: Option<u32>) {
-        if let Some(placed) = self.placed.get(source as usize) {
-            placed.store(ENDED, Ordering::SeqCst);
+        if let Some(lane) = self.lanes.get(source as usize) {
+            lane.placed.store(ENDED, Ordering::SeqCst);
+            lane.wants.store(0, Ordering::SeqCst);
         }
         self.gate.end_source(rt, source, total);
-        self.news.notify_all();
+        if total.is_none() {
+            self.bell.end();
+        }
+        self.wake_all();
     }
 
     fn stopped<R: Wait>(&self, rt: &R) -> bool {
         self.gate.stopped(rt)
     }
 
-    fn news(&self) -> u64 {
-        self.news.notifications()
+    fn is_over(&self) -> bool {
+        self.bell.is_over()
     }
 
-    fn rest<R: Wait>(&self, rt: &R, seen: u64) {
-        self.news.sleep(rt, seen, Duration::from_millis(REST));
+    fn is_dry(&self, source: u8) -> bool {
+        self.bell.is_dry(source)
+    }
+
+    fn news(&self, awaited: Awaited) -> u64 {
+        match awaited {
+            Awaited::Chunk => self.chunks.notifications(),
+            Awaited::Slot => self.slots.notifications(),
+        }
+    }
+
+    fn rest<R: Wait>(&self, rt: &R, awaited: Awaited, seen: u64) {
+        let news = match awaited {
+            Awaited::Chunk => &self.chunks,
+            Awaited::Slot => &self.slots,
+        };
+        news.sleep(rt, seen, Duration::from_millis(REST));
     }
 }

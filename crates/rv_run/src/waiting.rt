@@ -1,5 +1,5 @@
 //! How a thread of a run waits that finds nothing to do.
-use crate::gate::Gate;
+use crate::gate::{Awaited, Gate};
 use std::sync::Wait;
 use std::thread;
 
@@ -25,13 +25,19 @@ impl Patience {
     }
 
     /// Gives up the processor, or, where that was of no use for some turns, rests until the gate has more news
-    /// than was seen before the last look.
-    pub(crate) fn wait<RT: Wait, G: Gate>(&mut self, rt: &RT, gate: &G, seen: u64) {
+    /// of what is awaited than was seen before the last look.
+    pub(crate) fn wait<RT: Wait, G: Gate>(
+        &mut self,
+        rt: &RT,
+        gate: &G,
+        awaited: Awaited,
+        seen: u64,
+    ) {
         if self.turns < TURNS {
             self.turns += 1;
             thread::yield_now();
         } else {
-            gate.rest(rt, seen);
+            gate.rest(rt, awaited, seen);
         }
     }
 }

@@ -5,8 +5,8 @@
 //! - [`ending`]: what is printed, and the exit status.
 //! - `specs/`: which ending comes of what, and what each ending prints.
 //!
-//! It stands on `rv_words` for its words, on `rv_run` for the judgement, on `rv_report` for the reports, on the crates
-//! whose types these name, and on the kit's `clap` and `either`. Its one contract: each ending is of the step that it
+//! It stands on `rv_words` for its words, on `rv_pipe` for sources that may be silent, on `rv_run` for the judgement, on
+//! `rv_report` for the reports, on the crates whose types these name, and on the kit's `clap` and `either`. Its one contract: each ending is of the step that it
 //! names, and a report is that of an outcome of the sources.
 #![tactic(auto)]
 
@@ -21,22 +21,32 @@ mod tests;
 mod words;
 
 use ending::{Ending, settle};
-use opening::open_all;
-use rv_run::{Settings, run};
+use opening::{Opened, first_unopened, open_all};
+use rv_pipe::Bell;
+use rv_run::{RunFault, Settings, run_with_bell};
 use rv_words::{Asked, asked};
 use std::io;
 use std::process::ExitCode;
-use std::sync::Wait;
+use std::sync::{Arc, Wait};
 use std::thread::Threads;
 use words::{texts_of, words_of};
 
-/// What comes of a request. The sources are judged in threads of the second handle.
-fn answer<RT: Threads + Wait + Sync>(rt: &HostRuntime, threads: &RT, asked: &Asked) -> Ending
+/// What comes of a request. The sources are judged in threads of the second handle. A source that may be silent is read
+/// in a thread that is left behind where the others decide, and so it ends with the program.
+fn answer<RT: Threads + Wait + Sync + Copy + Send + 'static>(
+    rt: &HostRuntime,
+    threads: &RT,
+    asked: &Asked,
+) -> Ending
     requires { IsInRange asked.now }
     ensures { EndsAsked asked.now result }
 {
-    let inputs = match open_all(rt, asked.files.as_slice()) {
-        Ok(inputs) => inputs,
+    let names = asked.files.as_slice();
+    let Ok(bell) = Arc::new(rt.alloc(), Bell::new()) else {
+        return Ending::Failed(RunFault::NoMemory);
+    };
+    let Opened { inputs, pipes } = match open_all(rt, threads, names, &bell) {
+        Ok(opened) => opened,
         Err(ending) => return ending,
     };
     let settings = Settings {
@@ -44,14 +54,17 @@ fn answer<RT: Threads + Wait + Sync>(rt: &HostRuntime, threads: &RT, asked: &Ask
         slots: asked.slots,
         model: asked.model,
     };
-    match run(threads, rt.alloc(), inputs, settings) {
+    match run_with_bell(threads, rt.alloc(), inputs, settings, &bell) {
         Ok(outcome) => Ending::Ran(outcome),
-        Err(fault) => Ending::Failed(fault),
+        Err(fault) => match first_unopened(rt, threads, names, pipes.as_slice()) {
+            Some(ending) => ending,
+            None => Ending::Failed(fault),
+        },
     }
 }
 
 /// What comes of the words, and whether the report is JSON.
-fn answer_words<RT: Threads + Wait + Sync>(
+fn answer_words<RT: Threads + Wait + Sync + Copy + Send + 'static>(
     rt: &HostRuntime,
     threads: &RT,
     words: &[&str],
@@ -65,7 +78,10 @@ fn answer_words<RT: Threads + Wait + Sync>(
 }
 
 /// How the program ends, and whether the report is JSON.
-fn end_of<RT: Threads + Wait + Sync>(rt: &HostRuntime, threads: &RT) -> (Ending, bool)
+fn end_of<RT: Threads + Wait + Sync + Copy + Send + 'static>(
+    rt: &HostRuntime,
+    threads: &RT,
+) -> (Ending, bool)
     ensures { IsEnd result.0 result.1 }
 {
     let words = match words_of(rt) {

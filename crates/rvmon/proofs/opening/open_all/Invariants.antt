@@ -2,4 +2,4 @@ use Rattle.std.proofs.Common.{◌≡◌, length}
 use Rattle.rvmon.proofs.opening.open_all.Given as goal
 
 abbrev pub invariant-loop-name : goal.invariant-loop-name
-invariant-loop-name l = length l.inputs.items ≡ l.name-index
+invariant-loop-name g l = length l.opened.inputs.items ≡ l.name-index

@@ -3,7 +3,7 @@ use Rattle.rv_trace.specs.Source.{source_says}
 use Rattle.rv_run.specs.Comparisons.{AgreesWith, IsFaultIn}
 use Rattle.rv_run.specs.declared.feeding.Fed.{Fed}
 use Rattle.rv_run.proofs.Outcomes.{answer-true, answer-fault}
-use Rattle.rv_run.proofs.running.run_over.Goals as goal
+use Rattle.rv_run.proofs.running.run_in.Goals as goal
 
 pub returns-clause-outcome : goal.returns-clause-outcome
 returns-clause-outcome g c =

@@ -1,0 +1,112 @@
+//! Bytes that were handed over and not taken yet.
+ghost use Rattle.std.specs.Prelude.{◌≡◌, ◌≤◌, ◌↔◌, [], length, take, drop, IsTrue};
+
+use std::marker::Model;
+
+/// How many bytes are handed over at once.
+pub(crate) const SIZE: usize = 16384;
+
+/// Bytes that were put and not taken yet, which are taken row by row.
+#[derive(Drop)]
+pub(crate) struct Lines {
+    bytes: [u8; SIZE],
+    from: usize,
+    to: usize,
+}
+
+impl Model for Lines {
+    ghost use Rattle.std.specs.Prelude.{ℕ, ◌≤◌, List, slice_range};
+
+    ghost Value = { List ℕ };
+
+    ghost view = { λ l. slice_range l.bytes l.from l.to };
+
+    ghost invariant = { λ l. (l.from ≤ l.to) × (l.to ≤ 16384) };
+}
+
+/// Whether a byte ends a line. A line that has no other bytes is no row.
+fn ends_line(byte: u8) -> bool {
+    byte == b'\n' || byte == b'\r'
+}
+
+/// The place behind the first row and its line feed, or that behind the last byte.
+fn row_end(bytes: &[u8]) -> usize
+    ensures { result ≤ length bytes.now }
+{
+    let blank = match bytes.iter().position(|b| !ends_line(*b)) {
+        Some(at) => at,
+        None => return bytes.len(),
+    };
+    match bytes[blank..].iter().position(|b| *b == b'\n') {
+        Some(at) => blank + at + 1,
+        None => bytes.len(),
+    }
+}
+
+impl Lines {
+    /// No bytes.
+    pub(crate) fn new() -> Lines
+        ensures { result ≡ [] }
+    {
+        Lines {
+            bytes: [0; SIZE],
+            from: 0,
+            to: 0,
+        }
+    }
+
+    /// The bytes, in order.
+    fn as_slice(&self) -> &[u8]
+        ensures value { result.now ≡ self.now }
+        ensures fits { length result.now ≤ SIZE }
+    {
+        &self.bytes[self.from..self.to]
+    }
+
+    /// Whether all bytes were taken.
+    pub(crate) fn is_empty(&self) -> bool
+        ensures { IsTrue result ↔ self.now ≡ [] }
+    {
+        self.as_slice().is_empty()
+    }
+
+    /// Whether a row stands here: a line feed, behind something that is none.
+    pub(crate) fn has_row(&self) -> bool {
+        self.as_slice()
+            .iter()
+            .skip_while(|b| ends_line(**b))
+            .any(|b| *b == b'\n')
+    }
+
+    /// Puts bytes in the place of those that are there.
+    pub(crate) fn put(&mut self, block: &[u8])
+        requires { length block.now ≤ SIZE }
+        ensures { self.new ≡ block.now }
+    {
+        let count = block.len();
+        self.bytes[..count].copy_from_slice(block);
+        self.from = 0;
+        self.to = count;
+    }
+
+    /// Passes over so many bytes.
+    fn skip(&mut self, count: usize)
+        requires { count ≤ length self.old }
+        ensures { self.new ≡ drop count self.old }
+    {
+        self.from += count;
+    }
+
+    /// Takes bytes: to the end of the first row, or as many as there is room for.
+    pub(crate) fn take(&mut self, buf: &mut [u8]) -> usize
+        ensures bound { result ≤ length buf.new }
+        ensures taken { take result buf.new ≡ take result self.old }
+        ensures left { self.new ≡ drop result self.old }
+    {
+        let bytes = self.as_slice();
+        let count = row_end(bytes).min(buf.len());
+        buf[..count].copy_from_slice(&bytes[..count]);
+        self.skip(count);
+        count
+    }
+}
