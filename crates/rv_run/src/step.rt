@@ -118,15 +118,11 @@ impl<'a, C, G> InStep<'a, C, G> {
         self.chunks.notify_one();
     }
 
-    /// Wakes the sources' threads that wait for a free slot.
-    fn free(&self) {
-        if self
-            .lanes
+    /// Whether a source's thread waits for a free slot.
+    fn wants_slot(&self) -> bool {
+        self.lanes
             .iter()
             .any(|lane| lane.wants.load(Ordering::SeqCst) > 0)
-        {
-            self.slots.notify_all();
-        }
     }
 
     /// Wakes the threads that rest.
@@ -171,23 +167,20 @@ impl<'a, C: Carrier, G> Carrier for InStep<'a, C, G> {
         (seat, put)
     }
 
-    /// Looks at the slot. A look that finds nothing may be the last that kept the slot from being free.
     fn read_chunk<R: Wait>(
         &self,
         rt: &R,
         seat: C::Seat,
         index: usize,
     ) -> Looked<C::Seat, C::Lease> {
-        let looked = self.carrier.read_chunk(rt, seat, index);
-        if matches!(&looked, Looked::Nothing(_)) {
-            self.free();
-        }
-        looked
+        self.carrier.read_chunk(rt, seat, index)
     }
 
     fn finish_chunk<R: Wait>(&self, rt: &R, lease: C::Lease, applied: bool) -> C::Seat {
         let seat = self.carrier.finish_chunk(rt, lease, applied);
-        self.free();
+        if applied && self.wants_slot() {
+            self.slots.notify_one();
+        }
         seat
     }
 }
@@ -242,11 +235,18 @@ impl<'a, C, G: Gate> Gate for InStep<'a, C, G> {
         }
     }
 
+    /// Rests until there is more news. A worker's last look, or its last unpin of a chunk that another has applied, may
+    /// have freed a slot, so before it rests it wakes whoever waits for one.
     fn rest<R: Wait>(&self, rt: &R, awaited: Awaited, seen: u64) {
-        let news = match awaited {
-            Awaited::Chunk => &self.chunks,
-            Awaited::Slot => &self.slots,
-        };
-        news.sleep(rt, seen, Duration::from_millis(REST));
+        let time = Duration::from_millis(REST);
+        match awaited {
+            Awaited::Chunk => {
+                if self.wants_slot() {
+                    self.slots.notify_all();
+                }
+                self.chunks.sleep(rt, seen, time);
+            }
+            Awaited::Slot => self.slots.sleep(rt, seen, time),
+        }
     }
 }

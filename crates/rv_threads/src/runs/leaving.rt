@@ -1,59 +1,53 @@
 //! That a source is asked for no more once the run is decided.
-ghost use Rattle.std.specs.Prelude.{◌≤◌, All, length, vec_len};
+ghost use Rattle.std.specs.Prelude.{◌≤◌, All, length};
 
 use super::rows::HEADER;
 use rv_book::ChunkOffer;
 use rv_chunk::Chunk;
-use rv_event::MemoryModel;
-use rv_run::{BookGate, FeedEnd, Gate, drive};
+use rv_run::{FeedEnd, Gate, feed};
 use rv_slots::{Carrier, LockedSlots, Slots, TableCarrier};
-use rv_verdict::VerdictCell;
 use std::alloc::Global;
 use std::io;
 use std::io::Read;
 use std::process::Abort;
 use std::sync::Wait;
 use std::sync::atomic::{AtomicU64, Ordering};
-use std::thread::Threads;
 
-/// How many events the source would have.
-const EVENTS: u32 = 4_000;
+/// How many events the source has.
+const EVENTS: u32 = 40;
 
-/// A gate that tells when it was stopped by a verdict.
+/// A number of reads that never comes.
+const NEVER: u64 = u64::MAX;
+
+/// A gate that is told after so many reads that it is stopped, and is stopped after so many.
 #[derive(Drop)]
 struct Told<'a> {
-    inner: BookGate,
-    over: &'a AtomicU64,
+    reads: &'a AtomicU64,
+    told_after: u64,
+    stopped_after: u64,
 }
 
 impl Gate for Told<'_> {
-    fn offer_chunk<R: Wait>(&self, rt: &R, chunk: &Chunk) -> ChunkOffer {
-        let offer = self.inner.offer_chunk(rt, chunk);
-        if matches!(&offer, ChunkOffer::Halted(_)) {
-            self.over.store(1, Ordering::SeqCst);
-        }
-        offer
+    fn offer_chunk<R: Wait>(&self, _rt: &R, _chunk: &Chunk) -> ChunkOffer {
+        ChunkOffer::Stopped
     }
 
-    fn end_source<R: Wait>(&self, rt: &R, source: u8, total: Option<u32>) {
-        self.inner.end_source(rt, source, total);
-    }
+    fn end_source<R: Wait>(&self, _rt: &R, _source: u8, _total: Option<u32>) {}
 
-    fn stopped<R: Wait>(&self, rt: &R) -> bool {
-        self.inner.stopped(rt)
+    fn stopped<R: Wait>(&self, _rt: &R) -> bool {
+        self.reads.load(Ordering::SeqCst) >= self.stopped_after
     }
 
     fn is_over(&self) -> bool {
-        self.over.load(Ordering::SeqCst) > 0
+        self.reads.load(Ordering::SeqCst) >= self.told_after
     }
 }
 
-/// A source that gives a row a call, and counts the calls that come after the verdict.
+/// A source that gives a row a read, and counts them.
 #[derive(Drop)]
 struct Watched<'a> {
     rest: &'a [u8],
-    over: &'a AtomicU64,
-    late: &'a AtomicU64,
+    reads: &'a AtomicU64,
 }
 
 /// The place behind the first line feed, or that behind the last byte.
@@ -68,9 +62,7 @@ fn line_end(bytes: &[u8]) -> usize
 
 impl Read for Watched<'_> {
     fn read(&mut self, buf: &mut [u8]) -> io::Result<usize> {
-        if self.over.load(Ordering::SeqCst) > 0 {
-            self.late.fetch_add(1, Ordering::SeqCst);
-        }
+        self.reads.fetch_add(1, Ordering::SeqCst);
         let count = line_end(self.rest).min(buf.len());
         let (row, rest) = self.rest.split_at(count);
         buf[..count].copy_from_slice(row);
@@ -79,63 +71,65 @@ impl Read for Watched<'_> {
     }
 }
 
-/// A trace whose second event is a stale load, with many events behind it.
-fn stale_trace(rt: &impl Abort, alloc: Global) -> String {
+/// A trace of loads.
+fn trace_of(rt: &impl Abort, alloc: Global) -> String {
     let mut text = String::new(alloc);
     text.push_str(HEADER).expect(rt, "memory");
-    text.push_str("0,0,S,0,,1,,\n0,1,L,0,0,,,\n")
-        .expect(rt, "memory");
-    for seq in 2..EVENTS {
+    for seq in 0..EVENTS {
         let row = format!(in alloc; "0,{seq},L,1,0,,,\n").expect(rt, "memory");
         text.push_str(row.as_str()).expect(rt, "memory");
     }
     text
 }
 
-/// Drives the source over the carrier, and counts its reads after the verdict. One may have begun before it.
-fn leave<RT: Threads + Wait + Sync + Abort, C: Carrier + Sync + Drop>(
+/// How many reads the header takes, as the CSV reader looks for a byte order mark first.
+const HEADER_READS: u64 = 2;
+
+/// Feeds the source to a carrier through a gate that is told after so many reads, and is stopped after so many. It is
+/// left with so many events, after a read for each.
+fn leave<RT: Wait + Abort, C: Carrier + Drop>(
     rt: &RT,
     alloc: Global,
-    text: &str,
     carrier: C,
-    seats: Vec<C::Seat>,
+    mut seats: Vec<C::Seat>,
+    after: (u64, u64),
+    wanted: usize,
 )
-    requires seats { 3 ≤ vec_len seats }
-    requires fits { All (λ s. C.fits carrier s) seats.items }
+    requires { All (λ s. C.fits carrier s) seats.items }
 {
-    let (over, late) = (AtomicU64::new(0), AtomicU64::new(0));
+    let reads = AtomicU64::new(0);
+    let (told_after, stopped_after) = after;
     let gate = Told {
-        inner: BookGate::new(alloc, MemoryModel::Rvwmo, 1),
-        over: &over,
+        reads: &reads,
+        told_after,
+        stopped_after,
     };
-    let mut readers = Vec::new(alloc);
+    let text = trace_of(rt, alloc);
     let reader = Watched {
         rest: text.as_bytes(),
-        over: &over,
-        late: &late,
+        reads: &reads,
     };
-    readers.push(reader).expect(rt, "memory");
-    assert_eq!(rt; readers.len(), 1);
-    let cell = VerdictCell::new(alloc);
-    let driven = drive(rt, alloc, readers, 2, &carrier, seats, &gate, &cell).expect(rt, "memory");
-    assert!(rt; driven.fed.len() == 1 && driven.fed.iter().all(|f| f.end == FeedEnd::Stopped));
-    assert!(rt; late.load(Ordering::SeqCst) <= 1, "read after the verdict");
+    let seat = seats.pop().expect(rt, "a seat");
+    let fed = feed(rt, alloc, reader, 0, &carrier, seat, &gate);
+    assert!(rt; fed.end == FeedEnd::Stopped);
+    assert_eq!(rt; fed.events.len(), wanted);
+    assert_eq!(rt; reads.load(Ordering::SeqCst), wanted as u64 + HEADER_READS);
+}
+
+/// Feeds the source through both carriers.
+fn leave_both<RT: Wait + Abort>(rt: &RT, alloc: Global, after: (u64, u64), wanted: usize) {
+    let (slots, seats) = LockedSlots::new(alloc, 4).expect(rt, "slots");
+    leave(rt, alloc, slots, seats, after, wanted);
+    let (slots, seats) = Slots::new(alloc, 4).expect(rt, "slots");
+    leave(rt, alloc, TableCarrier::new(slots), seats, after, wanted);
 }
 
 #[test]
-fn a_source_is_left_after_a_verdict(rt: HostRuntime) {
-    let text = stale_trace(&rt, rt.alloc());
-    let (slots, seats) = LockedSlots::new(rt.alloc(), 2).expect(&rt, "slots");
-    leave(&rt, rt.alloc(), text.as_str(), slots, seats);
-    for _round in 0..20u32 {
-        let (slots, seats) = Slots::new(rt.alloc(), 16).expect(&rt, "slots");
-        assert!(rt; seats.len() >= 3);
-        leave(
-            &rt,
-            rt.alloc(),
-            text.as_str(),
-            TableCarrier::new(slots),
-            seats,
-        );
-    }
+fn a_source_is_asked_for_no_row_once_the_gate_was_told(rt: HostRuntime) {
+    leave_both(&rt, rt.alloc(), (HEADER_READS + 3, NEVER), 3);
+}
+
+#[test]
+fn a_source_is_asked_for_no_row_after_a_chunk_once_the_gate_is_stopped(rt: HostRuntime) {
+    leave_both(&rt, rt.alloc(), (NEVER, HEADER_READS), 8);
 }
