@@ -179,7 +179,7 @@ impl<'a, C: Carrier, G> Carrier for InStep<'a, C, G> {
     fn finish_chunk<R: Wait>(&self, rt: &R, lease: C::Lease, applied: bool) -> C::Seat {
         let seat = self.carrier.finish_chunk(rt, lease, applied);
         if applied && self.wants_slot() {
-            self.slots.notify_one();
+            self.slots.notify_all();
         }
         seat
     }
