@@ -5,9 +5,10 @@
 //! - [`ending`]: what is printed, and the exit status.
 //! - `specs/`: which ending comes of what, and what each ending prints.
 //!
-//! It stands on `rv_words` for its words, on `rv_pipe` for sources that may be silent, on `rv_run` for the judgement, on
-//! `rv_report` for the reports, on the crates whose types these name, and on the kit's `clap` and `either`. Its one contract: each ending is of the step that it
-//! names, and a report is that of an outcome of the sources.
+//! It stands on `rv_words` for its words, on `rv_pipe` for sources that may be silent, on `rv_run` for the
+//! judgement, on `rv_report` for the reports, on the crates whose types these name, and on the kit's `clap` and
+//! `either`. Its one contract: each ending is of the step that it names, and a report is that of an outcome of the
+//! sources.
 #![tactic(auto)]
 
 ghost use Rattle.clap.specs.Walk.{texts};
