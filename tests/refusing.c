@@ -13,7 +13,7 @@ extern char *getenv(const char *name);
 extern long strtol(const char *text, char **end, int base);
 extern long write(int file, const void *bytes, size_t count);
 
-/* The number of the error "want of memory". */
+/* The number of the error "out of memory". */
 static const int no_memory = 12;
 
 static const char said[] = "memory is refused\n";

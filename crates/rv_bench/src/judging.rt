@@ -1,5 +1,6 @@
-//! What judging costs beside reading: a file with a trace, read alone, and read and offered to a book. It is done once,
-//! as a program that goes on has memory at hand that a program which begins does not.
+//! What judging costs beside reading: a file with a trace, read alone, and read and offered to a
+//! book. It is done once, as a program that goes on has memory at hand that a program which begins
+//! does not.
 use rv_book::{Book, Offer};
 use rv_event::{Entry, MemoryModel};
 use rv_trace::Trace;
@@ -82,8 +83,8 @@ fn next(state: u64) -> u64 {
         .wrapping_add(1_442_695_040_888_963_407)
 }
 
-/// A trace in which the events of the harts come in turn: each store writes its word's next version, each load returns
-/// the last that was written.
+/// A trace in which the events of the harts come in turn: each store writes its word's next
+/// version, each load returns the last that was written.
 fn text_of(alloc: Global, shape: Shape, count: u32) -> Result<String, AllocError> {
     let mut text = String::new(alloc);
     text.push_str("hart,seq,op,word,read,wrote,ann,deps\n")?;

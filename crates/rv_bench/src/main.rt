@@ -1,14 +1,16 @@
-//! Benchmarks: what judging, the trace reader and the order keeper cost, and how far sources get ahead of one another.
-//! No promise stands on them, and no test is timed. It stands on what it measures, and on the kit's `csv`.
+//! Benchmarks: what judging, the trace reader and the order keeper cost, and how far sources get
+//! ahead of one another. No promise stands on them, and no test is timed. It stands on what it
+//! measures, and on the kit's `csv`.
 //!
 //! - `judging`: a trace of up to 65,536 events, read alone, and read and offered to a book.
 //! - `reading`: the trace reader beside the CSV reader alone, over the same bytes in memory.
 //! - `placing`: the order keeper, over placements without and with successors.
 //! - `stepping`: sources in threads, in step and not.
 //!
-//! `rt run` in this folder builds it; `out/rv_bench reading placing stepping` then prints each cost as the least of many
-//! runs, and `out/rv_bench 8-words:65536` what judging such a trace once costs; `4096-words`, `sixteen-each`, `spinning`,
-//! `roaming` and `fenced` are the other shapes. `docs/BENCHMARKS.md` and `docs/SPEED.md` have what was seen.
+//! `rt run` in this folder builds it; `out/rv_bench reading placing stepping` then prints each cost
+//! as the least of many runs, and `out/rv_bench 8-words:65536` what judging such a trace once
+//! costs; `4096-words`, `sixteen-each`, `spinning`, `roaming` and `fenced` are the other shapes.
+//! `docs/SPEED.md` has what was seen.
 #![tactic(auto)]
 
 mod judging;

@@ -70,8 +70,8 @@ fn place_all(alloc: Global, shape: Shape, nodes: u32) -> Option<Ranks> {
     Some(ranks)
 }
 
-/// The least time of so many placements, in microseconds. The order of the run before is dropped after the next is timed,
-/// so that the allocator has memory at hand.
+/// The least time of so many placements, in microseconds. The order of the run before is dropped
+/// after the next is timed, so that the allocator has memory at hand.
 fn least(rt: &HostRuntime, shape: Shape, nodes: u32) -> io::Result<u128> {
     let mut least = u128::MAX;
     let mut before = None;

@@ -11,7 +11,8 @@ const ROWS: u32 = 65_536;
 /// How often each reader reads a text.
 const RUNS: u32 = 100;
 
-/// A trace of 16 harts and 4,096 words: stores, and loads with a dependency in their place in every second row if asked.
+/// A trace of 16 harts and 4,096 words: stores, and loads with a dependency in their place in every
+/// second row if asked.
 fn text_of(alloc: Global, with_dependencies: bool) -> Result<String, AllocError> {
     let mut text = String::new(alloc);
     text.push_str("hart,seq,op,word,read,wrote,ann,deps\n")?;

@@ -41,8 +41,8 @@ up_to (suc n) = up_to n ++ n ∷ []
 abbrev pub order_of : List ℕ → List Id → List Id
 order_of ranks ids = map (λ r. at ids (index_of ranks r)) (up_to (length ranks))
 
--- Node k is the memory operation that came k-th. Kept edges are edges, kept links are kept edges, and no operation has
--- an edge to itself or is stale
+-- Node k is the memory operation that came k-th. Kept edges are edges, kept links are kept edges,
+-- and no operation has an edge to itself or is stale
 pub record IsArranged (v : Arranged) : Type 0 where
   pub history : IsHistory v.model v.history
   pub ordered : IsOrder v.edges v.ranks

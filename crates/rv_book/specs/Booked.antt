@@ -1,5 +1,5 @@
 -- A log with an order that is lawful for it, and what an offer tells.
-use Rattle.std.specs.Prelude.{Bool, ◌≡◌, ◌++◌, List, [], ◌∷◌, Option, Some, None, IsTrue, IsFalse}
+use Rattle.std.specs.Prelude.{Bool, ◌≡◌, ◌++◌, List, [], ◌∷◌, Option, Some, None}
 use Rattle.rv_event.specs.Log.{events}
 use Rattle.rv_event.specs.Orders.{Lawful}
 use Rattle.rv_event.specs.Faults.{fault_of}
@@ -8,12 +8,11 @@ use Rattle.rv_event.specs.declared.event.Id.{Id}
 use Rattle.rv_event.specs.declared.event.Entry.{Entry}
 use Rattle.rv_event.specs.declared.memory_model.MemoryModel.{MemoryModel}
 use Rattle.rv_cert.specs.Certificates.{Certifies}
+use Rattle.rv_cert.specs.Refusals.{FaultyLog, Refusal}
 use Rattle.rv_cert.specs.declared.verdict.Verdict.{Verdict}
 use Rattle.rv_cert.specs.declared.verdict.Verdict.TheVariants as verdict
 use Rattle.rv_edges.specs.Kept.{happened}
 use Rattle.rv_book.specs.Arranged.{Arranged, IsOwn, order_of}
-use Rattle.rv_book.specs.declared.book.Offer.{Offer}
-use Rattle.rv_book.specs.declared.book.Offer.TheVariants.{Accepted, Malformed, Forbidden, Stopped, NoMemory}
 
 -- what contracts see of a book
 pub record Booked : Type 0 where
@@ -35,49 +34,37 @@ pub record IsBooked (log : List Entry) (v : Arranged) : Type 0 where
 abbrev pub SomeLawful : MemoryModel → List Entry → Type 0
 SomeLawful model log = (order : List Id) × Lawful model (events log) order
 
--- the entry has the fault of a malformed verdict, whose evidence is the log followed by it
-abbrev pub IsMalformedOn : MemoryModel → List Entry → Entry → Verdict → Type 0
-IsMalformedOn model log x (verdict.Malformed m) =
-    (m.model ≡ model) × (m.evidence ≡ log ++ x ∷ []) × (fault_of log x ≡ Some m.fault)
-IsMalformedOn model log x (verdict.Forbidden f) = ⊥
+-- the entry has this fault over the log, which with the entry is the evidence
+pub record IsMalformedOn (model : MemoryModel) (log : List Entry) (x : Entry) (m : FaultyLog) : Type 0 where
+  pub judged_by : m.model ≡ model
+  pub evidence : m.evidence ≡ log ++ x ∷ []
+  pub fault : fault_of log x ≡ Some m.fault
 
--- the entry has no fault, and no order is lawful for the log followed by it, which is the verdict's evidence; the
--- certificate is the entry's own: a circle that begins with its event and names none twice, or a stale pair with it
-abbrev pub IsForbiddenOn : MemoryModel → List Entry → Entry → Verdict → Type 0
-IsForbiddenOn model log x (verdict.Malformed m) = ⊥
-IsForbiddenOn model log x (verdict.Forbidden f) =
-    (f.model ≡ model) × (f.evidence ≡ log ++ x ∷ []) × (fault_of log x ≡ None)
-    × Certifies model (events (log ++ x ∷ [])) f.certificate × IsOwn x.event f.certificate
-    × (SomeLawful model (log ++ x ∷ []) → ⊥)
-
--- model, log and order are the old ones
-pub record Unchanged (old new : Booked) : Type 0 where
-  pub model : new.model ≡ old.model
-  pub log : new.log ≡ old.log
-  pub order : new.order ≡ old.order
+-- The entry has no fault, and no order is lawful for the log followed by it, which is the evidence.
+-- The certificate is the entry's own: a circle that begins with its event and names none twice, or
+-- a stale pair with it as the load.
+pub record IsForbiddenOn (model : MemoryModel) (log : List Entry) (x : Entry) (f : Refusal) : Type 0 where
+  pub judged_by : f.model ≡ model
+  pub evidence : f.evidence ≡ log ++ x ∷ []
+  pub sound : fault_of log x ≡ None
+  pub certified : Certifies model (events (log ++ x ∷ [])) f.certificate
+  pub own : IsOwn x.event f.certificate
+  pub none : SomeLawful model (log ++ x ∷ []) → ⊥
 
 -- the log has grown by this entry alone, which has no fault, and some order is lawful for it
 pub record IsTaken (old new : Booked) (x : Entry) : Type 0 where
   pub model : new.model ≡ old.model
+  pub stopped : new.stopped ≡ old.stopped
   pub sound : fault_of old.log x ≡ None
   pub log : new.log ≡ old.log ++ x ∷ []
   pub lawful : SomeLawful old.model (old.log ++ x ∷ [])
 
--- what the answer tells of the book before and after
-abbrev pub IsOffered : Booked → Booked → Entry → Offer → Type 0
-IsOffered old new x Accepted = IsFalse old.stopped × IsFalse new.stopped × IsTaken old new x
-IsOffered old new x (Malformed v) =
-    IsFalse old.stopped × IsTrue new.stopped × Unchanged old new × IsMalformedOn old.model old.log x v
-IsOffered old new x (Forbidden v) =
-    IsFalse old.stopped × IsTrue new.stopped × Unchanged old new × IsForbiddenOn old.model old.log x v
-IsOffered old new x Stopped = IsTrue old.stopped × (new ≡ old)
-IsOffered old new x NoMemory = IsFalse old.stopped × (new ≡ old)
+-- what a verdict tells of a log and an entry
+abbrev pub IsVerdictOn : MemoryModel → List Entry → Entry → Verdict → Type 0
+IsVerdictOn model log x (verdict.Malformed m) = IsMalformedOn model log x m
+IsVerdictOn model log x (verdict.Forbidden f) = IsForbiddenOn model log x f
 
 -- what a judgement tells of the book before and after
-abbrev pub IsVerdictOn : MemoryModel → List Entry → Entry → Verdict → Type 0
-IsVerdictOn model log x (verdict.Malformed m) = IsMalformedOn model log x (verdict.Malformed m)
-IsVerdictOn model log x (verdict.Forbidden f) = IsForbiddenOn model log x (verdict.Forbidden f)
-
 abbrev pub IsJudged : Booked → Booked → Entry → Option Verdict → Type 0
-IsJudged old new x None = (new.stopped ≡ old.stopped) × IsTaken old new x
+IsJudged old new x None = IsTaken old new x
 IsJudged old new x (Some v) = (new ≡ old) × IsVerdictOn old.model old.log x v

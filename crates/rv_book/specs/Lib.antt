@@ -2,6 +2,7 @@ pub mod Adding
 pub mod Arranged
 pub mod Booked
 pub mod Nodes
+pub mod Offers
 pub mod Counts
 pub mod Chunked
 pub mod Tallied

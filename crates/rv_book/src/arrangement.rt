@@ -1,15 +1,16 @@
 //! A history whose memory operations stand in an order that every edge respects.
-ghost use Rattle.std.specs.Prelude.{◌≡◌, ◌≢◌, ◌<◌, ◌≤◌, ◌∷◌, [], None, IfOk, OnErr, length, map, ℕ, All, AllPairs};
+ghost use Rattle.std.specs.Prelude.{◌≡◌, ◌≢◌, ◌<◌, ◌≤◌, ◌∷◌, [], None, IfOk, OnOk, OnErr, length, map, ℕ};
+ghost use Rattle.std.specs.Prelude.{All, AllPairs, Contains};
 ghost use Rattle.rv_event.specs.Faults.{event_fault, first_faults, lowest};
 ghost use Rattle.rv_event.specs.Operations.{IsMemory};
 ghost use Rattle.rv_event.specs.Orders.{Lawful};
-ghost use Rattle.rv_event.specs.Edges.{IsStale};
-ghost use Rattle.rv_event.specs.declared.event.Id.{Id};
+ghost use Rattle.rv_event.specs.declared.reason.Link.{Link};
 ghost use Rattle.rv_cert.specs.Certificates.{Certifies};
 ghost use Rattle.rv_edges.specs.Kept.{happened, grown};
-ghost use Rattle.rv_edges.specs.Histories.{IsLinked, kept_of, HasOwnEdge};
+ghost use Rattle.rv_edges.specs.Histories.{kept_of};
 ghost use Rattle.rv_book.specs.Arranged.{at, EachLeads, IsOwn, order_of};
 ghost use Rattle.rv_book.specs.Counts.{is_waiting};
+ghost use Rattle.rv_book.specs.Nodes.{AreNodes, HasNode};
 
 use crate::closing::close;
 use crate::hints::Hints;
@@ -38,7 +39,8 @@ pub struct Arrangement {
     ranks: Ranks,
     ids: Vec<Id>,
     hints: Hints,
-    /// The nodes before the event that is looked at; what stands here between two events says nothing.
+    /// The nodes before the event that is looked at; what stands here between two events says
+    /// nothing.
     preds: Vec<u32>,
     /// Those after it, alike.
     succs: Vec<u32>,
@@ -67,7 +69,7 @@ impl Model for Arrangement {
 }
 
 impl Arrangement {
-    ghost use Rattle.rv_book.specs.Adding.{IsAdded};
+    ghost use Rattle.rv_book.specs.Adding.{IsAdded, IsFit};
 
     /// No events.
     pub fn new(alloc: Global, model: MemoryModel) -> Self
@@ -108,7 +110,8 @@ impl Arrangement {
         self.history.first_fault(event)
     }
 
-    /// Whether the event is a load that returned a version above 0 which no store of the history has written.
+    /// Whether the event is a load that returned a version above 0 which no store of the history
+    /// has written.
     pub fn is_waiting(&self, event: &Event) -> bool
         ensures { result ≡ is_waiting (happened self.now.history) event.now }
     {
@@ -144,34 +147,20 @@ impl Arrangement {
 
     /// Adds the memory operation where its edges close no circle.
     fn place(&mut self, event: &Event, around: &Around) -> Result<Added, NoMemory>
-        requires sound { event_fault (happened self.old.history) event.now ≡ None }
+        requires fit { IsFit self.old (kept_of event.now around.now) }
         requires room { length self.old.history < 65536 }
-        requires linked { IsLinked self.old.model self.old.history (kept_of event.now around.now) }
         requires memory { IsMemory event.now }
-        requires none_own { HasOwnEdge self.old.model self.old.history event.now → ⊥ }
-        requires not_stale { (s : Id) → IsStale (grown self.old.history event.now) event.now.id s → ⊥ }
         ensures added { IfOk result (IsAdded self.old self.new event.now) }
         ensures unchanged { OnErr result (self.new ≡ self.old) }
     {
         self.ids.reserve(1)?;
         self.hints.note(event.id, self.ids.len() as u32)?;
-        find_nodes(
-            self.ids.as_slice(),
-            &self.hints,
-            around.before.as_slice(),
-            &mut self.preds,
-        )?;
-        find_nodes(
-            self.ids.as_slice(),
-            &self.hints,
-            around.after.as_slice(),
-            &mut self.succs,
-        )?;
+        let ids = self.ids.as_slice();
+        find_ends(ids, &self.hints, around, &mut self.preds, &mut self.succs)?;
         self.history.push(event, around)?;
-        match self
-            .ranks
-            .place(self.preds.as_slice(), self.succs.as_slice())
-        {
+        let preds = self.preds.as_slice();
+        let succs = self.succs.as_slice();
+        match self.ranks.place(preds, succs) {
             Ok(_) => {
                 self.ids.push(event.id).unwrap();
                 Ok(Added::Taken)
@@ -182,17 +171,34 @@ impl Arrangement {
             }
             Err(Refused::Circle(path)) => {
                 self.history.pop();
-                let circle = circle_of(
-                    self.alloc,
-                    &self.history,
-                    self.ids.as_slice(),
-                    event,
-                    path.as_slice(),
-                )?;
+                let names = self.ids.as_slice();
+                let nodes = path.as_slice();
+                let circle = circle_of(self.alloc, &self.history, names, event, nodes)?;
                 Ok(Added::Refused(circle))
             }
         }
     }
+}
+
+/// Puts the nodes of the links into the event and out of it into the two lists, in place of what
+/// these had.
+fn find_ends(
+    ids: &[Id],
+    hints: &Hints,
+    around: &Around,
+    preds: &mut Vec<u32>,
+    succs: &mut Vec<u32>,
+) -> Result<(), NoMemory>
+    requires small { length ids.now < 65536 }
+    requires before { (l : Link) → Contains around.now.before l → HasNode ids.now l.id }
+    requires after { (l : Link) → Contains around.now.after l → HasNode ids.now l.id }
+    ensures before { OnOk result (AreNodes ids.now around.now.before preds.new.items) }
+    ensures after { OnOk result (AreNodes ids.now around.now.after succs.new.items) }
+{
+    let before = around.before.as_slice();
+    let after = around.after.as_slice();
+    find_nodes(ids, hints, before, preds)?;
+    find_nodes(ids, hints, after, succs)
 }
 
 /// The circle from the event through the nodes of the path.

@@ -1,5 +1,5 @@
 //! A well formed log with an order that is lawful for it.
-ghost use Rattle.std.specs.Prelude.{◌≡◌, ◌++◌, ◌∷◌, [], IfOk, OnErr, IsFalse, IsTrue, length};
+ghost use Rattle.std.specs.Prelude.{◌≡◌, ◌↔◌, ◌++◌, ◌∷◌, [], IfOk, OnErr, IsFalse, IsTrue, length, true};
 ghost use Rattle.rv_book.specs.Counts.{operations_of, waiting_of};
 ghost use Rattle.rv_event.specs.Log.{events};
 ghost use Rattle.rv_event.specs.Faults.{fault_of};
@@ -21,9 +21,9 @@ pub enum Offer {
     /// The log has grown by the entry, and some order is lawful for it.
     Accepted,
     /// The entry has a fault over the log; the book has stopped.
-    Malformed(Verdict),
+    Malformed(Malformed),
     /// No order is lawful for the log followed by the entry; the book has stopped.
-    Forbidden(Verdict),
+    Forbidden(Forbidden),
     /// The book had stopped.
     Stopped,
     /// Memory was refused. The entry may be offered again.
@@ -35,11 +35,13 @@ pub enum Offer {
 pub enum ChunkOffer {
     /// So many of its events were accepted, and with them the log holds all of the chunk.
     Applied(usize),
-    /// An earlier chunk of the source is missing: so many of the source's events are in the log. Nothing changed.
+    /// An earlier chunk of the source is missing: so many of the source's events are in the log.
+    /// Nothing changed.
     NotYet(usize),
     /// The log holds all of the chunk. Nothing changed.
     Already,
-    /// An event was malformed or forbidden; those before it stay accepted, and the book has stopped.
+    /// An event was malformed or forbidden; those before it stay accepted, and the book has
+    /// stopped.
     Halted(Verdict),
     /// The book had stopped. Nothing changed.
     Stopped,
@@ -72,10 +74,13 @@ impl Model for Book {
 }
 
 impl Book {
-    ghost use Rattle.rv_book.specs.Booked.{IsOffered, IsJudged};
-    ghost use Rattle.rv_book.specs.Chunked.{IsChunkOffered, IsOfferedAll};
+    ghost use Rattle.rv_book.specs.Booked.{IsForbiddenOn, IsJudged, IsMalformedOn, IsTaken};
+    ghost use Rattle.rv_book.specs.Offers.{IfForbidden, IfMalformed, OnAccepted, OnRefused, OnUnjudged};
+    ghost use Rattle.rv_book.specs.declared.book.Offer.TheVariants as offer;
+    ghost use Rattle.rv_book.specs.Chunked.{IsChunkOffered, IsOfferedAll, count_of_source};
 
-    /// The empty log under a memory model. It takes no memory; the allocator serves the calls to come.
+    /// The empty log under a memory model. It takes no memory; the allocator serves the calls to
+    /// come.
     pub fn new(alloc: Global, model: MemoryModel) -> Self
         ensures model { result.model ≡ model }
         ensures log { result.log ≡ [] }
@@ -123,6 +128,13 @@ impl Book {
         self.entries.len()
     }
 
+    /// How many of them came from the source. It takes no memory, and costs one look-up.
+    pub fn given_by(&self, source: u8) -> usize
+        ensures { result ≡ count_of_source self.now.log source }
+    {
+        self.tally.count_of_source(source)
+    }
+
     /// How many of them are memory operations. It takes no memory, and costs one pass over the log.
     pub fn operations(&self) -> usize
         ensures { result ≡ operations_of self.now.log }
@@ -130,7 +142,8 @@ impl Book {
         count_operations(self.entries.as_slice())
     }
 
-    /// How many of them are loads whose store has not come. It takes no memory, and costs one look-up for each entry.
+    /// How many of them are loads whose store has not come. It takes no memory, and costs one
+    /// look-up for each entry.
     pub fn waiting(&self) -> usize
         ensures { result ≡ waiting_of self.now.log }
     {
@@ -151,11 +164,20 @@ impl Book {
         self.arrangement.order()
     }
 
-    /// Takes the entry exactly where it has no fault over the log, and some order is lawful for the log with it.
+    /// Takes the entry exactly where it has no fault over the log, and some order is lawful for the
+    /// log with it.
     ///
-    /// Faults are looked at before consistency. The evidence of a verdict is the log followed by the entry.
+    /// Faults are looked at before consistency. The evidence of a refusal is the log followed by
+    /// the entry, and a circle begins with the entry's event. A refusal stops the book, and leaves
+    /// its log and its order as they were.
     pub fn offer(&mut self, entry: &Entry) -> Offer
-        ensures { IsOffered self.old self.new entry.now result }
+        ensures accepted { OnAccepted result (IsTaken self.old self.new entry.now) }
+        ensures malformed { IfMalformed result (IsMalformedOn self.old.model self.old.log entry.now) }
+        ensures forbidden { IfForbidden result (IsForbiddenOn self.old.model self.old.log entry.now) }
+
+        ensures refused { OnRefused result (self.new ≡ record self.old { stopped = true }) }
+        ensures stopped { (result ≡ offer.Stopped) ↔ IsTrue self.old.stopped }
+        ensures unjudged { OnUnjudged result (self.new ≡ self.old) }
     {
         if self.stopped {
             return Offer::Stopped;
@@ -164,11 +186,11 @@ impl Book {
             Ok(None) => Offer::Accepted,
             Ok(Some(Verdict::Malformed(malformed))) => {
                 self.stopped = true;
-                Offer::Malformed(Verdict::Malformed(malformed))
+                Offer::Malformed(malformed)
             }
             Ok(Some(Verdict::Forbidden(forbidden))) => {
                 self.stopped = true;
-                Offer::Forbidden(Verdict::Forbidden(forbidden))
+                Offer::Forbidden(forbidden)
             }
             Err(NoMemory) => Offer::NoMemory,
         }
@@ -176,16 +198,17 @@ impl Book {
 
     /// Takes the events of the chunk that its source has not given yet, one after the other.
     ///
-    /// Where the log has c events of the source, and the chunk has n events and the number k, the answer is `NotYet(c)`
-    /// where c is below 8k, `Already` where c is 8k + n or more, and else the events from place c - 8k on are offered.
-    /// So a chunk may come twice, and after `NoMemory` the same chunk goes on where it stopped.
+    /// Where the log has c events of the source, and the chunk has n events and the number k, the
+    /// answer is `NotYet(c)` where c is below 8k, `Already` where c is 8k + n or more, and else the
+    /// events from place c - 8k on are offered. So a chunk may come twice, and after `NoMemory` the
+    /// same chunk goes on where it stopped.
     pub fn offer_chunk(&mut self, chunk: &Chunk) -> ChunkOffer
         ensures { IsChunkOffered self.old self.new chunk.now result }
     {
         if self.stopped {
             return ChunkOffer::Stopped;
         }
-        let count = self.tally.count_of_source(chunk.source());
+        let count = self.given_by(chunk.source());
         let first = 8 * chunk.number() as usize;
         if count < first {
             return ChunkOffer::NotYet(count);
@@ -211,8 +234,11 @@ impl Book {
         for event in events {
             match self.offer(&Entry { source, event }) {
                 Offer::Accepted => {}
-                Offer::Malformed(verdict) | Offer::Forbidden(verdict) => {
-                    return ChunkOffer::Halted(verdict);
+                Offer::Malformed(malformed) => {
+                    return ChunkOffer::Halted(Verdict::Malformed(malformed));
+                }
+                Offer::Forbidden(forbidden) => {
+                    return ChunkOffer::Halted(Verdict::Forbidden(forbidden));
                 }
                 Offer::Stopped => unreachable!(),
                 Offer::NoMemory => return ChunkOffer::NoMemory,

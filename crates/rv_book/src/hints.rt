@@ -6,8 +6,8 @@ use rv_event::{Id, NoMemory};
 use std::alloc::Global;
 use std::marker::Model;
 
-/// For each id the node that was noted for it: a table with 4,096 places a hart, 256 KiB for sixteen full harts. A place
-/// where none was noted has any number.
+/// For each id the node that was noted for it: a table with 4,096 places a hart, 256 KiB for
+/// sixteen full harts. A place where none was noted has any number.
 #[derive(Drop)]
 pub struct Hints {
     nodes: Vec<u32>,

@@ -9,7 +9,8 @@ use crate::hints::Hints;
 use rv_event::{Id, Link, NoMemory};
 use std::alloc::Global;
 
-/// The node of the id: the one that was noted for it, where that is right, and else the one that a search finds.
+/// The node of the id: the one that was noted for it, where that is right, and else the one that a
+/// search finds.
 fn node_of(ids: &[Id], hints: &Hints, id: Id) -> u32
     requires has { HasNode ids.now id }
     requires small { length ids.now < 65536 }
@@ -49,8 +50,8 @@ fn find_node(ids: &[Id], id: Id) -> u32
     unreachable!()
 }
 
-/// Puts the nodes of the links' ids into the list, in place of what it had. It costs one look for each link whose node was
-/// noted, and takes memory only where the list has to grow.
+/// Puts the nodes of the links' ids into the list, in place of what it had. It costs one look for
+/// each link whose node was noted, and takes memory only where the list has to grow.
 ///
 /// # Errors
 /// `NoMemory` where it could not; the list has some of the nodes then.

@@ -1,4 +1,5 @@
-//! What is counted of a log as it grows: where each hart's entries come from, and how many each source gave.
+//! What is counted of a log as it grows: where each hart's entries come from, and how many each
+//! source gave.
 ghost use Rattle.std.specs.Prelude.{◌≡◌, ◌<◌, ◌==◌, ◌++◌, ◌∷◌, [], None, List, length, count_by, slice_index_or};
 ghost use Rattle.rv_event.specs.Faults.{source_fault};
 ghost use Rattle.rv_event.specs.declared.event.Entry.{Entry};
@@ -6,8 +7,9 @@ ghost use Rattle.rv_book.specs.Tallied.{IsTallied};
 
 use rv_event::{Entry, Fault};
 
-/// The source of each hart's entries, and the number of each source's entries. What these say of which log is a clause of
-/// each function: it holds of the log whose entries were added, one after another.
+/// The source of each hart's entries, and the number of each source's entries. What these say of
+/// which log is a clause of each function: it holds of the log whose entries were added, one after
+/// another.
 #[derive(Drop)]
 pub struct Tally {
     sources: [Option<u8>; 16],

@@ -30,6 +30,7 @@ module _ (model : MemoryModel) (old new : List Event) (grows : Grows old new) (k
   IsClosedWalk-grows [] w = w
   IsClosedWalk-grows (step ∷ rest) w = IsWalk-grows (step ∷ rest) step.0 w
 
+  -- a certificate stays one when the log grows
   pub Certifies-grows : (c : Certificate) → Certifies model old c → Certifies model new c
   Certifies-grows (Circle steps) h = IsClosedWalk-grows steps h
   Certifies-grows (Stale load store) h = IsStale-grows model old new grows known known' load store h

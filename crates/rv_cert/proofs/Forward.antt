@@ -48,6 +48,7 @@ module _ (model : MemoryModel) (log : List Event) (order : List Id) (lawful : La
   reason-forward a b ca cb in_order AtomicOut h =
       (lawful.atomicity h.lr a h.of_log ca h.paired).before_others b cb h.store h.word h.other_hart h.versions
 
+  -- each edge goes forward in a lawful order
   pub edge-forward : (i j : Id) (reason : Reason) → IsEdge model log i reason j → place order i < place order j
   edge-forward i j reason e =
       let from = named-is log i e.a e.from_named in
@@ -82,6 +83,7 @@ module _ (model : MemoryModel) (log : List Event) (order : List Id) (lawful : La
       let versions = s.versions in
       omega arith
 
+  -- so no log with a lawful order has a certificate
   pub no_certificate : (c : Certificate) → Certifies model log c → ⊥
   no_certificate (Circle steps) h = no_circle steps h
   no_certificate (Stale load store) h = no_stale load store h

@@ -109,6 +109,7 @@ module _ (model : MemoryModel) (log : List Event) (order : List Id) (known : Ind
             });
       }
 
+  -- an order in which every edge goes forward is lawful
   pub lawful_from_edges : IsOrderOf log order → Lawful model log order
   lawful_from_edges is_order = record {
     is_order = is_order;

@@ -1,4 +1,5 @@
--- Certificates: what shows that no order is lawful for a log (after Gibbons and Korach, "Testing shared memories").
+-- Certificates: what shows that no order is lawful for a log (after Gibbons and Korach, "Testing
+-- shared memories").
 use Rattle.std.specs.Prelude.{List, [], ◌∷◌}
 use Rattle.rv_event.specs.Edges.{IsEdge, IsStale}
 use Rattle.rv_event.specs.declared.event.Id.{Id}

@@ -7,7 +7,8 @@ use std::marker::Model;
 
 /// A closed walk of edges, seen by contracts as the list of its steps.
 ///
-/// Each pair gives the edge from its id to the next pair's id, by its reason; the last leads to the first.
+/// Each pair gives the edge from its id to the next pair's id, by its reason; the last leads to the
+/// first.
 #[derive(Drop, Debug)]
 pub struct Circle {
     steps: Vec<(Id, Reason)>,
@@ -51,12 +52,14 @@ impl Circle {
     }
 }
 
-/// What shows that no order is lawful for a log (after Gibbons and Korach, "Testing shared memories").
+/// What shows that no order is lawful for a log (after Gibbons and Korach, "Testing shared
+/// memories").
 #[derive(Drop, Debug)]
 pub enum Certificate {
     /// A closed walk of edges: each would have to go forward in a lawful order.
     Circle(Circle),
-    /// A load, and an earlier store of its hart and word with a newer version than the load returned.
+    /// A load, and an earlier store of its hart and word with a newer version than the load
+    /// returned.
     Stale {
         /// The load.
         load: Id,

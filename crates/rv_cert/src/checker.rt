@@ -34,12 +34,12 @@ fn is_closed_walk(model: MemoryModel, log: &[Entry], steps: &[(Id, Reason)]) -> 
     }
 }
 
-/// Whether the certificate is one for the log under the model: a closed walk of at least one edge, each with the reason
-/// named, or a stale pair. A rule counts where it holds, lowest or not.
+/// Whether the certificate is one for the log under the model: a closed walk of at least one edge,
+/// each with the reason named, or a stale pair. A rule counts where it holds, lowest or not.
 ///
-/// This function and the definitions are all that whoever distrusts the monitor has to believe. It takes no memory, stands
-/// on the plain program alone, and is exact on every log, well formed or not. It costs a few passes over the log for each
-/// edge.
+/// This function and the definitions are all that whoever distrusts the monitor has to believe. It
+/// takes no memory, stands on the reference implementation alone, and is exact on every log, well
+/// formed or not. It costs a few passes over the log for each edge.
 pub fn check(model: MemoryModel, log: &[Entry], certificate: &Certificate) -> bool
     ensures { IsTrue result ↔ Certifies model (events log.now) certificate.now }
 {

@@ -82,7 +82,8 @@ impl Forbidden {
     /// An equal refusal.
     ///
     /// # Errors
-    /// `NoMemory` where the evidence or the certificate could not be copied; the refusal stays as it is.
+    /// `NoMemory` where the evidence or the certificate could not be copied; the refusal stays as
+    /// it is.
     pub fn copy(&self, alloc: Global) -> Result<Forbidden, NoMemory>
         ensures { IfOk result (λ f. f ≡ self.now) }
     {

@@ -6,12 +6,14 @@ pub fn none_lawful()
     ensures { NoneLawful }
 {}
 
-/// Where no pair of a well formed log is stale, an order in which every edge goes forward is lawful, under either model.
+/// Where no pair of a well formed log is stale, an order in which every edge goes forward is
+/// lawful, under either model.
 pub fn edges_suffice()
     ensures { EdgesSuffice }
 {}
 
-/// A certificate leaves no lawful order for any well formed log that continues this one, under either model.
+/// A certificate leaves no lawful order for any well formed log that continues this one, under
+/// either model.
 pub fn refusal_is_final()
     ensures { RefusalIsFinal }
 {}

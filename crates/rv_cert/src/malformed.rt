@@ -9,7 +9,8 @@ use std::marker::Model;
 
 /// A log whose last entry has a fault over those before it, which are well formed.
 ///
-/// Its type keeps that. The model is the one by which the log was judged; faults do not depend on it.
+/// Its type keeps that. The model is the one by which the log was judged; faults do not depend on
+/// it.
 #[derive(Drop, Debug)]
 pub struct Malformed {
     model: MemoryModel,

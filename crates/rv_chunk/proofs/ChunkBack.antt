@@ -21,9 +21,11 @@ use Rattle.rv_chunk.specs.Chunks.{event_of, events_from, source_of, number_of, c
 pub two_low : (a b : ℕ) → a < 2 ^ 32 → bits (two a b) 0 32 ≡ a
 two_low a b h = omega arith
 
+-- the high half of two halves
 pub two_high : (a b : ℕ) → a < 2 ^ 32 → b < 2 ^ 32 → bits (two a b) 32 32 ≡ b
 two_high a b h k = omega arith
 
+-- a word is its two halves
 pub two_back : (w : ℕ) → w < 2 ^ 64 → two (bits w 0 32) (bits w 32 32) ≡ w
 two_back w h = omega arith
 
@@ -38,6 +40,7 @@ kind_some Addr = omega arith
 kind_some DataOf = omega arith
 kind_some Ctrl = omega arith
 
+-- a kind is read back
 pub kind_back : (k : DepKind) → kind_of (kind_code k) ≡ k
 kind_back Addr = refl
 kind_back DataOf = refl
@@ -52,6 +55,7 @@ rest_of s k h l = omega arith
 below_word : (s k : ℕ) → s < 2 ^ 30 → k < 4 → s + k * 2 ^ 30 < 2 ^ 32
 below_word s k h l = omega arith
 
+-- the code of a dependency fits half a word
 pub dep_small : (d : Dep) → d.seq < 2 ^ 30 → dep_code d < 2 ^ 32
 dep_small d h = below_word d.seq (kind_code d.kind) h (kind_small d.kind)
 
@@ -62,11 +66,13 @@ same_dep : (k l : DepKind) (s t : ℕ) → k ≡ l → s ≡ t → ◌≡◌ {A 
     (record { kind = l; seq = t })
 same_dep k l s t a b = cc
 
+-- a dependency is read back
 pub dep_back : (d : Dep) → d.seq < 2 ^ 30 → dep_of (dep_code d) ≡ d
 dep_back d h = let s = kind_small d.kind in
     let a = ap kind_of (top_of d.seq (kind_code d.kind) h s) ∙ kind_back d.kind in
     let b = rest_of d.seq (kind_code d.kind) h s in same_dep _ _ _ _ a b
 
+-- its code is not 0
 pub dep_some : (d : Dep) → (dep_code d == 0) ≡ false
 dep_some d = above_zero d.seq (kind_code d.kind) (kind_some d.kind)
 
@@ -124,6 +130,7 @@ halves_back ds h = let s = λ (i : ℕ). code_small ds i h in
     halves_of (dep_at ds 0) (dep_at ds 1) (dep_at ds 2) (dep_at ds 3) (dep_at ds 4) (dep_at ds 5) (dep_at ds 6)
     (dep_at ds 7) (s 0) (s 1) (s 2) (s 3) (s 4) (s 5) (s 6) (s 7)
 
+-- dependencies are read back
 pub deps_back_words : (ds : List Dep) → length ds ≤ 8 → All (λ d. d.seq < 2 ^ 30) ds →
     deps_of (halves (two_each (codes ds))) ≡ ds
 deps_back_words ds n h = ap deps_of (halves_back ds h ∙ codes_are ds n) ∙ deps_back ds (8 - length ds) h
@@ -239,6 +246,7 @@ head_op_back w o a b c = rw (a, b, c) (op_back o)
 flag_of : (n : ℕ) (b : Bool) → n ≡ flag_code b → (n == 1) ≡ b
 flag_of n b e = rw e (flag_back b)
 
+-- an event is read back
 pub event_back : (e : Event) (rest : List ℕ) → IsPackable e → IsTyped e → event_of (event_words e ++ rest) ≡ e
 event_back e rest p t = let h = head_back e t.hart in
     same_event (event_of (event_words e ++ rest)) e
@@ -266,18 +274,23 @@ two_high_low s n h k = omega arith
 count_low : (n : ℕ) → n ≤ 8 → bits n 0 4 ≡ n
 count_low n h = omega arith
 
+-- a chunk text tells its source
 pub source_back : (s n : ℕ) (es : List Event) → IsInRange s n es → source_of (chunk_text s n es) ≡ s
 source_back s n es r = source_low s n r.source_low
 
+-- and its number
 pub number_back : (s n : ℕ) (es : List Event) → IsInRange s n es → number_of (chunk_text s n es) ≡ n
 number_back s n es r = two_high_low s n r.source_low r.number_low
 
+-- and how many events it has
 pub count_back : (s n : ℕ) (es : List Event) → IsInRange s n es → count_of (chunk_text s n es) ≡ length es
 count_back s n es r = count_low (length es) r.few
 
+-- and the events
 pub text_back : (s n : ℕ) (es : List Event) → IsInRange s n es → events_of (chunk_text s n es) ≡ es
 text_back s n es r = rw (count_back s n es r) (events_back es (replicate (56 - 7 * length es) 0) r.packable r.typed)
 
+-- a chunk text is rewritten as it is
 pub rewritten_back : (s n : ℕ) (es : List Event) → IsInRange s n es → rewritten (chunk_text s n es) ≡ chunk_text s n es
 rewritten_back s n es r = let a = source_back s n es r in let b = number_back s n es r in
     let c = text_back s n es r in cc

@@ -19,6 +19,7 @@ front a b xs zs n e = rw e (ap (λ (ys : List ℕ). a ∷ b ∷ ys) (take-append
 back : (a b : ℕ) (xs zs : List ℕ) (n : ℕ) → n ≡ suc (suc (length xs + 7)) → drop n (a ∷ b ∷ (xs ++ zs)) ≡ drop 7 zs
 back a b xs zs n e = rw e (drop-append-add xs zs 7)
 
+-- one event more in its place
 pub put : (a b : ℕ) (xs block : List ℕ) (k : ℕ) → k < 8 → length xs ≡ 7 * k →
     take (2 + 7 * k) (filled a b xs k) ++ block ++ drop (9 + 7 * k) (filled a b xs k) ≡ filled a b (xs ++ block) (k + 1)
 put a b xs block k h e =
@@ -29,6 +30,7 @@ put a b xs block k h e =
     ap (λ (n : ℕ). replicate n 0) (let q : 56 - 7 * k - 7 ≡ 56 - 7 * (k + 1) = omega arith in q)) in
     rw (f, g) refl
 
+-- each event has seven words
 pub length_words : (es : List Event) → length (flat_map event_words es) ≡ 7 * length es
 length_words [] = refl
 length_words (e ∷ es) = let i = length_words es in omega arith
@@ -38,6 +40,7 @@ pub one_more : (es : List Event) (e : Event) → flat_map event_words (es ++ e �
     event_words e
 one_more es e = flat_map-append event_words es (e ∷ [])
 
+-- one event more is read
 pub read_more : (k : ℕ) (ws : List ℕ) → events_from (k + 1) ws ≡ events_from k ws ++ event_of (drop (7 * k) ws) ∷ []
 read_more zero ws = refl
 read_more (suc k) ws =

@@ -27,6 +27,7 @@ some_code (n ∷ ns) zero h e = code_if (n == 0) (dep_of n) (deps_of ns) (both_f
 some_code (n ∷ ns) (suc i) h e = let b = both_false (n == 0) (list_any (λ y. y == 0) (take (suc i) ns)) e in
     next_if (n == 0) (dep_of n) (deps_of ns) i b.0 ∙ some_code ns i (let k : i < length ns = omega arith in k) b.1
 
+-- a dependency whose code is not 0 is read
 pub some_code_up_to : (ns : List ℕ) (i : ℕ) → i < length ns → list_any (λ y. y == 0) (take (i + 1) ns) ≡ false →
     dep_at (deps_of ns) i ≡ dep_code (dep_of (get_or ns i 0))
 some_code_up_to ns i h e = let q : i + 1 ≡ suc i = omega arith in

@@ -38,8 +38,10 @@ deps_few : (ns : List ℕ) → length (deps_of ns) ≤ length ns
 deps_few [] = omega arith
 deps_few (n ∷ ns) = few_if (n == 0) (dep_of n) (deps_of ns) (length ns) (deps_few ns)
 
+-- what is read can be packed
 pub read_packable : (ws : List ℕ) → IsPackable (event_of ws)
-read_packable ws = let ns : List ℕ = halves (slice_index ws 3 ∷ slice_index ws 4 ∷ slice_index ws 5 ∷ slice_index ws 6 ∷ []) in record { few = deps_few ns; small = deps_small ns }
+read_packable ws = let ns : List ℕ = halves (slice_index ws 3 ∷ slice_index ws 4 ∷ slice_index ws 5 ∷
+    slice_index ws 6 ∷ []) in record { few = deps_few ns; small = deps_small ns }
 
 low_byte : (w : ℕ) → bits w 0 8 < 2 ^ 8
 low_byte w = omega arith
@@ -50,6 +52,7 @@ low_half w = omega arith
 high_half : (w : ℕ) → bits w 32 32 < 2 ^ 32
 high_half w = omega arith
 
+-- and has fields in their ranges
 pub read_typed : (ws : List ℕ) → IsTyped (event_of ws)
 read_typed ws = record {
   hart = low_byte _;
@@ -59,6 +62,7 @@ read_typed ws = record {
   wrote = high_half _;
 }
 
+-- so many events are read
 pub length_read : (k : ℕ) (ws : List ℕ) → length (events_from k ws) ≡ k
 length_read zero ws = refl
 length_read (suc k) ws = ap suc (length_read k (drop 7 ws))
@@ -76,6 +80,7 @@ all_typed (suc k) ws = All-cons IsTyped (event_of ws) (events_from k (drop 7 ws)
 low_three : (w : ℕ) → bits w 0 3 < 8
 low_three w = omega arith
 
+-- what is read of words is in range
 pub read_in_range : (ws : List ℕ) → 1 ≤ count_of ws → count_of ws ≤ 8 → IsInRange (source_of ws) (number_of ws)
     (events_of ws)
 read_in_range ws some few = let e = length_read (count_of ws) (drop 2 ws) in record {
@@ -100,12 +105,14 @@ pub told : (ws : List ℕ) → IsTrue (is_chunk_text ws) → (1 ≤ count_of ws)
 told ws h = let a = both_true _ _ h in let b = both_true _ _ a.1 in
     (leb-true 1 (count_of ws) a.0, leb-true (count_of ws) 8 b.0, same_text ws (rewritten ws) (sym b.1))
 
+-- words that are rewritten as they are pass the test
 pub tells : (ws : List ℕ) → 1 ≤ count_of ws → count_of ws ≤ 8 → ws ≡ rewritten ws → IsTrue (is_chunk_text ws)
 tells ws a b c = and_true (nat_le 1 (count_of ws)) (nat_le (count_of ws) 8 && pointwise nat_eq ws (rewritten ws))
     (le-leb 1 (count_of ws) a)
     (and_true (nat_le (count_of ws) 8) (pointwise nat_eq ws (rewritten ws)) (le-leb (count_of ws) 8 b)
     (subst (λ (x : List ℕ). pointwise nat_eq ws x ≡ true) c (nat_list_eq_equiv.refl ws)))
 
+-- words that pass the test are a chunk text
 pub chunk_text_from_test : (ws : List ℕ) → IsTrue (is_chunk_text ws) → IsChunkText ws
 chunk_text_from_test ws h = let t = told ws h in
     record {
@@ -116,10 +123,12 @@ chunk_text_from_test ws h = let t = told ws h in
       text = t.2;
     }
 
+-- a chunk text passes the test
 pub tests_text : (s n : ℕ) (es : List Event) → IsInRange s n es → IsTrue (is_chunk_text (chunk_text s n es))
 tests_text s n es r = let c = count_back s n es r in tells (chunk_text s n es) (rw c r.some) (rw c r.few)
     (sym (rewritten_back s n es r))
 
+-- and so do words that are one
 pub test_from_chunk_text : (ws : List ℕ) → IsChunkText ws → IsTrue (is_chunk_text ws)
 test_from_chunk_text ws t = rw t.text (tests_text t.source t.number t.events t.in_range)
 

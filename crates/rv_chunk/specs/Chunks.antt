@@ -1,5 +1,5 @@
--- Chunk texts: the 58 words that carry a list of 1 to 8 events, by fields and bit places. The format is this project's
--- own.
+-- Chunk texts: the 58 words that carry a list of 1 to 8 events, by fields and bit places. The
+-- format is this project's own.
 use Rattle.std.specs.Prelude.{ℕ, zero, suc, Bool, true, false, ◌&&◌, ◌==◌, nat_le, if◌then◌else◌, ◌≡◌, ◌+◌}
 use Rattle.std.specs.Prelude.{◌-◌, ◌*◌, ◌/◌, ◌%◌, ◌^◌, ◌<◌, ◌≤◌, List, [], ◌∷◌, ◌++◌, length, map, drop}
 use Rattle.std.specs.Prelude.{replicate, slice_index, All}

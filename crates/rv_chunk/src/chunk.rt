@@ -1,7 +1,7 @@
 //! Chunks: one to eight events in 58 words, the form in which events pass between threads.
 //!
-//! `docs/TRACE.md` has the words bit by bit. Whether words are a chunk text is decided by reading them and writing them
-//! anew: they are one exactly where that gives the same words.
+//! `docs/TRACE.md` has the words bit by bit. Whether words are a chunk text is decided by reading
+//! them and writing them anew: they are one exactly where that gives the same words.
 ghost use Rattle.std.specs.Prelude.{◌≡◌, ◌↔◌, ℕ, ◌<◌, ◌≤◌, ◌+◌, ◌*◌, ◌^◌, ◌++◌, All, IfOk, IfSome, IfNone};
 ghost use Rattle.std.specs.Prelude.{IsTrue, IsSome, length, take, drop, MatchOption, vec_len};
 ghost use Rattle.rv_chunk.specs.Chunks.{chunk_text, is_chunk_text, IsPackable, IsTyped, IsChunkText};
@@ -90,9 +90,9 @@ fn rewritten(words: &[u64; 58]) -> [u64; 58]
 /// Packs 1 to 8 events of a source, 0 to 7, as its chunk with this number. It takes no memory.
 ///
 /// # Errors
-/// The first of these that holds, exactly where it holds: `Empty` where there is no event; `TooMany` where there are more
-/// than 8; `Range` where the source is above 7, an event has more than 8 dependencies, or a dependency names a number of
-/// 2^30 or more.
+/// The first of these that holds, exactly where it holds: `Empty` where there is no event;
+/// `TooMany` where there are more than 8; `Range` where the source is above 7, an event has more
+/// than 8 dependencies, or a dependency names a number of 2^30 or more.
 pub fn pack(events: &[Event], source: u8, number: u32) -> Result<Chunk, PackFault>
     ensures { IsPacked events.now source number result }
 {
@@ -169,8 +169,8 @@ pub fn unpack(alloc: Global, chunk: &Chunk) -> Result<Vec<Event>, NoMemory>
     Ok(events)
 }
 
-/// The law of chunk texts: the test of words holds of the chunk texts and of nothing else, and no two contents have the
-/// same text. The function does nothing.
+/// The law of chunk texts: the test of words holds of the chunk texts and of nothing else, and no
+/// two contents have the same text. The function does nothing.
 pub fn chunk_texts_tell()
     ensures test { TestTells }
     ensures differ { TextsDiffer }

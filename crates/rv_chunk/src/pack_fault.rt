@@ -7,6 +7,7 @@ pub enum PackFault {
     Empty,
     /// There are more than 8 events.
     TooMany,
-    /// The source is above 7, an event has more than 8 dependencies, or a dependency names a number of 2^30 or more.
+    /// The source is above 7, an event has more than 8 dependencies, or a dependency names a number
+    /// of 2^30 or more.
     Range,
 }

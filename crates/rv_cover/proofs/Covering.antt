@@ -20,10 +20,12 @@ use Rattle.rv_cover.specs.Paths.{Path, one, more, Reaches, Covers}
 use Rattle.rv_cover.specs.Carries.{IsSplit, Carries}
 use Rattle.rv_cover.specs.Laws.{Either}
 
+-- a path and one that goes on from its end
 pub path-append : (X : Type 0) (Step : X → X → Type 0) (i j k : X) → Path X Step i j → Path X Step j k → Path X Step i k
 path-append X Step i j k (one s) q = more s q
 path-append X Step i j k (more {j = m} s p) q = more s (path-append X Step m j k p q)
 
+-- a path of steps that are steps of another kind
 pub path-map : (X : Type 0) (Step Other : X → X → Type 0) → ((i j : X) → Step i j → Other i j) → (i j : X) →
     Path X Step i j → Path X Other i j
 path-map X Step Other f i j (one s) = one (f i j s)
@@ -240,6 +242,7 @@ module _ (model : MemoryModel) (log : List Event) (e : Event) (Kept Listed : Id 
   out AtomicIn b cb me mb h = not_split AtomicIn e b (λ s. s.splits) (carries.out AtomicIn b cb me mb h)
   out AtomicOut b cb me mb h = atomic_out_out b.wrote b cb (omega arith) me mb h
 
+  -- the links cover every edge of the log with the event
   pub covered : Covers model new Both
   covered i j reason other edge = go (Contains-push_cases log e edge.a from.0) (Contains-push_cases log e edge.b to.0)
     where

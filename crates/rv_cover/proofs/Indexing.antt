@@ -12,5 +12,6 @@ events_sound log before (x ∷ rest) ok e = (
       (e ∙ sym (append_assoc before (x ∷ []) rest)),
 )
 
+-- a well formed list of events is indexed
 pub indexed_from_events : (log : List Event) → WellFormedEvents log → Indexed log
 indexed_from_events log ok = indexed-all [] log indexed-nil (events_sound log [] log ok refl)

@@ -10,8 +10,8 @@ use Rattle.rv_event.specs.declared.reason.Reason.TheVariants.{Preserved, Coheren
 use Rattle.rv_event.specs.declared.reason.Reason.TheVariants.{AtomicIn, AtomicOut}
 use Rattle.rv_cover.specs.Paths.{AnyRule, Reaches}
 
--- c splits an edge from a to b of the new log: one half is an edge between old events, the other one of the same kind,
--- nearer to the new event
+-- c splits an edge from a to b of the new log: one half is an edge between old events, the other
+-- one of the same kind, nearer to the new event
 abbrev pub Splits : MemoryModel → List Event → List Event → Reason → Event → Event → Event → Type 0
 Splits model log new (Preserved k) a c b = Reaches model log a c × AnyRule model new c b
 Splits model log new Coherence a c b = IsCoherence a c × IsCoherence c b

@@ -16,7 +16,8 @@ Either Kept Listed i j = Kept i j ⊎ Listed i j
 abbrev pub LinkedBy : List (Id × Id) → Id → Id → Type 0
 LinkedBy links i j = Contains links (i, j)
 
--- where kept links cover the old log, and listed ones carry the new event's edges, both together cover the new log
+-- where kept links cover the old log, and listed ones carry the new event's edges, both together
+-- cover the new log
 abbrev pub CarriedLinksCover : Type 0
 CarriedLinksCover =
     (model : MemoryModel) (log : List Event) (e : Event) (kept listed : List (Id × Id)) →

@@ -33,8 +33,8 @@ Lists links a reason = Contains links (record { id = a.id; reason = reason })
 abbrev pub Names : List Link → Id → Type 0
 Names links i = (l : Link) × Contains links l × (l.id ≡ i)
 
--- no memory operation of the log stands between a and the new event in such a way that rules order a before it, and it
--- before the new event: so a's link is needed
+-- no memory operation of the log stands between a and the new event in such a way that rules order
+-- a before it, and it before the new event: so a's link is needed
 abbrev pub IsUnsplit : MemoryModel → List Event → Event → List Link → Type 0
 IsUnsplit model log e before =
     (k : ℕ) (a c : Event) → Contains log a → Contains log c → Lists before a (Preserved k) →

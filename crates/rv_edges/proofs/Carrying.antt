@@ -22,6 +22,7 @@ use Rattle.rv_cover.proofs.Covering.{covered, path-map}
 use Rattle.rv_edges.proofs.Listed.{Contains-old, Contains-last, Contains-none}
 use Rattle.rv_edges.proofs.Sides.{kept_one, kept_from-push}
 
+-- the events of a history with one more
 pub happened-push : (h : List Kept) (k : Kept) → happened (h ++ k ∷ []) ≡ happened h ++ k.event ∷ []
 happened-push h k = map-append (λ (x : Kept). x.event) h (k ∷ [])
 
@@ -36,6 +37,7 @@ module _ (model : MemoryModel) where
         subst (λ (seen : List Event). AllSound seen (happened rest)) (happened-push before k) again,
       )
 
+  -- a history's events are indexed
   pub indexed_from_IsHistory : (h : List Kept) → IsHistory model h → Indexed (happened h)
   indexed_from_IsHistory h ok = indexed-all [] (happened h) indexed-nil (all_sound h [] h ok refl)
 
@@ -47,6 +49,7 @@ module _ (model : MemoryModel) where
   IsKept-new : (h : List Kept) (k : Kept) (i j : Id) (r : Reason) → Joins k i r j → IsKept (h ++ k ∷ []) i r j
   IsKept-new h k i j r is = Any-from_contains (λ x. Joins x i r j) (h ++ k ∷ []) k (Contains-last h k) is
 
+  -- a kept link is an old one or one of the new event
   pub IsKept-cases : (h : List Kept) (k : Kept) (i j : Id) (r : Reason) → IsKept (h ++ k ∷ []) i r j → IsKept h i r j ⊎
       Joins k i r j
   IsKept-cases h k i j r any =
@@ -105,12 +108,15 @@ module _ (model : MemoryModel) where
       let step : IsCarried model (before ++ k ∷ []) = IsCarried-push before k known (ok before rest k refl) c in
       subst (IsCarried model) same (carried_all (before ++ k ∷ []) rest (subst (IsHistory model) (sym same) ok) step)
 
+  -- its links carry every edge
   pub carried_from_IsHistory : (h : List Kept) → IsHistory model h → IsCarried model h
   carried_from_IsHistory h ok = carried_all [] h ok IsCarried-nil
 
+  -- no events are a history
   pub IsHistory-nil : IsHistory model []
   IsHistory-nil before after k e = absurd (omega (arith, ap length e, length-append before (k ∷ after)))
 
+  -- an event that joins it leaves it one
   pub IsHistory-push : (h : List Kept) (k : Kept) → IsHistory model h → Joined model h k → IsHistory model (h ++ k ∷ [])
   IsHistory-push h k ok joined before after y e = go (split_push h k before after y e)
     where
@@ -118,6 +124,7 @@ module _ (model : MemoryModel) where
       go (inl (s, t)) = subst (λ (l : List Kept). Joined model l y) s (subst (λ (z : Kept). Joined model h z) t joined)
       go (inr (rest, s)) = ok before rest y s
 
+  -- and so does taking the last one off
   pub IsHistory-front : (h : List Kept) (k : Kept) → IsHistory model (h ++ k ∷ []) → IsHistory model h
   IsHistory-front h k ok = IsHistory-part h (k ∷ []) ok
 

@@ -82,6 +82,7 @@ module _ (model : MemoryModel) (h : List Kept) (k : Kept) (known : Indexed (happ
       reaches-hart a b (one s) = s.1.earlier.hart
       reaches-hart a b (more {j = j} s p) = s.1.earlier.hart ∙ reaches-hart j b p
 
+  -- the links into the event are enough for its hart
   pub enough_is : AreEnoughLinks own e k.before
   enough_is = record {
     rules = λ l j c is.

@@ -30,6 +30,7 @@ module _ (model : MemoryModel) (log : List Event) (e : Event) (known : Indexed l
   abbrev new : List Event
   new = log ++ e ∷ []
 
+  -- the log with the event is indexed
   pub known' : Indexed new
   known' = indexed-push log e known (sound_of log e sound)
 
@@ -37,6 +38,7 @@ module _ (model : MemoryModel) (log : List Event) (e : Event) (known : Indexed l
   pub own-new : of_hart e.id.hart new ≡ followed own e
   own-new = own-push log e e.id.hart (λ i. e.id.hart)
 
+  -- a partner among the hart's events is one of the log
   pub partner_from : (lr : Event) → Contains own.events lr → Paired (followed own e) lr e → IsPartner log e lr
   partner_from lr c p =
       let f = own_contains log e.id.hart lr c in
@@ -46,16 +48,19 @@ module _ (model : MemoryModel) (log : List Event) (e : Event) (known : Indexed l
             (subst (λ (es : List Event). Paired es lr e) (sym own-new) p);
       }
 
+  -- and the other way round
   pub partner_to : (lr : Event) → IsPartner log e lr → Contains own.events lr × Paired (followed own e) lr e
   partner_to lr p = (
     contains_own log e.id.hart lr known p.of_log p.paired.earlier.hart,
     subst (λ (es : List Event). Paired es lr e) own-new (paired_to model new e.id.hart known' lr e p.paired),
   )
 
+  -- a stale pair of the hart is one of the log
   pub stale_is : (s : Id) → IsStale (followed own e) e.id s → IsStale new e.id s
   stale_is s p = stale_from model new e.id.hart known' e.id s
       (subst (λ (es : List Event). IsStale es e.id s) (sym own-new) p)
 
+  -- and the other way round
   pub stale_was : (s : Id) → IsStale new e.id s → IsStale (followed own e) e.id s
   stale_was s p = subst (λ (es : List Event). IsStale es e.id s) own-new
       (stale_to model new e.id.hart known' e.id s (λ i. e.id.hart) p)
@@ -76,6 +81,7 @@ module _ (model : MemoryModel) (log : List Event) (e : Event) (known : Indexed l
       let at : q.b.id.seq ≡ q.a.id.seq = ap (λ (x : Event). x.id.seq) (sym b ∙ a) in
       omega (arith, less, at)
 
+  -- a hart without events asks for no links
   pub none_linked : own.events ≡ [] → (links : List Link) → links ≡ [] → AreRuleLinks own e links
   none_linked none links is =
       let no : (l : Link) → Contains links l → ⊥ =
@@ -89,6 +95,7 @@ module _ (model : MemoryModel) (log : List Event) (e : Event) (known : Indexed l
 
 -- the own store that the event returns, from the writer of what it returned
 module _ (model : MemoryModel) (log : List Event) (e : Event) (known : Indexed log) where
+  -- a version without a writer is no own store's
   pub returned_none : writer log e.word e.read ≡ None → IsReturned (hart_from model log e.id.hart) e None
   returned_none none w s =
       let c = own_contains log e.id.hart w s.of_hart in
@@ -96,6 +103,7 @@ module _ (model : MemoryModel) (log : List Event) (e : Event) (known : Indexed l
       none-some w (sym none ∙ ap (λ x. writer log x e.read) s.returns.word ∙
       ap (λ v. writer log w.word v) s.returns.version ∙ is)
 
+  -- an own store that the event returns
   pub returned_some : (w : Event) → writer log e.word e.read ≡ Some w → w.id.hart ≡ e.id.hart → IsLoad e →
       IsReturned (hart_from model log e.id.hart) e (Some w.id.seq)
   returned_some w is at load =
@@ -110,6 +118,7 @@ module _ (model : MemoryModel) (log : List Event) (e : Event) (known : Indexed l
         λ k. w.id.seq,
       )
 
+  -- another hart's store is none
   pub returned_other : (w : Event) → writer log e.word e.read ≡ Some w → w.id.hart ≢ e.id.hart →
       IsReturned (hart_from model log e.id.hart) e None
   returned_other w is other x s =

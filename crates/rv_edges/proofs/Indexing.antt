@@ -22,6 +22,7 @@ module _ (model : MemoryModel) (log : List Event) (harts : List Hart) (links : L
   pub happened-is : happened (kept_from log links) ≡ log
   happened-is = happened-kept_from log links known.lengths
 
+  -- the events of a history are indexed
   pub indexed-is : Indexed (happened (kept_from log links))
   indexed-is = indexed_from_IsHistory model (kept_from log links) known.history
 
@@ -29,9 +30,11 @@ module _ (model : MemoryModel) (log : List Event) (harts : List Hart) (links : L
     pub log-is : log ≡ happened past.kept
     log-is = sym happened-is ∙ ap (λ (w : Past). happened w.kept) view
 
+    -- and so are those of what is kept
     pub past-indexed : Indexed (happened past.kept)
     past-indexed = subst (λ (w : Past). Indexed (happened w.kept)) view indexed-is
 
+    -- there are at most 65,536
     pub past-few : (entries : List Entry) → events entries ≡ happened past.kept → length entries ≤ 65536
     past-few entries e =
         omega (

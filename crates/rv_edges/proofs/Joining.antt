@@ -165,10 +165,11 @@ module _ (model : MemoryModel) (log : List Event) (e : Event) (known : Indexed l
   carried_into reason a ca ma me why = go (kinds reason)
     where
       by_rule : (k : ℕ) → Rule model new k a e → Names before a.id ⊎ IsSplit model log new (Preserved k) a e
-      by_rule k r = elim (by_rules.carried k a (contains_own log e.id.hart a known ca r.earlier.hart) (rule_own k a r)) [
-        | inl n ↦ inl (n.0, left n.0 n.1, n.2)
-        | inr s ↦ inr (split_is k a s)
-      ]
+      by_rule k r = elim (by_rules.carried k a (contains_own log e.id.hart a known ca r.earlier.hart) (rule_own
+          k a r)) [
+            | inl n ↦ inl (n.0, left n.0 n.1, n.2)
+            | inr s ↦ inr (split_is k a s)
+          ]
 
       go : ((k : ℕ) × (reason ≡ Preserved k)) ⊎ IsOfVersions reason → Names before a.id ⊎
           IsSplit model log new reason a e
@@ -197,6 +198,7 @@ module _ (model : MemoryModel) (log : List Event) (e : Event) (known : Indexed l
     | inr v ↦ by_versions.carried_after reason b v cb me mb why
   ]
 
+  -- no listed rule is split by another event
   pub unsplit_is : IsUnsplit model log e before
   unsplit_is k a c ca cc lists first second = elim (sides (record { id = a.id; reason = Preserved k }) lists) [
     | inl r ↦ (
@@ -215,6 +217,7 @@ module _ (model : MemoryModel) (log : List Event) (e : Event) (known : Indexed l
     | inr v ↦ v
   ]
 
+  -- coherence and from-read go to the nearest versions
   pub nearest_is : IsNearest log e before after
   nearest_is = record {
     coherence_before = λ s c lists. by_versions.nearest.coherence_before s c (by_version s Coherence refl lists);

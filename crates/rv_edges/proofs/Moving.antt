@@ -40,6 +40,7 @@ module _ (model : MemoryModel) (log log' : List Event) (harts : List Hart) (n : 
           get_or-set_other harts n h x (record { model = model; number = h; events = [] }) other ∙ own h
           ∙ ap (λ (es : List Event). record { model = model; number = h; events = es }) (others h other)
 
+-- the hart of the event has it, and the others stay
 pub harts-push :
     (model : MemoryModel) (log log' : List Event) (harts : List Hart) (e : Event) (was is : Hart) →
     ((h : ℕ) → hart_of model harts h ≡ hart_from model log h) →
@@ -92,9 +93,11 @@ last-of_hart model front harts e was own at =
           own-push front e n refl,
     )
 
+-- a list with an element is not empty
 pub not_none : {X : Type 0} (xs ys : List X) (y : X) → ys ≡ xs ++ y ∷ [] → ys ≡ [] → ⊥
 not_none xs ys y e none = not_both xs y (sym e ∙ none)
 
+-- the hart of the last event is without it
 pub harts-pop :
     (model : MemoryModel) (front : List Event) (harts : List Hart) (e : Event) (was is : Hart) →
     ((h : ℕ) → hart_of model harts h ≡ hart_from model (front ++ e ∷ []) h) →
@@ -110,6 +113,7 @@ harts-pop model front harts e was is own at same_model same_number popped =
     λ i. record { model = (same_model ∙ l.0) i; number = (same_number ∙ l.1) i; events = less i } in
     harts-set model (front ++ e ∷ []) front harts n is own within more (λ h other. other-push front e h other)
 
+-- a list that has a last element ends with it
 pub ends_with : {X : Type 0} (xs : List X) (x : X) → slice_get xs (length xs - 1) ≡ Some x → (front : List X) ×
     (xs ≡ front ++ x ∷ [])
 ends_with [] x e = absurd (Rattle.std.proofs.lemmas.Option.none-some x e)
@@ -124,6 +128,7 @@ ends_with {X} (z ∷ xs) x e =
     ap (λ k. get_or (z ∷ xs) k x) (sym at) ∙ got in
     (r.0, r.2 ∙ ap (λ (y : X). r.0 ++ y ∷ []) same)
 
+-- so do its events
 pub last_event : (es : List Entry) (x : Entry) → slice_get es (length es - 1) ≡ Some x → (front : List Event) ×
     (events es ≡ front ++ x.event ∷ [])
 last_event es x e =

@@ -6,6 +6,7 @@ use Rattle.rv_event.specs.declared.reason.Link.{Link}
 use Rattle.rv_edges.specs.declared.links.Sides.{Sides}
 use Rattle.rv_edges.specs.OwnLinks.{OwnLinks, total, own_from}
 
+-- one event's links more
 pub total-push : (sides : List Sides) (s : Sides) → total (sides ++ s ∷ []) ≡ total sides + (s.before + s.after)
 total-push [] s = omega arith
 total-push (x ∷ sides) s = omega (arith, total-push sides s)
@@ -77,6 +78,7 @@ module _ (sides : List Sides) (s : Sides) (links : List Link) (same : total (sid
   all : total sides + (s.before + s.after) ≡ length links
   all = sym (total-push sides s) ∙ same
 
+  -- the links of the others
   pub total-front : total sides ≡ length front
   total-front = omega (arith, all, length-take-le (length links - (s.before + s.after)) links (omega arith))
 
@@ -97,6 +99,7 @@ module _ (sides : List Sides) (s : Sides) (links : List Link) (same : total (sid
       sym (take-append-drop (length links - (s.before + s.after)) links)
       ∙ ap (λ (ls : List Link). front ++ ls) (sym (take-append-drop s.before back))
 
+  -- the last event's own links are taken off
   pub own_from-pop : (own : OwnLinks) × (own_from links (sides ++ s ∷ []) ≡ own_from front sides ++ own ∷ [])
   own_from-pop = (
     record { before = before; after = after },

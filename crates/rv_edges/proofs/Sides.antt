@@ -20,6 +20,7 @@ happened-kept_from (x ∷ xs) [] same = absurd (omega (arith, same))
 happened-kept_from (x ∷ xs) (l ∷ ls) same =
     ap (λ (es : List Event). x ∷ es) (happened-kept_from xs ls (omega (arith, same)))
 
+-- events and links side by side, with one more
 pub kept_from-push :
     (xs : List Event) (ls : List OwnLinks) (x : Event) (l : OwnLinks) → length xs ≡ length ls →
     kept_from (xs ++ x ∷ []) (ls ++ l ∷ []) ≡ kept_from xs ls ++ kept_one x l ∷ []
@@ -39,6 +40,7 @@ some_entries : (xs : List Event) (ls : List OwnLinks) → kept_from xs ls ≢ []
 some_entries [] ls some = absurd (some refl)
 some_entries (x ∷ xs) ls some = omega arith
 
+-- and with one less
 pub popped_sides :
     (xs ys : List Event) (ls ms : List OwnLinks) (o : Option Event) (p : Option OwnLinks) → length xs ≡ length ls →
     xs ≡ ys ++ option_to_list o → ls ≡ ms ++ option_to_list p → kept_from xs ls ≢ [] →

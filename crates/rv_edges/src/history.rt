@@ -34,17 +34,19 @@ pub struct Around {
     pub before: Links,
     /// Links from it to other events.
     pub after: Links,
-    /// Whether an edge leads from the event to itself: an AMO that returned its own version, or an SC whose LR returned
-    /// what the SC wrote.
+    /// Whether an edge leads from the event to itself: an AMO that returned its own version, or an
+    /// SC whose LR returned what the SC wrote.
     pub itself: bool,
-    /// An earlier store of its hart and word with a higher version than it returned, where there is one.
+    /// An earlier store of its hart and word with a higher version than it returned, where there is
+    /// one.
     pub stale: Option<Id>,
 }
 
 /// Events, each kept with links to the events before it.
 ///
-/// Contracts see it as its model and a list of events with their links. Its type keeps that each event has no fault over
-/// those before it, and that each one's links are as [`History::around`] promises.
+/// Contracts see it as its model and a list of events with their links. Its type keeps that each
+/// event has no fault over those before it, and that each one's links are as [`History::around`]
+/// promises.
 #[derive(Drop)]
 pub struct History {
     alloc: Global,
@@ -87,8 +89,8 @@ impl History {
         self.model
     }
 
-    /// The lowest rule of preserved program order, 1 to 13, that orders the first event of the history before the second.
-    /// None exactly where no rule does. It takes no memory.
+    /// The lowest rule of preserved program order, 1 to 13, that orders the first event of the
+    /// history before the second. None exactly where no rule does. It takes no memory.
     pub fn preserved(&self, a: Id, b: Id) -> Option<u8>
         ensures some { IfSome result (λ k. IsPreserved self.now.model (happened self.now.kept) k a b) }
         ensures lowest { IfSome result (λ k. (j : ℕ) → j < k →
@@ -98,7 +100,8 @@ impl History {
         lowest_rule(self.model, self.entries(), a, b)
     }
 
-    /// The fault of the event over the history, all but that of its source: none exactly where it may join.
+    /// The fault of the event over the history, all but that of its source: none exactly where it
+    /// may join.
     ///
     /// It costs a look-up for each dependency and for the version, and a step for each other fault.
     pub fn fault(&self, event: &Event) -> Option<Fault>
@@ -110,15 +113,16 @@ impl History {
         find_deps_fault(event)
     }
 
-    /// The first fault of the event over the history, up to a full hart: all but that of its source and too many
-    /// dependencies.
+    /// The first fault of the event over the history, up to a full hart: all but that of its source
+    /// and too many dependencies.
     pub fn first_fault(&self, event: &Event) -> Option<Fault>
         ensures { result ≡ lowest (first_faults (happened self.now.kept) event.now) }
     {
         first_fault(event, &self.context_of(event))
     }
 
-    /// The name of the store that wrote this version of the word. Version 0, the initial value, has none.
+    /// The name of the store that wrote this version of the word. Version 0, the initial value, has
+    /// none.
     pub fn writer(&self, word: u32, version: u32) -> Option<Id>
         ensures { result ≡ option_map (λ w. w.id) (writer (happened self.now.kept) word version) }
     {
@@ -127,10 +131,11 @@ impl History {
 
     /// The edges that the event would have, as links.
     ///
-    /// Each listed link is an edge of the history with the event, with its reason, a rule under the number that `preserved`
-    /// would give; none names the event itself. Listed and kept links cover every edge, and few are listed: a rule only
-    /// where no other event stands between by two rules, coherence only with the known stores of the nearest versions,
-    /// from-read only over no other store's version.
+    /// Each listed link is an edge of the history with the event, with its reason, a rule under the
+    /// number that `preserved` would give; none names the event itself. Listed and kept links cover
+    /// every edge, and few are listed: a rule only where no other event stands between by two
+    /// rules, coherence only with the known stores of the nearest versions, from-read only over no
+    /// other store's version.
     ///
     /// # Errors
     /// `NoMemory` where a list could not be had; nothing changes.
@@ -138,7 +143,8 @@ impl History {
         requires { event_fault (happened self.now.kept) event.now ≡ None }
         ensures linked { IfOk result (λ a. IsLinked self.now.model self.now.kept (kept_of event.now a)) }
         ensures covered { IfOk result (λ a.
-            Covers self.now.model (grown self.now.kept event.now) (IsTied (self.now.kept ++ kept_of event.now a ∷ []))) }
+            Covers self.now.model (grown self.now.kept event.now)
+            (IsTied (self.now.kept ++ kept_of event.now a ∷ []))) }
         ensures itself { IfOk result (λ a. IsTrue a.itself ↔ HasOwnEdge self.now.model self.now.kept event.now) }
         ensures stale { IfOk result (λ a. IsStaleOf self.now.kept event.now a.stale) }
         ensures unsplit { IfOk result (λ a. IsUnsplit self.now.model (happened self.now.kept) event.now a.before) }
@@ -155,7 +161,8 @@ impl History {
         })
     }
 
-    /// The events of the history and the new one, as entries of source 0: a log for the plain program.
+    /// The events of the history and the new one, as entries of source 0: a log for the plain
+    /// program.
     ///
     /// # Errors
     /// `NoMemory` where the list or a copy could not be had; nothing changes.
@@ -305,7 +312,8 @@ impl History {
         }
     }
 
-    /// An earlier store of the event's hart and word with a higher version than the event, a load, returned.
+    /// An earlier store of the event's hart and word with a higher version than the event, a load,
+    /// returned.
     fn stale(&self, event: &Event) -> Option<Id>
         requires { event_fault (happened self.now.kept) event.now ≡ None }
         ensures { IsStaleOf self.now.kept event.now result }

@@ -46,7 +46,8 @@ pub struct Sides {
     pub after: usize,
 }
 
-/// The links of each event of a history: all in one list, and for each event how many there are of it.
+/// The links of each event of a history: all in one list, and for each event how many there are of
+/// it.
 #[derive(Drop)]
 pub struct KeptLinks {
     links: Vec<Link>,

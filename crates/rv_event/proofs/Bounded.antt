@@ -73,9 +73,11 @@ unfolding count_below
 count_below-le zero log few = omega arith
 count_below-le (suc n) log few = omega (arith, few n, count_below-le n log few)
 
+-- a log whose events are indexed has at most 65,536
 pub length-Indexed : (log : List Event) → Indexed log → length log ≤ 65536
 length-Indexed log known = omega (arith, count_below-all 16 log known.harts, count_below-le 16 log known.few)
 
+-- and so has a well formed one
 pub length-WellFormed : (log : List Entry) → WellFormed log → length log ≤ 65536
 length-WellFormed log ok = omega (
   arith,

@@ -21,6 +21,7 @@ taken-in log e context is =
     ap (λ (o : Option Fault). cond (is_store e.op) o None) (ap (option_map VersionTaken) is.writer ∙
     named_twice (writer log e.word e.wrote))
 
+-- a context of the log has the faults of the log
 pub faults-in : (log : List Event) (e : Event) (context : Context) → IsContext log e context →
     faults_in context e ≡ first_faults log e
 faults-in log e context is = rw (taken-in log e context is, is.count, is.depends_badly, is.reserved)

@@ -37,6 +37,7 @@ find-filter {X} p q only (x ∷ xs) = go (p x) refl (q x) refl (find-filter p q 
     go false f true g again = rw f again
     go false f false g again = again
 
+-- to filter what was mapped is to map what was filtered
 pub filter-map : {X Y : Type 0} (f : X → Y) (p : Y → Bool) (xs : List X) →
     filter p (map f xs) ≡ map f (filter (λ x. p (f x)) xs)
 filter-map f p [] = refl
@@ -51,6 +52,7 @@ filter-map {X} {Y} f p (x ∷ xs) = go (p (f x)) (filter-map f p xs)
 abbrev pub Grows : List Event → List Event → Type 0
 Grows old new = (hart : ℕ) → (rest : List Event) × (of_hart hart new ≡ of_hart hart old ++ rest)
 
+-- a log that continues another has its events, hart by hart
 pub grows_from_Continues : (old new : List Entry) → Continues old new → Grows (events old) (events new)
 grows_from_Continues old new continues hart =
     let event : Entry → Event = λ x. x.event in
@@ -61,11 +63,13 @@ grows_from_Continues old new continues hart =
           ap (λ (ys : List Event). ys ++ events c.0) (sym (filter-map event p old)),
     )
 
+-- an id is looked up among its hart's events
 pub named-of_hart : (log : List Event) (i : Id) → named log i ≡ find (λ (e : Event). same_id i e.id)
     (of_hart i.hart log)
 named-of_hart log i = find-filter (λ (e : Event). same_id i e.id) (λ (e : Event). i.hart == e.id.hart)
     (λ e t. (and_parts (i.hart == e.id.hart) (i.seq == e.id.seq) t).0) log
 
+-- an id keeps its event when the log grows
 pub named-grows : (old new : List Event) → Grows old new → (i : Id) (e : Event) → named old i ≡ Some e →
     named new i ≡ Some e
 named-grows old new grows i e is =
@@ -74,17 +78,21 @@ named-grows old new grows i e is =
     named-of_hart new i ∙ ap (find p) g.1 ∙ find-append_some p (of_hart i.hart old) g.0 e
     (sym (named-of_hart old i) ∙ is)
 
+-- what holds of some element holds of one that the list contains
 pub Any-contains : {X : Type 0} (P : X → Type 0) (xs : List X) → Any P xs → (x : X) × Contains xs x × P x
 Any-contains P xs (k, x, l, e, p) = (x, (k, l, e), p)
 
+-- and the other way round
 pub Any-from_contains : {X : Type 0} (P : X → Type 0) (xs : List X) (x : X) → Contains xs x → P x → Any P xs
 Any-from_contains P xs x (k, l, e) p = (k, x, l, e, p)
 
+-- what holds of each that the list contains holds of all
 pub All-from_contains : {X : Type 0} (P : X → Type 0) (xs : List X) → ((x : X) → Contains xs x → P x) → All P xs
 All-from_contains P xs each k d l = each (slice_index_or xs k d) (Contains-get_or xs k d l)
 
 module _ (model : MemoryModel) (old new : List Event) (grows : Grows old new) (known : Indexed old)
     (known' : Indexed new) where
+  -- the old events stay
   pub Contains-grows : (e : Event) → Contains old e → Contains new e
   Contains-grows e c = (named-is new e.id e (named-grows old new grows e.id e (known.own e c))).0
 
@@ -98,6 +106,7 @@ module _ (model : MemoryModel) (old new : List Event) (grows : Grows old new) (k
       let same : f.0 ≡ m = same_Some f.0 m (sym (named-grows old new grows m.id f.0 f.1) ∙ known'.own m cm) in
       subst (Contains old) same (named-is old m.id f.0 f.1).0
 
+  -- a version keeps its writer
   pub writer-grows : (word version : ℕ) (w : Event) → writer old word version ≡ Some w →
       writer new word version ≡ Some w
   writer-grows word version w e =
@@ -116,6 +125,7 @@ module _ (model : MemoryModel) (old new : List Event) (grows : Grows old new) (k
       (λ m cm between. All-contains (λ m. Between a m b → P m) old m all
       (earlier_old m b cb cm between.before) between)
 
+  -- a pair stays one
   pub Paired-grows : (lr sc : Event) → Contains old sc → Paired old lr sc → Paired new lr sc
   Paired-grows lr sc c p = record {
     is_lr = p.is_lr;
@@ -148,6 +158,7 @@ module _ (model : MemoryModel) (old new : List Event) (grows : Grows old new) (k
   Condition-grows a b cb k (after_dependent_address h) =
       after_dependent_address (record { store = h.store; through = Any-grows _ h.through })
 
+  -- a rule that holds stays
   pub Rule-grows : (k : ℕ) (a b : Event) → Rule model old k a b → Rule model new k a b
   Rule-grows k a b h = record {
     from = Contains-grows a h.from;
@@ -182,6 +193,7 @@ module _ (model : MemoryModel) (old new : List Event) (grows : Grows old new) (k
         versions = h.versions;
       }
 
+  -- an edge stays
   pub IsEdge-grows : (i j : Id) (reason : Reason) → IsEdge model old i reason j → IsEdge model new i reason j
   IsEdge-grows i j reason e = record {
     a = e.a;
@@ -193,6 +205,7 @@ module _ (model : MemoryModel) (old new : List Event) (grows : Grows old new) (k
     why = HasReason-grows e.a e.b (named-is old i e.a e.from_named).0 (named-is old j e.b e.to_named).0 reason e.why;
   }
 
+  -- a stale pair stays
   pub IsStale-grows : (load store : Id) → IsStale old load store → IsStale new load store
   IsStale-grows load store s = record {
     a = s.a;

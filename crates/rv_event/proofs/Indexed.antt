@@ -1,5 +1,5 @@
--- In a well formed log each event is the one that its id names, a hart's numbers have no gap, and each store is the
--- writer of its version.
+-- In a well formed log each event is the one that its id names, a hart's numbers have no gap, and
+-- each store is the writer of its version.
 use Rattle.std.proofs.Common.{ltb, leb, ◌≡◌, ℕ, ◌+◌, ◌<◌, ◌≤◌, Bool, true, false, not, ◌&&◌, ◌==◌, cond, List}
 use Rattle.std.proofs.Common.{[], ◌∷◌, ◌++◌, length, filter, Contains, find, Option, Some, None, ◌⊎◌, inl}
 use Rattle.std.proofs.Common.{inr, refl, sym, ap, ◌∙◌, arith, eqb-true, eq-eqb, length-append, append_assoc}
@@ -29,6 +29,7 @@ pub record Sound (log : List Event) (e : Event) : Type 0 where
   pub hart : e.id.hart < 16
   pub room : expected log e < 4096
 
+-- the events of a log are told apart by their ids, and its stores by their versions
 pub record Indexed (log : List Event) : Type 0 where
   -- an event is the one that its id names
   pub own : (a : Event) → Contains log a → named log a.id ≡ Some a
@@ -44,6 +45,7 @@ pub record Indexed (log : List Event) : Type 0 where
 none_contained : {X : Type 0} (x : X) → Contains [] x → ⊥
 none_contained x (k, l, e) = omega arith
 
+-- the empty log is indexed
 pub indexed-nil : Indexed []
 indexed-nil = record {
   own = λ a c. absurd (none_contained a c);
@@ -59,6 +61,7 @@ pub find-append_some : {X : Type 0} (p : X → Bool) (xs ys : List X) (x : X) �
     find p (xs ++ ys) ≡ Some x
 find-append_some p xs ys x e = rw (find-append p xs ys, e)
 
+-- what is not found in front is looked for behind
 pub find-append_none : {X : Type 0} (p : X → Bool) (xs ys : List X) → find p xs ≡ None → find p (xs ++ ys) ≡ find p ys
 find-append_none p xs ys e = rw (find-append p xs ys, e)
 
@@ -210,6 +213,7 @@ module _ (log : List Event) (e : Event) (known : Indexed log) (sound : Sound log
           rw h own
       go (inr h) = rw (count-other hart log e h) (known.few hart)
 
+  -- a log stays indexed with an event that has no fault
   pub indexed-push : Indexed (log ++ e ∷ [])
   indexed-push = record { own = own'; below = below'; filled = filled'; written = written'; harts = harts'; few = few' }
 
@@ -218,6 +222,7 @@ abbrev pub AllSound : List Event → List Event → Type 0
 AllSound before [] = Unit {0}
 AllSound before (e ∷ rest) = Sound before e × AllSound (before ++ e ∷ []) rest
 
+-- and with one such event after the other
 pub indexed-all : (before rest : List Event) → Indexed before → AllSound before rest → Indexed (before ++ rest)
 indexed-all before [] known all = rw append-nil known
 indexed-all before (e ∷ rest) known all =
@@ -225,6 +230,7 @@ indexed-all before (e ∷ rest) known all =
     indexed-all (before ++ e ∷ []) rest (indexed-push before e known all.0) all.1 in
     subst Indexed (append_assoc before (e ∷ []) rest) more
 
+-- a fault that does not hold fails its test
 pub fault_if-none : (b : Bool) (f : Fault) → fault_if b f ≡ None → b ≡ false
 fault_if-none true f e = absurd (none-some f (sym e))
 fault_if-none false f e = refl
@@ -234,11 +240,13 @@ abbrev pub NoneOf : List (Option Fault) → Type 0
 NoneOf [] = Unit {0}
 NoneOf (f ∷ rest) = (f ≡ None) × NoneOf rest
 
+-- where there is no lowest fault there is none
 pub lowest-none : (faults : List (Option Fault)) → lowest faults ≡ None → NoneOf faults
 lowest-none [] e = tt
 lowest-none (None ∷ rest) e = (refl, lowest-none rest e)
 lowest-none (Some f ∷ rest) e = absurd (none-some f (sym e))
 
+-- and the other way round
 pub none-lowest : (faults : List (Option Fault)) → NoneOf faults → lowest faults ≡ None
 none-lowest [] e = refl
 none-lowest (None ∷ rest) e = none-lowest rest e.1
@@ -250,6 +258,7 @@ lowest-append_some [] ys f e = absurd (none-some f (sym e))
 lowest-append_some (Some g ∷ xs) ys f e = e
 lowest-append_some (None ∷ xs) ys f e = lowest-append_some xs ys f e
 
+-- a version that is not taken has no writer
 pub not_taken : (log : List Event) (e : Event) → taken_fault log e ≡ None → IsStore e → writer log e.word e.wrote ≡ None
 not_taken log e none s = go (writer log e.word e.wrote) (rw s at none)
   where
@@ -260,6 +269,7 @@ not_taken log e none s = go (writer log e.word e.wrote) (rw s at none)
 not_zero : (e : Event) → (is_store e.op && (e.wrote == 0)) ≡ false → IsStore e → (e.wrote == 0) ≡ false
 not_zero e none s = rw s at none
 
+-- an event without the first faults is sound
 pub sound_from_none : (log : List Event) (e : Event) (more : List (Option Fault)) →
     lowest (first_faults log e ++ more) ≡ None → Sound log e
 sound_from_none log e more none =
@@ -289,5 +299,6 @@ all_sound log before (x ∷ rest) ok e =
           (map-append (λ (y : Entry). y.event) before (x ∷ [])) again,
     )
 
+-- a well formed log is indexed
 pub indexed_from_WellFormed : (log : List Entry) → WellFormed log → Indexed (events log)
 indexed_from_WellFormed log ok = indexed-all [] (events log) indexed-nil (all_sound log [] log ok refl)

@@ -56,6 +56,7 @@ module _ (model : MemoryModel) (one two : List Event) (order : List Id) (there :
   writer-back : (word version : ℕ) (w : Event) → writer two word version ≡ Some w → writer one word version ≡ Some w
   writer-back = writer-grows model two one back known' known
 
+  -- the order is lawful for the other merge
   pub lawful-there : Lawful model two order
   lawful-there = record {
     is_order = record {
@@ -72,9 +73,16 @@ module _ (model : MemoryModel) (one two : List Event) (order : List Id) (there :
           from_writer = λ store e. candidate-there load store
               (v.from_writer store (writer-back load.word load.read store e));
         };
-    atomicity = λ lr sc cl cs p. let a = lawful.atomicity lr sc (event-back lr cl) (event-back sc cs) (Paired-grows model two one back known' known lr sc cs p) in record { after_writer = λ store e. a.after_writer store (writer-back lr.word lr.read store e); before_others = λ store c s word other versions. a.before_others store (event-back store c) s word other versions };
+    atomicity = λ lr sc cl cs p. let a = lawful.atomicity lr sc (event-back lr cl) (event-back sc cs)
+        (Paired-grows model two one back known' known lr sc cs p) in record {
+          after_writer = λ store e.
+              a.after_writer store (writer-back lr.word lr.read store e);
+          before_others = λ store c s word other
+              versions. a.before_others store (event-back store c) s word other versions;
+        };
   }
 
+-- merges of the same harts have the same lawful orders
 pub Lawful-merge : (model : MemoryModel) (log other : List Entry) (order : List Id) → WellFormed log →
     WellFormed other → SameHarts log other → Lawful model (events log) order → Lawful model (events other) order
 Lawful-merge model log other order ok ok' same lawful =

@@ -144,6 +144,7 @@ module _ (one other : List Entry) (x : Entry)
         ),
       )
 
+-- what passes the test stays
 pub Contains-filter : {X : Type 0} (p : X → Bool) (xs : List X) (x : X) → Contains xs x → p x ≡ true →
     Contains (filter p xs) x
 Contains-filter p [] x (k, l, e) t = absurd (omega arith)
@@ -156,6 +157,7 @@ Contains-filter {X} p (y ∷ ys) x c t = go (p y) refl (Contains-cons y ys x c) 
     go false u (inl e) again = absurd (false≢true (sym u ∙ ap p e ∙ t))
     go false u (inr d) again = again d
 
+-- what stays was there
 pub Contains-unfilter : {X : Type 0} (p : X → Bool) (xs : List X) (x : X) → Contains (filter p xs) x → Contains xs x
 Contains-unfilter p [] x (k, l, e) = absurd (omega arith)
 Contains-unfilter {X} p (y ∷ ys) x c = go (p y) c (λ d. Contains-unfilter p ys x d)

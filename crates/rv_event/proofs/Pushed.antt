@@ -21,9 +21,11 @@ split_push {X} (a ∷ as') x (b ∷ bs) after y e =
     go h (inl (s, t)) = inl (cc, t)
     go h (inr (rest, s)) = inr (rest, cc)
 
+-- the empty log is well formed
 pub WellFormed-nil : WellFormed []
 WellFormed-nil before after x e = absurd (omega (arith, ap length e, length-append before (x ∷ after)))
 
+-- a log stays so with an entry that has no fault
 pub WellFormed-push : (log : List Entry) (x : Entry) → WellFormed log → fault_of log x ≡ None →
     WellFormed (log ++ x ∷ [])
 WellFormed-push log x ok none before after y e = go (split_push log x before after y e)
@@ -33,9 +35,11 @@ WellFormed-push log x ok none before after y e = go (split_push log x before aft
         (subst (λ (z : Entry). fault_of log z ≡ None) t none)
     go (inr (rest, s)) = ok before rest y s
 
+-- the beginning of a well formed log is well formed
 pub WellFormed-front : (log more : List Entry) → WellFormed (log ++ more) → WellFormed log
 WellFormed-front log more ok before after x e =
     ok before (after ++ more) x (ap (λ (l : List Entry). l ++ more) e ∙ append_assoc before (x ∷ after) more)
 
+-- and its last entry has no fault
 pub WellFormed-last : (log : List Entry) (x : Entry) → WellFormed (log ++ x ∷ []) → fault_of log x ≡ None
 WellFormed-last log x ok = ok log [] x refl

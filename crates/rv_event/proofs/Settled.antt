@@ -1,4 +1,5 @@
--- An edge between two events of a log is decided for good: no later event adds one or takes one away.
+-- An edge between two events of a log is decided for good: no later event adds one or takes one
+-- away.
 use Rattle.rv_event.specs.declared.memory_model.MemoryModel.{MemoryModel}
 use Rattle.std.proofs.Common.{◌≡◌, ℕ, List, [], ◌∷◌, ◌++◌, Contains, All, Any, Some, ◌⊎◌, inl, inr, sym, ap}
 use Rattle.std.proofs.Common.{◌∙◌, IsFalse, IsTrue, ◌≢◌, ◌==◌}
@@ -82,6 +83,7 @@ module _ (model : MemoryModel) (old new : List Event) (grows : Grows old new) (k
         through = Any-settled b cb (λ m. Between a m b × DependsOn Addr m a) (λ m p. p.0.before) h.through;
       })
 
+  -- a reason between old events was one before
   pub HasReason-settled : (a b : Event) → Contains old a → Contains old b → (reason : Reason) →
       HasReason model new reason a b → HasReason model old reason a b
   HasReason-settled a b ca cb (Preserved k) h =

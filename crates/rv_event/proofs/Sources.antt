@@ -106,6 +106,7 @@ module _ (log other : List Entry) (ok : WellFormed log) (same : SameSources log 
       ∙ sym (filter-through p q other (λ x c t. eq-eqb y.source x.source
       (one_source y x cy (of_log x c) (sym h ∙ eqb-true hart x.event.id.hart t))))
 
+  -- merges of the same sources have the same harts
   pub SameHarts-from_sources : SameHarts log other
   SameHarts-from_sources hart = go (entries_of hart log) refl (entries_of hart other) refl
     where

@@ -1,9 +1,8 @@
--- Acquire, release and RCsc annotations: all in which the memory models differ.
--- RVWMO: manual, section 14.1, "Memory Model Primitives": the aq and rl bits of an LR, an SC or an AMO give RCsc
--- annotations; plain loads and stores have none.
--- Ztso: this project's own profile of the manual's chapter "Ztso": each load has an acquire and each store a release
--- annotation, those of an AMO are RCsc and the others RCpc; the bits of an LR, an SC or an AMO give RCsc ones as
--- before.
+-- Acquire, release and RCsc annotations: all in which the memory models differ. RVWMO: manual,
+-- section 14.1, "Memory Model Primitives": the aq and rl bits of an LR, an SC or an AMO give RCsc
+-- annotations; plain loads and stores have none. Ztso: this project's own profile of the manual's
+-- chapter "Ztso": each load has an acquire and each store a release annotation, those of an AMO are
+-- RCsc and the others RCpc; the bits of an LR, an SC or an AMO give RCsc ones as before.
 use Rattle.std.specs.Prelude.{Bool, true, false, ◌||◌, ◌&&◌, IsTrue}
 use Rattle.rv_event.specs.Operations.{is_load, is_store, is_amo}
 use Rattle.rv_event.specs.declared.event.Op.{Op}

@@ -1,5 +1,6 @@
--- Edges: pairs of memory operations that stand in one order in every lawful order, each with a reason.
--- After Gibbons and Korach, "Testing shared memories" (1997), over the axioms of the manual's section 14.1.
+-- Edges: pairs of memory operations that stand in one order in every lawful order, each with a
+-- reason. After Gibbons and Korach, "Testing shared memories" (1997), over the axioms of the
+-- manual's section 14.1.
 use Rattle.std.specs.Prelude.{ℕ, ◌<◌, ◌≡◌, ◌≢◌, List, Contains, Some}
 use Rattle.rv_event.specs.Operations.{IsLoad, IsStore, IsMemory}
 use Rattle.rv_event.specs.Log.{named, writer, Earlier}

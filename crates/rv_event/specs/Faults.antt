@@ -54,7 +54,8 @@ abbrev pub names_no_value : List Event → ℕ → ℕ → Bool
 names_no_value log hart seq =
     unwrap_or (option_map (λ m. not (can_be_named m.op)) (named log (record { hart = hart; seq = seq }))) false
 
--- a dependency not on an earlier event, on one that returns no value, or of a kind that the operation does not have
+-- a dependency not on an earlier event, on one that returns no value, or of a kind that the
+-- operation does not have
 abbrev pub is_bad_dependency : List Event → Event → Dep → Bool
 is_bad_dependency log e d =
     not (nat_lt d.seq e.id.seq) || names_no_value log e.id.hart d.seq || not (admits e.op d.kind)

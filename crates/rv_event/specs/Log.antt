@@ -1,6 +1,6 @@
 -- Events in the order in which they were recorded: names, program order, and who wrote a version.
--- Program order is that of the manual's section 14.1; that a read names the version it returned, and a store the
--- version it wrote, is how this project records an execution.
+-- Program order is that of the manual's section 14.1; that a read names the version it returned,
+-- and a store the version it wrote, is how this project records an execution.
 use Rattle.std.specs.Prelude.{ℕ, Bool, ◌&&◌, ◌==◌, ◌<◌, ◌≡◌, List, map, filter, find, Option, None, if◌then◌else◌}
 use Rattle.rv_event.specs.Operations.{is_store}
 use Rattle.rv_event.specs.declared.event.Id.{Id}

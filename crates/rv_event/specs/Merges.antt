@@ -1,4 +1,5 @@
--- Merges: logs that hold the same entries of each source in their order. These are this project's own.
+-- Merges: logs that hold the same entries of each source in their order. These are this project's
+-- own.
 use Rattle.std.specs.Prelude.{ℕ, ◌==◌, ◌≡◌, List, filter}
 use Rattle.rv_event.specs.declared.event.Entry.{Entry}
 

@@ -1,6 +1,6 @@
--- What operations do: the loads and stores of main memory.
--- Manual, section 14.1, "Memory Model Primitives". A successful SC is a store; a failed SC is no memory operation. An
--- AMO is one memory operation that is a load and a store at once.
+-- What operations do: the loads and stores of main memory. Manual, section 14.1, "Memory Model
+-- Primitives". A successful SC is a store; a failed SC is no memory operation. An AMO is one memory
+-- operation that is a load and a store at once.
 use Rattle.std.specs.Prelude.{Bool, true, false, ◌||◌, ◌≡◌, IsTrue}
 use Rattle.rv_event.specs.declared.event.Op.{Op}
 use Rattle.rv_event.specs.declared.event.Op.TheVariants.{Load, Store, Lr, Sc, ScFailed, Amo}

@@ -1,6 +1,6 @@
--- Global memory orders, and what the memory model asks of one.
--- Manual, section 14.1, "Memory Model Axioms": load value and atomicity. That stores of one word stand by version is
--- how this project's traces record the order of writes. The progress axiom holds of every finite order. A load whose
+-- Global memory orders, and what the memory model asks of one. Manual, section 14.1, "Memory Model
+-- Axioms": load value and atomicity. That stores of one word stand by version is how this project's
+-- traces record the order of writes. The progress axiom holds of every finite order. A load whose
 -- version has no known writer yet is held to the first part of its axiom alone.
 use Rattle.std.specs.Prelude.{ℕ, suc, zero, ◌<◌, ◌≤◌, ◌≡◌, ◌≢◌, ◌⊎◌, List, [], ◌∷◌, Some, Contains, AllPairs}
 use Rattle.std.specs.Prelude.{if◌then◌else◌}

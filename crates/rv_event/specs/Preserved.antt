@@ -47,9 +47,10 @@ pub record AfterDependentAddress (log : List Event) (a b : Event) : Type 0 where
   pub store : IsStore b
   pub through : Any (λ m. Between a m b × DependsOn Addr m a) log
 
--- The condition of each rule, by its number. 4: a fence orders a before b. 5: a has an acquire annotation. 6: b has a
--- release annotation. 7: both have RCsc annotations. 8: a is paired with b. 9, 10: b has an address or a data
--- dependency on a. 11: b is a store with a control dependency on a.
+-- The condition of each rule, by its number. 4: a fence orders a before b. 5: a has an acquire
+-- annotation. 6: b has a release annotation. 7: both have RCsc annotations. 8: a is paired with b.
+-- 9, 10: b has an address or a data dependency on a. 11: b is a store with a control dependency on
+-- a.
 pub data Condition (model : MemoryModel) (log : List Event) (a b : Event) : ℕ → Type 0 where
   overlapping_store : OverlappingStore a b → Condition model log a b 1
   different_reads : DifferentReads log a b → Condition model log a b 2
@@ -65,7 +66,8 @@ pub data Condition (model : MemoryModel) (log : List Event) (a b : Event) : ℕ 
   reads_dependent_write : ReadsDependentWrite log a b → Condition model log a b 12
   after_dependent_address : AfterDependentAddress log a b → Condition model log a b 13
 
--- rule k orders a before b: both are memory operations, a is earlier in program order, and the rule's condition holds
+-- rule k orders a before b: both are memory operations, a is earlier in program order, and the
+-- rule's condition holds
 pub record Rule (model : MemoryModel) (log : List Event) (k : ℕ) (a b : Event) : Type 0 where
   pub from : Contains log a
   pub to : Contains log b

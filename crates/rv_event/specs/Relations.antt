@@ -1,6 +1,6 @@
--- Pairs, fences and dependencies between the events of a hart.
--- Manual, section 14.1: "Memory Model Primitives" (pairs), "Preserved Program Order" (what a FENCE orders), "Syntactic
--- Dependencies". Dependencies are those that the trace lists: the producer computes them from registers.
+-- Pairs, fences and dependencies between the events of a hart. Manual, section 14.1: "Memory Model
+-- Primitives" (pairs), "Preserved Program Order" (what a FENCE orders), "Syntactic Dependencies".
+-- Dependencies are those that the trace lists: the producer computes them from registers.
 use Rattle.std.specs.Prelude.{Bool, false, ◌||◌, ◌&&◌, ◌≡◌, List, IsTrue, IsFalse, All, Any, Contains}
 use Rattle.rv_event.specs.Operations.{is_load, is_store, is_memory, is_exclusive}
 use Rattle.rv_event.specs.Log.{Earlier, Between}
@@ -12,7 +12,8 @@ use Rattle.rv_event.specs.declared.event.Op.TheVariants.{Lr, Sc, Fence, FenceTso
 use Rattle.rv_event.specs.declared.event.Set.{Set}
 use Rattle.rv_event.specs.declared.event.Set.TheVariants.{R, W, Rw}
 
--- An LR and a later SC of one hart are paired where no LR, SC or failed SC stands between them. Words don't matter.
+-- An LR and a later SC of one hart are paired where no LR, SC or failed SC stands between them.
+-- Words don't matter.
 pub record Paired (log : List Event) (lr sc : Event) : Type 0 where
   pub is_lr : lr.op ≡ Lr
   pub is_sc : sc.op ≡ Sc
@@ -25,8 +26,8 @@ in_set R op = is_load op
 in_set W op = is_store op
 in_set Rw op = is_memory op
 
--- Whether a fence orders an operation before it before one after it. FENCE.TSO orders earlier loads before all later
--- operations, and earlier stores before later stores.
+-- Whether a fence orders an operation before it before one after it. FENCE.TSO orders earlier loads
+-- before all later operations, and earlier stores before later stores.
 abbrev pub fence_orders : Op → Op → Op → Bool
 fence_orders (Fence pred succ) a b = in_set pred a && in_set succ b
 fence_orders FenceTso a b = (is_load a && is_memory b) || (is_store a && is_store b)

@@ -13,13 +13,14 @@ use crate::fault::Fault;
 
 /// What a log tells an event that is to follow it, as far as the event's faults ask.
 ///
-/// Whoever keeps a log with indexes fills it by look-ups, and the plain program by scans.
+/// Whoever keeps a log with indexes fills it by look-ups, and the reference implementation by
+/// scans.
 #[derive(Drop, Debug)]
 pub struct Context {
     /// How many events of the event's hart the log has.
     pub count: u32,
-    /// Whether one of the event's dependencies is bad: on no earlier event, on one that returns no value, or of a kind that
-    /// the operation does not have.
+    /// Whether one of the event's dependencies is bad: on no earlier event, on one that returns no
+    /// value, or of a kind that the operation does not have.
     pub depends_badly: bool,
     /// The first store that wrote the version that the event writes.
     pub writer: Option<Id>,
@@ -58,7 +59,8 @@ fn returns_no_value(named: Option<&Event>) -> bool
     }
 }
 
-/// Whether the event's dependency is bad, where `named` is the event that it names, if there is one.
+/// Whether the event's dependency is bad, where `named` is the event that it names, if there is
+/// one.
 pub fn is_bad_dependency(event: &Event, dep: Dep, named: Option<&Event>) -> bool
     ensures { result ≡ is_bad_on event.now dep (option_copied named.entry) }
 {

@@ -79,7 +79,8 @@ fn is_reason(model: MemoryModel, log: &[Entry], reason: Reason, a: &Event, b: &E
     }
 }
 
-/// Whether the log has this edge: both ids name memory operations of the log, and the reason holds of them.
+/// Whether the log has this edge: both ids name memory operations of the log, and the reason holds
+/// of them.
 ///
 /// It costs a few passes over the log; for an atomic reason, one for each LR.
 pub fn is_edge(model: MemoryModel, log: &[Entry], from: Id, reason: Reason, to: Id) -> bool
@@ -94,8 +95,9 @@ pub fn is_edge(model: MemoryModel, log: &[Entry], from: Id, reason: Reason, to: 
     a.is_memory() && b.is_memory() && is_reason(model, log, reason, a, b)
 }
 
-/// The first reason for which the log has an edge between the two: the lowest rule, else coherence, reads-from, from-read,
-/// atomic-in or atomic-out. None exactly where there is no edge from the one to the other.
+/// The first reason for which the log has an edge between the two: the lowest rule, else coherence,
+/// reads-from, from-read, atomic-in or atomic-out. None exactly where there is no edge from the one
+/// to the other.
 ///
 /// It costs a few passes over the log for each rule and reason.
 pub fn find_reason(model: MemoryModel, log: &[Entry], from: Id, to: Id) -> Option<Reason>
@@ -124,8 +126,8 @@ pub fn find_reason(model: MemoryModel, log: &[Entry], from: Id, to: Id) -> Optio
     None
 }
 
-/// Whether the pair is stale: the store is earlier in the load's hart, and wrote a newer version of its word than the load
-/// returned.
+/// Whether the pair is stale: the store is earlier in the load's hart, and wrote a newer version of
+/// its word than the load returned.
 ///
 /// It costs two passes over the log.
 pub fn is_stale(log: &[Entry], load: Id, store: Id) -> bool

@@ -28,7 +28,8 @@ impl fmt::Display for Id {
     }
 }
 
-/// The memory operations that one side of a fence takes: loads, stores or both. An AMO is in each of them.
+/// The memory operations that one side of a fence takes: loads, stores or both. An AMO is in each
+/// of them.
 #[derive(Clone, Copy, PartialEq, Eq, Debug)]
 pub enum Set {
     /// Loads.
@@ -70,7 +71,8 @@ pub enum Op {
 impl Op {
     ghost use Rattle.rv_event.specs.Operations.{is_load, is_store, is_memory, is_exclusive};
 
-    /// Whether it loads a word: a load, an LR or an AMO (manual, section 14.1, "Memory Model Primitives").
+    /// Whether it loads a word: a load, an LR or an AMO (manual, section 14.1, "Memory Model
+    /// Primitives").
     pub fn is_load(self) -> bool
         ensures { result ≡ is_load self }
     {

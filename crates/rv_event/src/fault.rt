@@ -5,7 +5,8 @@ ghost use Rattle.rv_event.specs.Texts.{fault_text};
 use crate::event::Id;
 use std::fmt;
 
-/// What is wrong with an entry over the entries before it. Where several faults hold, the first in this list is meant.
+/// What is wrong with an entry over the entries before it. Where several faults hold, the first in
+/// this list is meant.
 ///
 /// The faults are this project's own: they tell a trace that names no execution.
 #[derive(Clone, Copy, PartialEq, Eq, Debug)]
@@ -14,8 +15,8 @@ pub enum Fault {
     Hart,
     /// The event's number is not the number of its hart's events so far, which is named.
     Sequence(u32),
-    /// A dependency on an event that is not earlier, on one that returns no value, or of a kind that the operation does
-    /// not have.
+    /// A dependency on an event that is not earlier, on one that returns no value, or of a kind
+    /// that the operation does not have.
     Dependency,
     /// A store of version 0, which is the word's initial value.
     VersionZero,

@@ -102,7 +102,8 @@ fn context_of(log: &[Entry], event: &Event) -> Context
     }
 }
 
-/// The first fault of the event over the events of the log, up to a full hart: all but `OtherSource` and `TooManyDeps`.
+/// The first fault of the event over the events of the log, up to a full hart: all but
+/// `OtherSource` and `TooManyDeps`.
 ///
 /// It costs a few passes over the log, and one for each dependency.
 pub fn find_first_fault(log: &[Entry], event: &Event) -> Option<Fault>
@@ -112,8 +113,8 @@ pub fn find_first_fault(log: &[Entry], event: &Event) -> Option<Fault>
     first_fault(event, &context_of(log, event))
 }
 
-/// The fault of the entry over the log: the first in the list of [`Fault`] that holds, with its data. None where the entry
-/// may follow the log.
+/// The fault of the entry over the log: the first in the list of [`Fault`] that holds, with its
+/// data. None where the entry may follow the log.
 ///
 /// It costs a few passes over the log, and one for each dependency.
 pub fn find_fault(log: &[Entry], entry: &Entry) -> Option<Fault>
@@ -129,7 +130,8 @@ pub fn find_fault(log: &[Entry], entry: &Entry) -> Option<Fault>
     find_deps_fault(&entry.event)
 }
 
-/// The fault of the event over the events of the log, as [`find_fault`] but for its source: all but `OtherSource`.
+/// The fault of the event over the events of the log, as [`find_fault`] but for its source: all but
+/// `OtherSource`.
 ///
 /// It costs a few passes over the log, and one for each dependency.
 pub fn find_event_fault(log: &[Entry], event: &Event) -> Option<Fault>

@@ -1,15 +1,19 @@
-//! The events of a recorded execution, the definitions of the memory model over them, and a plain program that decides
-//! each definition.
+//! The events of a recorded execution, the definitions of the memory model over them, and a plain
+//! program that decides each definition.
 //!
-//! - [`event`], [`reason`], [`fault`], [`memory_model`]: the types that every other crate speaks of.
-//! - `specs/`: the definitions, one file a topic, each with the section of the RISC-V manual that it restates. They are
-//!   relations over lists of events, and take the memory model as a parameter.
-//! - [`search`], [`relations`], [`rules`], [`preserved`], [`edges`], [`faults`]: the plain program. It takes no memory, and
-//!   each function is exact against its definition. [`context`] has the faults of an event by what a log tells of it, for
-//!   the plain program's scans and for whoever keeps an index.
+//! - [`event`], [`reason`], [`fault`], [`memory_model`]: the types that every other crate speaks
+//!   of.
+//! - `specs/`: the definitions, one file a topic, each with the section of the RISC-V manual that
+//!   it restates. They are relations over lists of events, and take the memory model as a
+//!   parameter.
+//! - [`search`], [`relations`], [`rules`], [`preserved`], [`edges`], [`faults`]: the reference
+//!   implementation. It takes no memory, and each function is exact against its definition.
+//!   [`context`] has the faults of an event by what a log tells of it, for the reference
+//!   implementation's scans and for whoever keeps an index.
 //! - [`laws`]: what the definitions say of one another.
 //!
-//! It stands on std alone. Its one contract to all others: what the plain program answers is what the definition says.
+//! It stands on std alone. Its one contract to all others: what the reference implementation
+//! answers is what the definition says.
 #![tactic(auto)]
 
 mod context;

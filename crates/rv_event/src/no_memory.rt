@@ -1,7 +1,7 @@
-//! Want of memory.
+//! Out of memory.
 use std::alloc::{AllocError, AllocFailed};
 
-/// A growth was refused for want of memory. What was to grow is unchanged.
+/// A growth was refused, as memory ran out. What was to grow is unchanged.
 #[derive(Clone, Copy, PartialEq, Eq, Debug)]
 pub struct NoMemory;
 

@@ -8,8 +8,8 @@ use crate::memory_model::MemoryModel;
 use crate::rules::is_rule;
 use crate::search::find_named;
 
-/// Whether the rule with this number, 1 to 13, orders the first event before the second. An id that names no event of the
-/// log is ordered by none.
+/// Whether the rule with this number, 1 to 13, orders the first event before the second. An id that
+/// names no event of the log is ordered by none.
 ///
 /// It costs a few passes over the log.
 pub fn is_preserved_by(model: MemoryModel, log: &[Entry], k: u8, a: Id, b: Id) -> bool
@@ -24,8 +24,8 @@ pub fn is_preserved_by(model: MemoryModel, log: &[Entry], k: u8, a: Id, b: Id) -
     is_rule(model, log, k, first, second)
 }
 
-/// The lowest rule of preserved program order, 1 to 13, that orders the first event before the second. None where no rule
-/// does.
+/// The lowest rule of preserved program order, 1 to 13, that orders the first event before the
+/// second. None where no rule does.
 ///
 /// It costs a few passes over the log for each rule.
 pub fn lowest_rule(model: MemoryModel, log: &[Entry], a: Id, b: Id) -> Option<u8>

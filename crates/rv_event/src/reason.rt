@@ -20,7 +20,8 @@ pub enum Reason {
     FromRead,
     /// The writer of what a paired LR returned before the SC.
     AtomicIn,
-    /// A paired SC before each other hart's store of the LR's word with a higher version than the LR returned.
+    /// A paired SC before each other hart's store of the LR's word with a higher version than the
+    /// LR returned.
     AtomicOut,
 }
 

@@ -16,7 +16,8 @@ fn is_annotated(op: Op) -> bool
     matches!(op, Op::Lr | Op::Sc | Op::Amo)
 }
 
-/// Whether the event has an acquire annotation under the model (manual, section 14.1, "Memory Model Primitives").
+/// Whether the event has an acquire annotation under the model (manual, section 14.1, "Memory Model
+/// Primitives").
 pub fn is_acquire(model: MemoryModel, event: &Event) -> bool
     ensures { IsTrue result ↔ IsAcquire model event.now }
 {
@@ -74,8 +75,8 @@ fn is_in(set: Set, op: Op) -> bool
     }
 }
 
-/// Whether a fence orders an operation before it before one after it (manual, section 14.1, "Preserved Program Order"):
-/// what is no fence orders none.
+/// Whether a fence orders an operation before it before one after it (manual, section 14.1,
+/// "Preserved Program Order"): what is no fence orders none.
 pub fn does_order(fence: Op, a: Op, b: Op) -> bool
     ensures { result ≡ fence_orders fence a b }
 {
@@ -86,14 +87,16 @@ pub fn does_order(fence: Op, a: Op, b: Op) -> bool
     }
 }
 
-/// Whether a fence between them orders a before b (manual, section 14.1, "Preserved Program Order").
+/// Whether a fence between them orders a before b (manual, section 14.1, "Preserved Program
+/// Order").
 pub fn is_fenced(log: &[Entry], a: &Event, b: &Event) -> bool
     ensures { IsTrue result ↔ Fenced (events log.now) a.now b.now }
 {
     log.iter().any(|x| is_between(a, &x.event, b) && does_order(x.event.op, a.op, b.op))
 }
 
-/// Whether the event lists a dependency of this kind on the earlier one (manual, section 14.1, "Syntactic Dependencies").
+/// Whether the event lists a dependency of this kind on the earlier one (manual, section 14.1,
+/// "Syntactic Dependencies").
 pub fn depends_on(kind: DepKind, event: &Event, on: &Event) -> bool
     ensures { IsTrue result ↔ DependsOn kind event.now on.now }
 {

@@ -1,4 +1,5 @@
-//! The conditions of the thirteen rules of preserved program order, by scans of the log (manual, section 14.1).
+//! The conditions of the thirteen rules of preserved program order, by scans of the log (manual,
+//! section 14.1).
 ghost use Rattle.std.specs.Prelude.{◌≡◌, ◌≢◌, ◌↔◌, IsTrue, All, Any, Contains};
 ghost use Rattle.rv_event.specs.Log.{events, Between};
 ghost use Rattle.rv_event.specs.Operations.{IsStore, Returns};
@@ -38,7 +39,8 @@ fn is_free_of_stores(log: &[Entry], a: &Event, b: &Event) -> bool
         && x.event.word == a.word))
 }
 
-/// Whether both are loads of a word that no store between them writes, and return different versions.
+/// Whether both are loads of a word that no store between them writes, and return different
+/// versions.
 fn are_different_reads(log: &[Entry], a: &Event, b: &Event) -> bool
     ensures { IsTrue result ↔ DifferentReads (events log.now) a.now b.now }
 {
@@ -49,8 +51,8 @@ fn are_different_reads(log: &[Entry], a: &Event, b: &Event) -> bool
         && is_free_of_stores(log, a, b)
 }
 
-/// Whether a is an AMO or an SC, and b a load that returns what it wrote: rule 3 (manual, section 14.1, "Preserved Program
-/// Order").
+/// Whether a is an AMO or an SC, and b a load that returns what it wrote: rule 3 (manual, section
+/// 14.1, "Preserved Program Order").
 pub fn reads_atomic_write(a: &Event, b: &Event) -> bool
     ensures { IsTrue result ↔ ReadsAtomicWrite a.now b.now }
 {

@@ -40,7 +40,8 @@ fn is_write_of(event: &Event, word: u32, version: u32) -> bool
     event.is_store() && word == event.word && version == event.wrote
 }
 
-/// The first store of the log that wrote this version of the word. Version 0, the initial value, has none.
+/// The first store of the log that wrote this version of the word. Version 0, the initial value,
+/// has none.
 ///
 /// It costs one pass over the log.
 pub fn find_writer(log: &[Entry], word: u32, version: u32) -> Option<&Event>

@@ -117,6 +117,7 @@ module _ (h : Hart) (e : Event) (f : Fits h e) where
       from (inr x) = Any-from_contains (λ f. Earlier a f × IsTrue (fence_orders f.op a.op op)) (followed h e) e
           (Contains-push h.events e) (follows_all h e f a ca, x)
 
+  -- no fence orders the new event yet
   pub fenced-never : (op : Op) → IsFencedFor op (followed h e) e → ⊥
   fenced-never op x =
       let y = Any-contains (λ f. Earlier e f × IsTrue (fence_orders f.op e.op op)) (followed h e) x in
@@ -153,6 +154,7 @@ by_kind_none true false = refl
 by_kind_none false true = refl
 by_kind_none false false = refl
 
+-- a fence orders by loads and by stores
 pub orders_by_kind : (f a op : Op) → fence_orders f a op ≡ ((is_load a && fence_orders f Load op) ||
     (is_store a && fence_orders f Store op))
 orders_by_kind (Fence R succ) a op = by_kind_R (is_load a) (is_store a) (in_set succ op)
@@ -170,6 +172,7 @@ orders_by_kind Branch a op = by_kind_none (is_load a) (is_store a)
 -- what the loads and the stores say of memory operations
 module _ (events : List Event) (loads stores : List ℕ) (loads_are : RowIs loads IsLoad events)
     (stores_are : RowIs stores IsStore events) where
+  -- loads and stores together are the memory operations
   pub memory-row : (s : ℕ) → IsTrue (has_bit loads s || has_bit stores s) ↔ HasEvent IsMemory events s
   memory-row s = (to, from)
     where

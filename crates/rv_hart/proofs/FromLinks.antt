@@ -30,6 +30,7 @@ use Rattle.rv_hart.proofs.Linking.{ordered_of}
 abbrev pub IsJoined : List (List ℕ) → List Link → List ℕ → List ℕ → Type 0
 IsJoined rows links old row = (s : ℕ) → Has row s ↔ (Has old s ⊎ IsLinked rows links s)
 
+-- before the first link nothing was joined
 pub joined-none : (rows : List (List ℕ)) (row : List ℕ) → IsJoined rows [] row row
 joined-none rows row s = (
   λ x. inl x,
@@ -204,7 +205,8 @@ module _ (h : Hart) (e : Event) (rows : List (List ℕ)) (links : List Link) (g 
         go (inl x) = let low = known.below c cc in let last = g.fits.seq in absurd (omega (arith, at))
         go (inr x) = subst (IsLinked rows links) at x
 
-    -- what a rule orders before the new event is in a linked row; the number is how many events are later at most
+    -- what a rule orders before the new event is in a linked row; the number is how many events are
+    -- later at most
     linked_by : (n k : ℕ) (c : Event) → length log ≤ n + c.id.seq → Rule h.model new k c e →
         IsLinked rows links c.id.seq
     linked_by zero k c later r =
@@ -231,6 +233,7 @@ module _ (h : Hart) (e : Event) (rows : List (List ℕ)) (links : List Link) (g 
         let old = leads-settled h e g.fits a l.c cc l.leads in
         linked_on a l.c old.1 cc l.last.1.from_memory old.0 (linked_by (length log) l.last.0 l.c (omega arith) l.last.1)
 
+    -- the joined row is the event's
     pub row-linked : (s : ℕ) → Has row s ↔ IsBefore (hart_with h e) s e.id.seq
     row-linked s = (row_sound row is s, from)
       where

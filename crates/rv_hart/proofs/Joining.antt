@@ -40,6 +40,7 @@ pub record AreAdded (h : Hart) (e : Event) (k : ℕ) (first row : List ℕ) : Ty
   pub kept : (s : ℕ) → Has first s → Has row s
   pub each : (j s : ℕ) → 1 < j → j ≤ k → IsOrderedBy h e j s → Has row s
 
+-- before rule 2 only rule 1 was added
 pub added-none : (h : Hart) (e : Event) (first : List ℕ) → AreAdded h e 1 first first
 added-none h e first = record {
   sound = λ s x. inl x;

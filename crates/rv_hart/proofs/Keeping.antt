@@ -105,6 +105,7 @@ split_last {X} (x ∷ (y ∷ ys)) low =
     let again : (front : List X) × (z : X) × (y ∷ ys ≡ front ++ z ∷ []) = split_last (y ∷ ys) (omega arith) in
     (x ∷ again.0, again.1, ap (λ (zs : List X). x ∷ zs) again.2)
 
+-- a list that is not empty has a length above 0
 pub some_length : {X : Type 0} (xs : List X) → xs ≢ [] → 0 < length xs
 some_length [] some = absurd (some refl)
 some_length (x ∷ xs) some = omega arith
@@ -127,6 +128,7 @@ small-events h known front sub k d low =
     let few = known.few in
     (omega arith, deps-few h known a ca)
 
+-- what the front contains the list contains
 pub in-front : (front : List Event) (e : Event) (xs : List Event) → xs ≡ front ++ e ∷ [] → (a : Event) →
     Contains front a → Contains xs a
 in-front front e xs is a c = subst (λ (es : List Event). Contains es a) (sym is)
@@ -139,6 +141,7 @@ hart-take h ok i e low is = ok (take i h.events) (drop (suc i) h.events) e (sym 
     ap (λ (r : List Event). take i h.events ++ r)
     (drop-cons h.events i e low ∙ ap (λ (x : Event). x ∷ drop (suc i) h.events) (sym is)))
 
+-- the first events of a hart are a hart
 pub hart-first : (h : Hart) → IsHart h → (i : ℕ) → IsHart (record h { events = take i h.events })
 hart-first h ok i before after x is =
     ok before (after ++ drop i h.events) x (sym (take-append-drop i h.events) ∙
@@ -149,6 +152,7 @@ pub hart-none : (model : MemoryModel) (number : ℕ) → IsHart (record { model 
 hart-none model number before after e is =
     absurd (omega (arith, ap (λ (es : List Event). length es) is, length-append before (e ∷ after)))
 
+-- no events have no rows
 pub rows-none : (model : MemoryModel) (number : ℕ) (rows : List (List ℕ)) → rows ≡ [] →
     RowsMean (record { model = model; number = number; events = [] }) rows
 rows-none model number rows nil j s = (

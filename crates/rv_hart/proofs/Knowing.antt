@@ -23,6 +23,7 @@ use Rattle.rv_hart.specs.Harts.{Hart, Follows, IsHart, followed, hart_with}
 abbrev pub DependsBelow : Event → Type 0
 DependsBelow e = (d : Dep) → Contains e.deps d → d.seq < e.id.seq
 
+-- what is known of a hart's events
 pub record Known (h : Hart) : Type 0 where
   pub indexed : Indexed h.events
   pub own : (a : Event) → Contains h.events a → a.id.hart ≡ h.number
@@ -72,6 +73,7 @@ own-length hart (x ∷ xs) own =
     let here : (hart == x.id.hart) ≡ true = eq-eqb hart x.id.hart (sym (own x (Contains-here x xs x refl))) in
     rw here (ap suc again)
 
+-- an event that follows fits
 pub fits_from : (h : Hart) (e : Event) → Known h → Follows h e → Fits h e
 fits_from h e known follows =
     let sound : Sound h.events e = sound_of h.events e follows.sound in
@@ -117,6 +119,7 @@ module _ (h : Hart) (e : Event) (f : Fits h e) where
   deps' a c = elim (Contains-push_cases h.events e a c)
       [ inl old ↦ f.known.deps a old | inr is ↦ subst DependsBelow is f.deps ]
 
+  -- the hart with the event is known
   pub known_with : Known (hart_with h e)
   known_with = record {
     indexed = indexed-push h.events e f.known.indexed f.sound;
@@ -146,12 +149,15 @@ known_from h before (e ∷ rest) ok is known =
     (known_with (record h { events = before }) e
     (fits_from (record h { events = before }) e known (ok before rest e is)))
 
+-- a hart is known
 pub known_of : (h : Hart) → IsHart h → Known h
 known_of h ok = known_from h [] h.events ok refl (known-nil h)
 
+-- so an event that follows a hart fits
 pub fits_of : (h : Hart) (e : Event) → IsHart h → Follows h e → Fits h e
 fits_of h e ok follows = fits_from h e (known_of h ok) follows
 
+-- the hart with the event is a hart
 pub hart-push : (h : Hart) (e : Event) → IsHart h → Follows h e → IsHart (hart_with h e)
 hart-push h e ok follows before after x is = go (split_push h.events e before after x is)
   where
@@ -161,12 +167,14 @@ hart-push h e ok follows before after x is = go (split_push h.events e before af
         (subst (λ (es : List Event). Follows (record h { events = es }) e) same follows)
     go (inr (rest, same)) = ok before rest x same
 
+-- and without its last event
 pub hart-front : (h : Hart) (front : List Event) (e : Event) → IsHart h → h.events ≡ front ++ e ∷ [] →
     IsHart (record h { events = front })
 hart-front h front e ok is before after x cut =
     ok before (after ++ e ∷ []) x (is ∙ ap (λ (es : List Event). es ++ e ∷ []) cut ∙
     append_assoc before (x ∷ after) (e ∷ []))
 
+-- which followed the others
 pub hart-last : (h : Hart) (front : List Event) (e : Event) → IsHart h → h.events ≡ front ++ e ∷ [] →
     Follows (record h { events = front }) e
 hart-last h front e ok is = ok front [] e is
@@ -202,6 +210,7 @@ earlier_old h e f m c earlier = elim (Contains-push_cases h.events e m c) [
       absurd (omega arith))
 ]
 
+-- an old event is one of the new list
 pub old_new : (h : Hart) (e a : Event) → Contains h.events a → Contains (followed h e) a
 old_new h e a c = Contains-append_left h.events (e ∷ []) a c
 
@@ -226,6 +235,7 @@ deps-few h known w cw k d low =
     let few = known.few in
     omega arith
 
+-- its dependencies have small numbers
 pub own-deps-few : (h : Hart) (e : Event) → Fits h e → All (λ d. d.seq < 4096) e.deps
 own-deps-few h e f k d low =
     let below : (get_or e.deps k d).seq < e.id.seq = f.deps (get_or e.deps k d) (Contains-get_or e.deps k d low) in

@@ -34,12 +34,15 @@ module _ (h : Hart) (e : Event) (f : Fits h e) (memory : IsMemory e) (s : ℕ) (
   abbrev a : Event
   a = candidate.1.a
 
+  -- a candidate is a memory operation
   pub candidate-operation : IsOperationOf h a
   candidate-operation = record { of_hart = candidate.1.of_hart; memory = candidate.1.rule.from_memory }
 
+  -- no rule is below 1
   pub none-first : (j : ℕ) → j < 1 → IsOrderedBy h e j s → ⊥
   none-first j low x = let above = Condition-above h.model (followed h e) x.a e j x.rule.condition in omega arith
 
+  -- the first rule that holds is the lowest
   pub lowest-here : (k : ℕ) → ConditionOf h e k a → ((j : ℕ) → j < k → IsOrderedBy h e j s → ⊥) → IsLowestRule h e s k
   lowest-here k holds none = record {
     ordered = (let x = ordered h e f memory k a candidate.1.of_hart (candidate.1.rule.from_memory, holds) in
@@ -47,6 +50,7 @@ module _ (h : Hart) (e : Event) (f : Fits h e) (memory : IsMemory e) (s : ℕ) (
     lowest = none;
   }
 
+  -- a rule that does not hold is passed
   pub none-here : (k : ℕ) → (ConditionOf h e k a → ⊥) → ((j : ℕ) → j < k → IsOrderedBy h e j s → ⊥) → (j : ℕ) →
       j < k + 1 → IsOrderedBy h e j s → ⊥
   none-here k fails none j low x = go (cases_lt j k)
@@ -59,6 +63,7 @@ module _ (h : Hart) (e : Event) (f : Fits h e) (memory : IsMemory e) (s : ℕ) (
           let met : o.a ≡ a = same_event h f.known o.a a o.of_hart candidate.1.of_hart (o.at ∙ sym candidate.1.at) in
           fails (subst (ConditionOf h e k) met o.rule.condition)
 
+  -- some rule holds of a candidate
   pub some-rule : (k : ℕ) → 14 ≤ k → ((j : ℕ) → j < k → IsOrderedBy h e j s → ⊥) → ⊥
   some-rule k high none =
       let low = Condition-number h.model (followed h e) a e candidate.0 candidate.1.rule.condition in
@@ -134,6 +139,7 @@ module _ (h : Hart) (e : Event) (f : Fits h e) where
   known' : Known (hart_with h e)
   known' = known_with h e f
 
+  -- a rule between the events orders their ids
   pub preserved_of : (k : ℕ) (i : Id) → i.hart ≡ h.number → IsOrderedBy h e k i.seq → IsPreserved h.model new k i e.id
   preserved_of k i hart o =
       let hart' : o.a.id.hart ≡ h.number = f.known.own o.a o.of_hart in
@@ -147,6 +153,7 @@ module _ (h : Hart) (e : Event) (f : Fits h e) where
         rule = o.rule;
       }
 
+  -- and the other way round
   pub ordered_of : (k : ℕ) (i : Id) → IsPreserved h.model new k i e.id → IsOrderedBy h e k i.seq
   ordered_of k i p =
       let first = named-is new i p.a p.first in
@@ -235,6 +242,7 @@ module _ (h : Hart) (e : Event) (rows : List (List ℕ)) (first : List ℕ) (g :
   own : (b : ℕ) → Has first b → (b < length rows) × RowHas rows b b
   own = candidates-own h e g.fits rows first g.mean g.count g.enough
 
+  -- there are at most 4,096 rows
   pub rows-few : length rows ≤ 4096
   rows-few = let few = g.fits.known.few in let count = g.count in omega arith
 
@@ -246,6 +254,7 @@ module _ (h : Hart) (e : Event) (rows : List (List ℕ)) (first : List ℕ) (g :
   next left left' taken top b swept is = swept-step rows first left left' taken top b
       (rows_closed h rows g.fits.known g.mean) (λ j x. (own j x).1) swept is.0 is.1
 
+  -- before the first candidate is taken
   pub listing-begun : (links : List Link) → links ≡ [] → IsListing h e rows first first (length rows) links
   listing-begun links nil = record {
     taken = [];
@@ -254,10 +263,12 @@ module _ (h : Hart) (e : Event) (rows : List (List ℕ)) (first : List ℕ) (g :
     listed = links-none h e links nil;
   }
 
+  -- what is taken is a candidate
   pub listing-candidate : (left left' : List ℕ) (top b : ℕ) (links : List Link) →
       IsListing h e rows first left top links → IsTaken rows left (Some b) left' → IsCandidate h e b
   listing-candidate left left' top b links so is = g.enough.sound b (so.swept.sub b is.0.1)
 
+  -- one link more
   pub listing-more : (left left' : List ℕ) (top b k : ℕ) (links links' : List Link) →
       IsListing h e rows first left top links → IsTaken rows left (Some b) left' → IsLowestRule h e b k →
       links' ≡ links ++ record { id = record { hart = h.number; seq = b }; reason = Preserved k } ∷ [] →
@@ -269,15 +280,18 @@ module _ (h : Hart) (e : Event) (rows : List (List ℕ)) (first : List ℕ) (g :
     listed = links-more h e so.taken b k links links' so.listed lowest more;
   }
 
+  -- all links
   pub listing-done : (left left' : List ℕ) (top : ℕ) (links : List Link) → IsListing h e rows first left top links →
       IsTaken rows left None left' → AreRuleLinks h e links
   listing-done left left' top links so is =
       links-are h e g.fits g.memory rows g.mean first so.taken g.enough
       (swept-done rows first left so.taken top so.swept is.0) links so.listed
 
+  -- before the first row is joined
   pub gathering-begun : (row : List ℕ) → IsGathering rows first first (length rows) row row
   gathering-begun row = record { taken = []; swept = begun; within = omega arith; gathers = gathers-none rows row }
 
+  -- one row more
   pub gathering-more : (left left' : List ℕ) (top b : ℕ) (base row row' : List ℕ) →
       IsGathering rows first left top base row → IsTaken rows left (Some b) left' →
       ((s : ℕ) → has_bit row' s ≡ (has_bit row s || has_bit (get_or rows b []) s)) →
@@ -289,6 +303,7 @@ module _ (h : Hart) (e : Event) (rows : List (List ℕ)) (first : List ℕ) (g :
     gathers = gathers-step rows base so.taken row row' b so.gathers more;
   }
 
+  -- all rows
   pub gathering-done : (left left' : List ℕ) (top : ℕ) (old one row : List ℕ) →
       IsGathering rows first left top one row → IsTaken rows left None left' →
       ((s : ℕ) → has_bit one s ≡ (has_bit old s || (e.id.seq == s))) → (s : ℕ) → Has row s ↔
@@ -299,6 +314,7 @@ module _ (h : Hart) (e : Event) (rows : List (List ℕ)) (first : List ℕ) (g :
 
 -- what is no memory operation has no links and an empty row
 module _ (h : Hart) (e : Event) (f : Fits h e) (none : IsMemory e → ⊥) where
+  -- an event that no rule asks for has no links
   pub links-nothing : (links : List Link) → links ≡ [] → AreRuleLinks h e links
   links-nothing links nil = record {
     rules = λ l c. absurd (empty l c);
@@ -310,6 +326,7 @@ module _ (h : Hart) (e : Event) (f : Fits h e) (none : IsMemory e → ⊥) where
       empty : (l : Link) → Contains links l → ⊥
       empty l c = let d = subst (λ (ls : List Link). Contains ls l) nil c in let low = d.1 in omega arith
 
+  -- and no row
   pub row-nothing : (row : List ℕ) → ((s : ℕ) → has_bit row s ≡ false) → (s : ℕ) → Has row s ↔
       IsBefore (hart_with h e) s e.id.seq
   row-nothing row lacks s = (

@@ -41,6 +41,7 @@ own_contains log h a c =
     let passes : (h == a.id.hart) ≡ true = All-contains (λ x. p x ≡ true) (filter p log) a (filter_passes p log) c in
     (in_log, sym (eqb-true h a.id.hart passes))
 
+-- an event of the hart is among its events
 pub contains_own : (log : List Event) (h : ℕ) (a : Event) → Indexed log → Contains log a → a.id.hart ≡ h →
     Contains (of_hart h log) a
 contains_own log h a known c same =
@@ -58,6 +59,7 @@ filter-again {X} p (x ∷ xs) = go (p x) refl (filter-again p xs)
     go true e again = rw (e, again)
     go false e again = again
 
+-- a hart's events are those of itself
 pub own_again : (log : List Event) (h : ℕ) → of_hart h (of_hart h log) ≡ of_hart h log
 own_again log h = filter-again (λ (x : Event). h == x.id.hart) log
 
@@ -101,6 +103,7 @@ module _ (model : MemoryModel) (log : List Event) (h : ℕ) (known : Indexed log
   Any-from : (P : Event → Type 0) → Any P own → Any P log
   Any-from P any = let x = Any-contains P own any in Any-from_contains P log x.0 (own_contains log h x.0 x.1).0 x.2
 
+  -- a pair of the log is one of the hart
   pub paired_to : (lr sc : Event) → Paired log lr sc → Paired own lr sc
   paired_to lr sc p = record {
     is_lr = p.is_lr;
@@ -109,6 +112,7 @@ module _ (model : MemoryModel) (log : List Event) (h : ℕ) (known : Indexed log
     none_between = All-to (λ m. Between lr m sc → IsFalse (is_exclusive m.op)) p.none_between;
   }
 
+  -- and the other way round
   pub paired_from : (lr sc : Event) → lr.id.hart ≡ h → Paired own lr sc → Paired log lr sc
   paired_from lr sc at p = record {
     is_lr = p.is_lr;
@@ -179,6 +183,7 @@ module _ (model : MemoryModel) (log : List Event) (h : ℕ) (known : Indexed log
         through = Any-from (λ m. Between a m b × DependsOn Addr m a) p.through;
       })
 
+  -- a rule of the log is one of the hart
   pub rule_to : (k : ℕ) (a b : Event) → a.id.hart ≡ h → Rule model log k a b → Rule model own k a b
   rule_to k a b at r = record {
     from = contains_own log h a known r.from at;
@@ -189,6 +194,7 @@ module _ (model : MemoryModel) (log : List Event) (h : ℕ) (known : Indexed log
     condition = condition_to a b at k r.condition;
   }
 
+  -- and the other way round
   pub rule_from : (k : ℕ) (a b : Event) → Rule model own k a b → Rule model log k a b
   rule_from k a b r = let c = own_contains log h a r.from in record {
     from = c.0;
@@ -199,15 +205,19 @@ module _ (model : MemoryModel) (log : List Event) (h : ℕ) (known : Indexed log
     condition = condition_from a b c.1 k r.condition;
   }
 
+  -- so is any rule
   pub any_rule_to : (a b : Event) → a.id.hart ≡ h → AnyRule model log a b → AnyRule model own a b
   any_rule_to a b at r = (r.0, rule_to r.0 a b at r.1)
 
+  -- and the other way round
   pub any_rule_from : (a b : Event) → AnyRule model own a b → AnyRule model log a b
   any_rule_from a b r = (r.0, rule_from r.0 a b r.1)
 
+  -- rules that lead in the hart lead in the log
   pub reaches_from : (a b : Event) → Reaches model own a b → Reaches model log a b
   reaches_from a b p = path-map Event (AnyRule model own) (AnyRule model log) any_rule_from a b p
 
+  -- preserved program order of the log is that of the hart
   pub preserved_to : (k : ℕ) (i j : Id) → i.hart ≡ h → IsPreserved model log k i j → IsPreserved model own k i j
   preserved_to k i j at p =
       let from : i.hart ≡ p.a.id.hart = ap (λ (x : Id). x.hart) (named-is log i p.a p.first).1 in
@@ -220,6 +230,7 @@ module _ (model : MemoryModel) (log : List Event) (h : ℕ) (known : Indexed log
         rule = rule_to k p.a p.b (sym from ∙ at) p.rule;
       }
 
+  -- and the other way round
   pub preserved_from : (k : ℕ) (i j : Id) → IsPreserved model own k i j → IsPreserved model log k i j
   preserved_from k i j p =
       let first = named-is own i p.a p.first in
@@ -234,10 +245,12 @@ module _ (model : MemoryModel) (log : List Event) (h : ℕ) (known : Indexed log
         rule = rule_from k p.a p.b p.rule;
       }
 
+  -- the lowest rule of the hart is that of the log
   pub lowest_from : (k : ℕ) (i j : Id) → i.hart ≡ h → IsLowest model own i (Preserved k) j →
       IsLowest model log i (Preserved k) j
   lowest_from k i j at low n less p = low n less (preserved_to n i j at p)
 
+  -- a stale pair of the log is one of the hart
   pub stale_to : (i j : Id) → i.hart ≡ h → IsStale log i j → IsStale own i j
   stale_to i j at s =
       let from : i.hart ≡ s.a.id.hart = ap (λ (x : Id). x.hart) (named-is log i s.a s.load_named).1 in
@@ -254,6 +267,7 @@ module _ (model : MemoryModel) (log : List Event) (h : ℕ) (known : Indexed log
         versions = s.versions;
       }
 
+  -- and the other way round
   pub stale_from : (i j : Id) → IsStale own i j → IsStale log i j
   stale_from i j s =
       let first = named-is own i s.a s.load_named in
@@ -305,6 +319,7 @@ bad-own : (log : List Event) (h : ℕ) (e : Event) (d : Dep) → e.id.hart ≡ h
     is_bad_dependency (of_hart h log) e d ≡ is_bad_dependency log e d
 bad-own log h e d at = rw (named-own log h (record { hart = e.id.hart; seq = d.seq }) at)
 
+-- equal tests find the same
 pub any-same : {X : Type 0} (p q : X → Bool) (xs : List X) → ((x : X) → p x ≡ q x) → list_any p xs ≡ list_any q xs
 any-same p q [] same = refl
 any-same p q (x ∷ xs) same = rw (same x, any-same p q xs same)

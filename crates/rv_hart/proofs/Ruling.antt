@@ -41,6 +41,7 @@ use Rattle.rv_hart.proofs.Depending.{AddsNamed}
 abbrev pub HasMore : (Event → Type 0) → List Event → List ℕ → List ℕ → Type 0
 HasMore P events old new = (s : ℕ) → Has new s ↔ (Has old s ⊎ HasEvent P events s)
 
+-- nothing is added
 pub more-none : (events : List Event) (row : List ℕ) → HasMore (λ _. ⊥) events row row
 more-none events row s = (λ x. inl x, λ x. elim x [ inl y ↦ y | inr n ↦ absurd n.holds ])
 
@@ -243,6 +244,7 @@ module _ (h : Hart) (e : Event) (f : Fits h e) (memory : IsMemory e) where
   abbrev IsUnder : ℕ → Event → Type 0
   IsUnder k a = IsMemory a × Condition h.model new a e k
 
+  -- an event of which the condition holds is ordered
   pub ordered : (k : ℕ) (a : Event) → Contains h.events a → IsUnder k a → IsOrderedBy h e k a.id.seq
   ordered k a ca c = record {
     a = a;
@@ -258,6 +260,7 @@ module _ (h : Hart) (e : Event) (f : Fits h e) (memory : IsMemory e) where
     };
   }
 
+  -- a row that has more by the condition has more by the rule
   pub adds : (k : ℕ) (P : Event → Type 0) (row row' : List ℕ) → HasMore P h.events row row' →
       ((a : Event) → Contains h.events a → P a ↔ IsUnder k a) → Adds h e k row row'
   adds k P row row' more says s = (to, from)
@@ -388,6 +391,7 @@ module _ (h : Hart) (e : Event) (f : Fits h e) (memory : IsMemory e) where
   pub address-is : (a : Event) → Contains h.events a → (IsMemory a × DependsOn Addr e a) ↔ IsUnder 9 a
   address-is a ca = (λ x. (x.0, address x.1), λ x. (x.0, address_out h.model new a e x.1))
 
+  -- rule 10
   pub data-is : (a : Event) → Contains h.events a → (IsMemory a × DependsOn DataOf e a) ↔ IsUnder 10 a
   data-is a ca = (λ x. (x.0, data_of x.1), λ x. (x.0, data_of_out h.model new a e x.1))
 
@@ -451,6 +455,7 @@ module _ (h : Hart) (e : Event) (f : Fits h e) (memory : IsMemory e) where
   atomic-store a (inl is) = ap is_store is
   atomic-store a (inr is) = ap is_store is
 
+  -- rule 3, where the event returns an own store
   pub atomic-is : (w : Event) → IsOwnStore h e w → (a : Event) → Contains h.events a →
       (((w.op ≡ Amo) ⊎ (w.op ≡ Sc)) × (w ≡ a)) ↔ IsUnder 3 a
   atomic-is w own a ca = (to, from)
@@ -467,6 +472,7 @@ module _ (h : Hart) (e : Event) (f : Fits h e) (memory : IsMemory e) where
           let same : w ≡ a = one_store w a own.of_hart ca own.store (atomic-store a r.atomic) own.returns r.returns in
           (subst (λ (y : Event). (y.op ≡ Amo) ⊎ (y.op ≡ Sc)) (sym same) r.atomic, same)
 
+  -- and where it does not
   pub atomic-none : ((w : Event) → IsOwnStore h e w → ⊥) → (a : Event) → Contains h.events a → ⊥ ↔ IsUnder 3 a
   atomic-none none a ca = (
     λ n. absurd n,
@@ -475,6 +481,7 @@ module _ (h : Hart) (e : Event) (f : Fits h e) (memory : IsMemory e) where
         none a (record { of_hart = ca; store = atomic-store a r.atomic; load = r.load; returns = r.returns })),
   )
 
+  -- rule 12, where the event returns an own store
   pub dependent-is : (w : Event) → IsOwnStore h e w → (a : Event) → Contains h.events a →
       ((IsMemory a × DependsOn Addr w a) ⊎ (IsMemory a × DependsOn DataOf w a)) ↔ IsUnder 12 a
   dependent-is w own a ca = (to, from)
@@ -509,6 +516,7 @@ module _ (h : Hart) (e : Event) (f : Fits h e) (memory : IsMemory e) where
             | inr d ↦ inr (x.0, subst (λ (z : Event). DependsOn DataOf z a) same d)
           ]
 
+  -- and where it does not
   pub dependent-none : ((w : Event) → IsOwnStore h e w → ⊥) → (a : Event) → Contains h.events a → ⊥ ↔ IsUnder 12 a
   dependent-none none a ca = (
     λ n. absurd n,
@@ -563,6 +571,7 @@ module _ (h : Hart) (e : Event) (f : Fits h e) where
         (record { hart = f.known.own b cb ∙ sym (f.known.own a ca); seq = high }))
   ]
 
+  -- rule 8, where an LR is reserved
   pub paired-is : (lr : Event) → Contains h.events lr → IsReserving h.events lr → (a : Event) → Contains h.events a →
       ((e.op ≡ Sc) × (lr ≡ a)) ↔ (IsMemory a × Condition h.model (followed h e) a e 8)
   paired-is lr cl r a ca = (to, from)
@@ -575,6 +584,7 @@ module _ (h : Hart) (e : Event) (f : Fits h e) where
       from x = let p = paired_out h.model (followed h e) a e x.1 in
           (p.is_sc, one_reserving lr a cl ca r (paired-reserving a p))
 
+  -- and where none is
   pub paired-none : ((a : Event) → Contains h.events a → IsReserving h.events a → ⊥) → (a : Event) →
       Contains h.events a → ⊥ ↔ (IsMemory a × Condition h.model (followed h e) a e 8)
   paired-none none a ca = (

@@ -20,6 +20,7 @@ module _ (h : Hart) (e : Event) (f : Fits h e) where
   load_is : (s : Id) (p : IsStale (followed h e) e.id s) → p.a ≡ e
   load_is s p = same_Some p.a e (sym p.load_named ∙ known'.indexed.own e (Contains-push h.events e))
 
+  -- only a load is stale
   pub stale-load : (s : Id) → IsStale (followed h e) e.id s → IsLoad e
   stale-load s p = subst IsLoad (load_is s p) p.is_load
 

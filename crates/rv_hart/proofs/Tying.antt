@@ -39,6 +39,7 @@ module _ (model : MemoryModel) (log : List Event) where
       joined (inl is) = inr (subst (λ (x : Event). Reaches model log a x) is (one s))
       joined (inr q) = inr (more s q)
 
+  -- rules that lead end in a rule
   pub last_step : (a b : Event) → Reaches model log a b → LastStep model log a b
   last_step a b (one s) = record { c = a; leads = inl refl; last = s }
   last_step a b (more {j = m} s p) = step_on a m b s (last_step m b p)
@@ -47,6 +48,7 @@ module _ (model : MemoryModel) (log : List Event) where
   reaches-from a b (one s) = s.1.from
   reaches-from a b (more {j = m} s p) = s.1.from
 
+  -- what leads to what leads leads
   pub leads-append : (a b c : Event) → Leads a b → Leads b c → Leads a c
   leads-append a b c (inl p) q = subst (λ (x : Event). Leads x c) (sym p) q
   leads-append a b c (inr p) (inl q) = inr (subst (λ (x : Event). Reaches model log a x) q p)
@@ -140,6 +142,7 @@ module _ (h : Hart) (e : Event) (f : Fits h e) where
         absurd (omega arith))
   ]
 
+  -- a rule between old events was one before
   pub rule-settled : (k : ℕ) (a b : Event) → Contains log b → Rule h.model new k a b → Rule h.model log k a b
   rule-settled k a b cb r =
       HasReason-settled h.model log new (grows-push log e) f.known.indexed known'.indexed a b
@@ -155,14 +158,17 @@ module _ (h : Hart) (e : Event) (f : Fits h e) where
   pub rule-old : (k : ℕ) (a : Event) → Rule h.model new k a e → Contains log a
   rule-old k a r = earlier_old h e f a r.from r.earlier
 
+  -- what leads still leads
   pub leads-grows : (a b : Event) → Leads h.model log a b → Leads h.model new a b
   leads-grows a b (inl p) = inl p
   leads-grows a b (inr p) = inr (reaches-grows a b p)
 
+  -- what leads to an old event led before
   pub leads-settled : (a b : Event) → Contains log b → Leads h.model new a b → Leads h.model log a b × Contains log a
   leads-settled a b cb (inl p) = (inl p, subst (Contains log) (sym p) cb)
   leads-settled a b cb (inr p) = let q = reaches-settled a b cb p in (inr q, reaches-from h.model log a b q)
 
+  -- what stood before still does
   pub before-grows : (s j : ℕ) → IsBefore h s j → IsBefore (hart_with h e) s j
   before-grows s j m = record {
     a = m.a;
@@ -254,6 +260,7 @@ module _ (h : Hart) (e : Event) (f : Fits h e) where
 
   module _ (rows : List (List ℕ)) (candidates listed : List ℕ) (memory : IsMemory e) (mean : RowsMean h rows)
       (enough : IsEnough h e candidates) (thinned : IsThinned rows candidates listed) where
+    -- each listed event is a candidate
     pub only : (s : ℕ) → Contains listed s → IsCandidate h e s
     only s l = enough.sound s (thinned.only s l)
 
@@ -280,6 +287,7 @@ module _ (h : Hart) (e : Event) (f : Fits h e) where
               (same_event h f.known cand.1.a b cand.1.of_hart cb cand.1.at) cand.1.rule,
         )
 
+    -- each candidate is listed or split
     pub carried : (k : ℕ) (a : Event) → Contains log a → Rule h.model new k a e → Contains listed a.id.seq ⊎
         IsSplit h.model log new (Preserved k) a e
     carried k a ca r =
@@ -289,6 +297,7 @@ module _ (h : Hart) (e : Event) (f : Fits h e) where
           | inr p ↦ inr (record { c = g.0; of_log = g.1; splits = (p, into g.0 g.1 g.3) })
         ]
 
+    -- none that is listed is split
     pub unsplit : (a c : Event) → Contains log c → Contains listed a.id.seq → AnyRule h.model new a c →
         AnyRule h.model new c e → ⊥
     unsplit a c cc l r q =

@@ -48,6 +48,7 @@ pub record IsOverlapWalk (h : Hart) (e : Event) (next : Option ℕ) (row : List 
   pub seen : (m : Event) → Contains h.events m → IsOfWord e.word m → IsAbove next m.id.seq → Has row m.id.seq
 
 module _ (h : Hart) (e : Event) (f : Fits h e) (memory : IsMemory e) where
+  -- before the first operation of the word is met
   pub overlap-begin : (row : List ℕ) (o : Option ℕ) → ((s : ℕ) → has_bit row s ≡ false) →
       IsLastBelow h.events e.word (length h.events) o → IsOverlapWalk h e o row
   overlap-begin row o none last = record {
@@ -77,7 +78,14 @@ module _ (h : Hart) (e : Event) (f : Fits h e) (memory : IsMemory e) where
     here p row row' more = more p ∙ or_right (has_bit row p) (p == p) (eq-eqb p p refl)
 
     overlapped : (p : ℕ) → HasEvent (IsOfWord e.word) h.events p → IsOrderedBy h e 1 p
-    overlapped p x = let o = ordered h e f memory 1 x.a x.of_list (x.holds.0, overlapping_store (record { store = store; word = x.holds.1 })) in record { a = o.a; of_hart = o.of_hart; at = o.at ∙ x.at; rule = o.rule }
+    overlapped p x = let o = ordered h e f memory 1 x.a x.of_list (
+      x.holds.0,
+      overlapping_store (record {
+        store
+            = store;
+        word = x.holds.1;
+      }),
+    ) in record { a = o.a; of_hart = o.of_hart; at = o.at ∙ x.at; rule = o.rule }
 
     sound-more : (p : ℕ) (row row' : List ℕ) → IsOverlapWalk h e (Some p) row →
         ((s : ℕ) → has_bit row' s ≡ (has_bit row s || (p == s))) → (s : ℕ) → Has row' s → IsOrderedBy h e 1 s
@@ -188,9 +196,11 @@ pub record IsReadsWalk (h : Hart) (e : Event) (next : Option ℕ) (row : List �
 pub record IsMet (h : Hart) (e : Event) (a : Event) (row row' : List ℕ) : Type 0 where
   pub kept : (s : ℕ) → Has row s → Has row' s
   pub here : IsLoad a → a.read ≢ e.read → Has row' a.id.seq
+  -- each listed event is a candidate
   pub only : (s : ℕ) → Has row' s → Has row s ⊎ ((a.id.seq ≡ s) × IsLoad a × (a.read ≢ e.read))
 
 module _ (h : Hart) (e : Event) (f : Fits h e) (memory : IsMemory e) where
+  -- likewise for loads
   pub reads-begin : (row : List ℕ) (o : Option ℕ) → ((s : ℕ) → has_bit row s ≡ false) →
       IsLastBelow h.events e.word (length h.events) o → IsReadsWalk h e o row
   reads-begin row o none last = record {
@@ -200,6 +210,7 @@ module _ (h : Hart) (e : Event) (f : Fits h e) (memory : IsMemory e) where
     seen = λ m c w above load other. absurd (last.none_later m c w above (f.known.below m c));
   }
 
+  -- an event that is no load has no row of rule 2
   pub reads-none : (row : List ℕ) → ((s : ℕ) → has_bit row s ≡ false) → (IsLoad e → ⊥) → RuleRowIs h e 2 row
   reads-none row none other s = (
     λ x. absurd (false≢true (sym (none s) ∙ x)),
@@ -314,6 +325,7 @@ module _ (h : Hart) (e : Event) (f : Fits h e) (memory : IsMemory e) where
         subst (Has row) o.at (walk.seen o.a o.of_hart (o.rule.from_memory, d.word) tt d.first d.versions)),
   )
 
+-- an operation that was met
 pub met-if : (h : Hart) (e a : Event) (test : Bool) (p : ℕ) (row row' : List ℕ) → a.id.seq ≡ p → IsTrue test ↔
     (IsLoad a × (a.read ≢ e.read)) → ((s : ℕ) → has_bit row' s ≡ (has_bit row s || (test && (p == s)))) →
     IsMet h e a row row'

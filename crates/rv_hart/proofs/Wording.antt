@@ -22,6 +22,7 @@ numbered-below events numbered a (k, low, is) =
     let same : (get_or events k a).id.seq ≡ a.id.seq = ap (λ (x : Event). x.id.seq) is in
     omega arith
 
+-- an event stands at its number
 pub numbered-at : (events : List Event) → AreNumbered events → (a d : Event) → Contains events a →
     get_or events a.id.seq d ≡ a
 numbered-at events numbered a d (k, low, is) =
@@ -29,6 +30,7 @@ numbered-at events numbered a d (k, low, is) =
     let same : a.id.seq ≡ k = ap (λ (x : Event). x.id.seq) (sym is) ∙ at in
     ap (λ (n : ℕ). get_or events n d) same ∙ get_or_default events k d a low ∙ is
 
+-- events with one number are one
 pub numbered-same : (events : List Event) → AreNumbered events → (a b : Event) → Contains events a → Contains events b →
     a.id.seq ≡ b.id.seq → a ≡ b
 numbered-same events numbered a b ca cb same =
@@ -94,6 +96,7 @@ module _ (events : List Event) (e : Event) (numbered : AreNumbered events) (next
 store-of-word : (word : ℕ) (m : Event) → IsStore m → m.word ≡ word → IsOfWord word m
 store-of-word word m s w = (or_right (is_load m.op) (is_store m.op) s, w)
 
+-- a word without operations has no store
 pub highest-none : (events : List Event) (word : ℕ) → AreNumbered events →
     IsLastBelow events word (length events) None → IsHighestStore events word (length events) None
 highest-none events word numbered last m c s w low = last.none_later m c (store-of-word word m s w) tt low
@@ -270,6 +273,7 @@ module _ (events : List Event) (e : Event) (numbered : AreNumbered events) (next
     },
   )
 
+  -- a link stays when an event is added
   pub link-grows : (a : Event) (l : WordLink) → a.id.seq ≤ e.id.seq → IsWordLink events a l → IsWordLink more a l
   link-grows a l le link = record {
     previous = last-grows a.word a.id.seq l.previous le link.previous;
@@ -333,6 +337,7 @@ module _ (events : List Event) (e : Event) (numbered : AreNumbered events) (next
         | inr is ↦ absurd (other (subst (IsOfWord word) (sym is) names.1.holds))
       ]
 
+  -- the words with one event more
   pub words-push : (words words' : Words) (link : WordLink) → AreWords events words →
       words'.links.items ≡ words.links.items ++ link ∷ [] → (IsMemory e → IsWordLink events e link) →
       ((word : ℕ) → IsLastBelow more word (length more) (get nat_eq words'.lasts word)) → AreWords more words'
@@ -360,6 +365,7 @@ module _ (events : List Event) (e : Event) (numbered : AreNumbered events) (next
         omega (arith, grown, length_push words.links.items link, are.count);
   }
 
+  -- and with one less
   pub words-pop : (words words' : Words) (link : WordLink) → AreWords more words →
       words.links.items ≡ words'.links.items ++ link ∷ [] →
       ((word : ℕ) → IsLastBelow events word (length events) (get nat_eq words'.lasts word)) → AreWords events words'
@@ -435,6 +441,7 @@ module _ (events : List Event) (e : Event) (numbered : AreNumbered events) (next
         (last-other-settled word (old word) (λ w. apart w.1) (lasts word))
   ]
 
+  -- an event that is no memory operation leaves the last ones
   pub lasts-kept : (old new : ℕ → Option ℕ) → (IsMemory e → ⊥) →
       ((word : ℕ) → IsLastBelow more word (length more) (old word)) → ((word : ℕ) → new word ≡ old word) → (word : ℕ) →
       IsLastBelow events word (length events) (new word)
@@ -459,6 +466,7 @@ numbered-front front e numbered s d low =
     ap (λ (x : Event). x.id.seq) (sym (get_or_append_left front (e ∷ []) d s low)) ∙
     numbered s d (omega (arith, length_push front e))
 
+-- the last event has the highest number
 pub numbered-last : (front : List Event) (e : Event) → AreNumbered (front ++ e ∷ []) → e.id.seq ≡ length front
 numbered-last front e numbered =
     ap (λ (x : Event). x.id.seq) (sym (get_or_at front e [] e (length front) refl)) ∙

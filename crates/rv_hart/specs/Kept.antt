@@ -34,8 +34,8 @@ abbrev pub IsPartner : Hart → Event → Option Event → Type 0
 IsPartner h e (Some lr) = Contains h.events lr × Paired (followed h e) lr e
 IsPartner h e None = (lr : Event) → Contains h.events lr → Paired (followed h e) lr e → ⊥
 
--- an own earlier store of the event's word, of a higher version than the event, a load, returned, exactly where there
--- is one
+-- an own earlier store of the event's word, of a higher version than the event, a load, returned,
+-- exactly where there is one
 abbrev pub IsStaleBy : Hart → Event → Option Id → Type 0
 IsStaleBy h e (Some s) = IsStale (followed h e) e.id s
 IsStaleBy h e None = (s : Id) → IsStale (followed h e) e.id s → ⊥

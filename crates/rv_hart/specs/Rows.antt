@@ -19,7 +19,8 @@ pub record IsBefore (h : Hart) (s j : ℕ) : Type 0 where
   pub memory : IsMemory b
   pub leads : (a ≡ b) ⊎ Reaches h.model h.events a b
 
--- row j has event j and the events from which rules lead to it; that of an event which is no memory operation is empty
+-- row j has event j and the events from which rules lead to it; that of an event which is no memory
+-- operation is empty
 abbrev pub RowsMean : Hart → List (List ℕ) → Type 0
 RowsMean h rows = (j s : ℕ) → RowHas rows j s ↔ IsBefore h s j
 
@@ -41,8 +42,8 @@ pub record IsGenerated (h : Hart) (candidates : List ℕ) (a : Event) : Type 0 w
   pub leads : (a ≡ c) ⊎ Reaches h.model h.events a c
   pub has : Has candidates c.id.seq
 
--- rules order the candidates before the new event, and each event that a rule orders before it is a candidate or leads
--- to one
+-- rules order the candidates before the new event, and each event that a rule orders before it is a
+-- candidate or leads to one
 pub record IsEnough (h : Hart) (e : Event) (candidates : List ℕ) : Type 0 where
   pub sound : (s : ℕ) → Has candidates s → IsCandidate h e s
   pub enough : (k : ℕ) (a : Event) → Rule h.model (followed h e) k a e → IsGenerated h candidates a

@@ -15,8 +15,9 @@ pub record IsRuleLink (h : Hart) (e : Event) (l : Link) : Type 0 where
   pub reason : l.reason ≡ Preserved rule
   pub preserved : IsPreserved h.model (followed h e) rule l.id e.id
 
--- Each link is a rule under its lowest number. Each event that a rule orders before the new one is linked, or another
--- splits the rule; none is linked where another event stands between by two rules.
+-- Each link is a rule under its lowest number. Each event that a rule orders before the new one is
+-- linked, or another splits the rule; none is linked where another event stands between by two
+-- rules.
 pub record AreRuleLinks (h : Hart) (e : Event) (links : List Link) : Type 0 where
   pub rules : (l : Link) → Contains links l → IsRuleLink h e l
   pub lowest : (l : Link) → Contains links l → IsLowest h.model (followed h e) l.id l.reason e.id
@@ -25,8 +26,8 @@ pub record AreRuleLinks (h : Hart) (e : Event) (links : List Link) : Type 0 wher
       Names links a.id ⊎ IsSplit h.model h.events (followed h e) (Preserved k) a e
   pub unsplit : IsUnsplit h.model h.events e links
 
--- Each link that names a rule is such a rule. Each event that a rule orders before the new one is linked, for whatever
--- reason, or another splits the rule.
+-- Each link that names a rule is such a rule. Each event that a rule orders before the new one is
+-- linked, for whatever reason, or another splits the rule.
 pub record AreEnoughLinks (h : Hart) (e : Event) (links : List Link) : Type 0 where
   pub rules :
       (l : Link) (k : ℕ) → Contains links l → l.reason ≡ Preserved k → IsPreserved h.model (followed h e) k l.id e.id

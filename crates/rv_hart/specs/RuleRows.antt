@@ -16,7 +16,8 @@ pub record IsOverlapRow (h : Hart) (e : Event) (row : List ℕ) : Type 0 where
   pub sound : (s : ℕ) → Has row s → IsOrderedBy h e 1 s
   pub enough : (a : Event) → Rule h.model (followed h e) 1 a e → IsGenerated h row a
 
--- the new row has what the old one has and the events that the rule orders before the new one, and no others
+-- the new row has what the old one has and the events that the rule orders before the new one, and
+-- no others
 abbrev pub Adds : Hart → Event → ℕ → List ℕ → List ℕ → Type 0
 Adds h e k old new = (s : ℕ) → Has new s ↔ (Has old s ⊎ IsOrderedBy h e k s)
 

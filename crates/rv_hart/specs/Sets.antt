@@ -25,7 +25,8 @@ pub record HasEvent (P : Event → Type 0) (events : List Event) (s : ℕ) : Typ
 abbrev pub RowIs : List ℕ → (Event → Type 0) → List Event → Type 0
 RowIs row P events = (s : ℕ) → Has row s ↔ HasEvent P events s
 
--- a dependency of this kind names a memory operation by this number, where these are the loads and the stores
+-- a dependency of this kind names a memory operation by this number, where these are the loads and
+-- the stores
 abbrev pub NamesMemory : DepKind → List Dep → List ℕ → List ℕ → ℕ → Type 0
 NamesMemory kind deps loads stores s =
     Contains deps (record { kind = kind; seq = s }) × IsTrue (has_bit loads s || has_bit stores s)

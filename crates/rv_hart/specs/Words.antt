@@ -42,7 +42,8 @@ abbrev pub IsUpTo : List Event → ℕ → ℕ → ℕ → Type 0
 IsUpTo events word limit version =
     (m : Event) → Contains events m → IsStore m → m.word ≡ word → m.id.seq < limit → m.wrote ≤ version
 
--- the word's store of the highest version, among those with a number below the limit, exactly where there is one
+-- the word's store of the highest version, among those with a number below the limit, exactly where
+-- there is one
 abbrev pub IsHighestStore : List Event → ℕ → ℕ → Option ℕ → Type 0
 IsHighestStore events word limit (Some p) =
     (p < limit) × HasEvent (λ w. IsStore w × (w.word ≡ word) × IsUpTo events word limit w.wrote) events p

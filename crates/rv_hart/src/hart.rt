@@ -12,11 +12,12 @@ use rv_event::{Event, Id, Link, MemoryModel, NoMemory};
 use std::alloc::Global;
 use std::marker::Model;
 
-/// The events of one hart, with what the rules of preserved program order ask of them at the next event (manual,
-/// section 14.1, "Preserved Program Order").
+/// The events of one hart, with what the rules of preserved program order ask of them at the next
+/// event (manual, section 14.1, "Preserved Program Order").
 ///
-/// Contracts see the memory model, the hart's number and its events. Beside itself an event takes some 60 bytes, and 8 for
-/// each 64 events from the first that leads to it by rules to itself: at most n / 8 for event n.
+/// Contracts see the memory model, the hart's number and its events. Beside itself an event takes
+/// some 60 bytes, and 8 for each 64 events from the first that leads to it by rules to itself: at
+/// most n / 8 for event n.
 #[derive(Drop)]
 pub struct HartOrder {
     kept: Kept,
@@ -51,15 +52,17 @@ impl HartOrder {
         self.kept.events.as_slice()
     }
 
-    /// The links of an event that may follow, from earlier ones, each with the lowest rule of preserved program
-    /// order that orders the two. An earlier event that a rule orders before it has a link, or stands before
-    /// another that has one.
+    /// The links of an event that may follow, from earlier ones, each with the lowest rule of
+    /// preserved program order that orders the two. An earlier event that a rule orders before it
+    /// has a link, or stands before another that has one.
     ///
-    /// `returned` is the number of the hart's own store that the event, a load, returns, where there is one.
+    /// `returned` is the number of the hart's own store that the event, a load, returns, where
+    /// there is one.
     ///
-    /// It costs a step for each 64 events from the first to the last of the candidates, for each link, and a step for
-    /// each operation of its word back to the hart's last store of it; loads of one version in a row cost one step
-    /// together. A hart's fences, annotated events and branches cost a pass over their sets each.
+    /// It costs a step for each 64 events from the first to the last of the candidates, for each
+    /// link, and a step for each operation of its word back to the hart's last store of it; loads
+    /// of one version in a row cost one step together. A hart's fences, annotated events and
+    /// branches cost a pass over their sets each.
     ///
     /// # Errors
     /// `NoMemory` where the list could not be had.
@@ -71,11 +74,13 @@ impl HartOrder {
         self.kept.before(event, returned)
     }
 
-    /// Adds the event. `links` are links into it, those of other harts and of other reasons among them; each earlier
-    /// event that a rule orders before it has one, or stands before another that has one.
+    /// Adds the event. `links` are links into it, those of other harts and of other reasons among
+    /// them; each earlier event that a rule orders before it has one, or stands before another that
+    /// has one.
     ///
-    /// It costs a step for each 64 events from the first to the last that leads to it by rules, for each link that names
-    /// a rule, and what `before` costs more where a link of the hart names no rule, and no other link leads to its event.
+    /// It costs a step for each 64 events from the first to the last that leads to it by rules, for
+    /// each link that names a rule, and what `before` costs more where a link of the hart names no
+    /// rule, and no other link leads to its event.
     ///
     /// # Errors
     /// `NoMemory` where it could not be kept; the hart stays as it is.
@@ -94,7 +99,8 @@ impl HartOrder {
         self.kept.push(event, returned, links)
     }
 
-    /// Takes the last event off. It takes no memory, and costs a few steps for each event that is left.
+    /// Takes the last event off. It takes no memory, and costs a few steps for each event that is
+    /// left.
     pub fn pop(&mut self)
         requires { self.old.events ≢ [] }
         ensures model { self.new.model ≡ self.old.model }
@@ -105,15 +111,16 @@ impl HartOrder {
         self.kept.pop();
     }
 
-    /// Whether the hart's last LR, SC or failed SC is an LR, so that an SC may follow. It costs one step.
+    /// Whether the hart's last LR, SC or failed SC is an LR, so that an SC may follow. It costs one
+    /// step.
     pub fn is_reserved(&self) -> bool
         ensures { result ≡ is_reserved self.now.events self.now.number }
     {
         self.kept.is_reserved()
     }
 
-    /// The LR with which an event that may follow is paired, and None where there is none (manual, section 14.1,
-    /// "Memory Model Primitives"). It costs one step.
+    /// The LR with which an event that may follow is paired, and None where there is none (manual,
+    /// section 14.1, "Memory Model Primitives"). It costs one step.
     pub fn partner(&self, event: &Event) -> Option<&Event>
         requires { Follows self.now event.now }
         ensures { IsPartner self.now event.now (option_copied result) }
@@ -121,9 +128,9 @@ impl HartOrder {
         self.kept.partner(event)
     }
 
-    /// An own earlier store of the event's word, of a higher version than the event, a load, returned, and None
-    /// where there is none: the event may follow, but no lawful order has such a pair (manual, section 14.1, "Load
-    /// Value Axiom"). It costs one look-up.
+    /// An own earlier store of the event's word, of a higher version than the event, a load,
+    /// returned, and None where there is none: the event may follow, but no lawful order has such a
+    /// pair (manual, section 14.1, "Load Value Axiom"). It costs one look-up.
     pub fn stale(&self, event: &Event) -> Option<Id>
         requires { Follows self.now event.now }
         ensures { IsStaleBy self.now event.now result }

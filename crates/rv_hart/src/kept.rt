@@ -24,7 +24,8 @@ pub struct Kept {
     pub number: u8,
     /// The events, in program order.
     pub events: Vec<Event>,
-    /// For each event that is a memory operation itself and the events from which rules lead to it, else nothing.
+    /// For each event that is a memory operation itself and the events from which rules lead to it,
+    /// else nothing.
     pub rows: Rows,
     /// What a later event asks of the events so far.
     pub sets: Sets,
@@ -81,7 +82,8 @@ impl Kept {
         Ok(())
     }
 
-    /// Takes the last event off. It takes no memory. The sets are made again from the events that are left.
+    /// Takes the last event off. It takes no memory. The sets are made again from the events that
+    /// are left.
     pub fn pop(&mut self)
         requires kept { IsKept self.old }
         requires some { self.old.events.items ≢ [] }
@@ -118,7 +120,8 @@ impl Kept {
         Some(&self.events[lr as usize])
     }
 
-    /// An own earlier store of the event's word, of a higher version than the event, a load, returned.
+    /// An own earlier store of the event's word, of a higher version than the event, a load,
+    /// returned.
     pub fn stale(&self, event: &Event) -> Option<Id>
         requires kept { IsKept self.now }
         requires follows { Follows (hart_of self.now) event.now }

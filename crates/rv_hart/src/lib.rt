@@ -1,27 +1,29 @@
 //! The events of one hart, and the links that its next event asks for by preserved program order.
 //!
-//! Preserved program order is what the manual's thirteen rules order of a hart's operations (section 14.1,
-//! "Preserved Program Order"). A [`HartOrder`] keeps a hart's events, and lists for the next one the earlier events
-//! that a rule orders before it, each with the lowest such rule, and leaves out those from which rules lead on to
-//! another listed one. It looks at no pair of events: sets of the hart's events, one bit an event, are joined and
-//! subtracted 64 at a time.
+//! Preserved program order is what the manual's thirteen rules order of a hart's operations
+//! (section 14.1, "Preserved Program Order"). A [`HartOrder`] keeps a hart's events, and lists for
+//! the next one the earlier events that a rule orders before it, each with the lowest such rule,
+//! and leaves out those from which rules lead on to another listed one. It looks at no pair of
+//! events: sets of the hart's events, one bit an event, are joined and subtracted 64 at a time.
 //!
 //! - [`hart`]: the type. Inside it [`kept`]: events, rows, sets and words together.
-//! - [`sets`]: rows of the events by what a rule asks of them (loads, acquires, what a fence orders); they grow
-//!   with the events. [`words`]: each word's operations, linked from the last one back.
-//! - [`rules`], [`walks`]: one row of candidates, to which each rule adds the events that it orders before the next
-//!   one. [`links`]: the candidates thinned, and the next event's links. [`lowest`]: the lowest rule of each event that
-//!   is left, by a test for each rule. [`linked`]: the next event's row, from the links into it. [`rows`]: small steps
-//!   on rows.
-//! - `specs/`: a hart and what may follow (`Harts`), its links (`RuleLinks`), what rows mean (`Rows`, `RuleRows`,
-//!   `Linked`), what the sets and the words mean (`Sets`, `Words`), and what is kept (`Kept`).
-//! - `proofs/OfHart`, `proofs/Reserving`: rules, pairs, stale pairs, faults and reservations are the same among a
-//!   hart's events as in the whole log.
+//! - [`sets`]: rows of the events by what a rule asks of them (loads, acquires, what a fence
+//!   orders); they grow with the events. [`words`]: each word's operations, linked from the last
+//!   one back.
+//! - [`rules`], [`walks`]: one row of candidates, to which each rule adds the events that it orders
+//!   before the next one. [`links`]: the candidates thinned, and the next event's links.
+//!   [`lowest`]: the lowest rule of each event that is left, by a test for each rule. [`linked`]:
+//!   the next event's row, from the links into it. [`rows`]: small steps on rows.
+//! - `specs/`: a hart and what may follow (`Harts`), its links (`RuleLinks`), what rows mean
+//!   (`Rows`, `RuleRows`, `Linked`), what the sets and the words mean (`Sets`, `Words`), and what
+//!   is kept (`Kept`).
+//! - `proofs/OfHart`, `proofs/Reserving`: rules, pairs, stale pairs, faults and reservations are
+//!   the same among a hart's events as in the whole log.
 //!
-//! It stands on `rv_event`, on the rows of `rv_rows` and on the definitions of `rv_cover`. Its one contract to the
-//! others: each link is a rule under its lowest number, and each event that a rule orders before the new one is
-//! linked, or another event splits the rule. An event is then added by its links, to which those of other reasons and
-//! of other harts may have been put.
+//! It stands on `rv_event`, on the rows of `rv_rows` and on the definitions of `rv_cover`. Its one
+//! contract to the others: each link is a rule under its lowest number, and each event that a rule
+//! orders before the new one is linked, or another event splits the rule. An event is then added by
+//! its links, to which those of other reasons and of other harts may have been put.
 #![tactic(auto)]
 
 mod hart;

@@ -1,4 +1,5 @@
-//! The row of a hart's next event, from the links into it: the rows of the events that a rule links, joined.
+//! The row of a hart's next event, from the links into it: the rows of the events that a rule
+//! links, joined.
 ghost use Rattle.std.specs.Prelude.{ℕ, ◌≡◌, ◌↔◌, ◌⊎◌, ◌<◌, All, IsTrue, false};
 ghost use Rattle.rv_rows.specs.Bits.{Has, has_bit};
 ghost use Rattle.rv_hart.specs.Harts.{Follows, IsReturned, hart_with};
@@ -12,9 +13,9 @@ use rv_event::{Event, Link, Reason};
 use rv_rows::{Row, Rows};
 
 impl Kept {
-    /// Puts the row of the hart's next event into an empty one: the event and the events from which rules lead to it,
-    /// where it is a memory operation. Where a link of the hart names no rule, and no other link leads to its event,
-    /// the candidates are swept.
+    /// Puts the row of the hart's next event into an empty one: the event and the events from which
+    /// rules lead to it, where it is a memory operation. Where a link of the hart names no rule,
+    /// and no other link leads to its event, the candidates are swept.
     pub fn fill_row(&self, event: &Event, returned: Option<u32>, links: &[Link], row: &mut Row)
         requires kept { IsKept self.now }
         requires follows { Follows (hart_of self.now) event.now }

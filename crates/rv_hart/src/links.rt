@@ -1,5 +1,5 @@
-//! The links of a hart's next event, each with its lowest rule, and its row where links do not say it: candidates and
-//! the sweep.
+//! The links of a hart's next event, each with its lowest rule, and its row where links do not say
+//! it: candidates and the sweep.
 ghost use Rattle.std.specs.Prelude.{ℕ, ◌↔◌, ◌⊎◌, IfOk};
 ghost use Rattle.rv_rows.specs.Bits.{Has};
 ghost use Rattle.rv_hart.specs.Harts.{Follows, IsReturned, hart_with};
@@ -45,7 +45,8 @@ impl Kept {
         Ok(links)
     }
 
-    /// Puts in the row of the hart's next event, a memory operation: it and the events from which rules lead to it.
+    /// Puts in the row of the hart's next event, a memory operation: it and the events from which
+    /// rules lead to it.
     pub fn add_swept(&self, event: &Event, returned: Option<u32>, row: &mut Row)
         requires asked { IsAsked self.now event.now }
         requires returned { IsReturned (hart_of self.now) event.now returned }

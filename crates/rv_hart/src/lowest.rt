@@ -1,5 +1,6 @@
-//! The lowest rule of preserved program order that orders one of a hart's operations before the next one, by a test of
-//! a few steps for each rule (manual, section 14.1, "Preserved Program Order").
+//! The lowest rule of preserved program order that orders one of a hart's operations before the
+//! next one, by a test of a few steps for each rule (manual, section 14.1, "Preserved Program
+//! Order").
 ghost use Rattle.std.specs.Prelude.{◌↔◌, ◌⊎◌, IsTrue};
 ghost use Rattle.rv_event.specs.Annotations.{IsRcsc};
 ghost use Rattle.rv_event.specs.Relations.{DependsOn};
@@ -41,7 +42,8 @@ impl Kept {
         unreachable!()
     }
 
-    /// Whether the condition of the rule with this number holds between the operation that was met and the event.
+    /// Whether the condition of the rule with this number holds between the operation that was met
+    /// and the event.
     fn is_condition(
         &self,
         rule: u8,

@@ -1,5 +1,5 @@
-//! What each rule of preserved program order orders before a hart's next memory operation (manual, section 14.1,
-//! "Preserved Program Order"): all of it goes into one row of candidates.
+//! What each rule of preserved program order orders before a hart's next memory operation (manual,
+//! section 14.1, "Preserved Program Order"): all of it goes into one row of candidates.
 ghost use Rattle.std.specs.Prelude.{ℕ, ◌≡◌, ◌↔◌, ◌⊎◌, IsTrue, false};
 ghost use Rattle.rv_event.specs.declared.event.Op.TheVariants.{Amo, Sc};
 ghost use Rattle.rv_rows.specs.Bits.{has_bit};
@@ -15,8 +15,8 @@ use rv_event::{DepKind, Event, Op, is_rcsc, is_release};
 use rv_rows::Row;
 
 impl Kept {
-    /// Puts the candidates into an empty row: what some rule orders before the event, of rule 1 only what the rest
-    /// leads to. `reads` is the row of rule 2.
+    /// Puts the candidates into an empty row: what some rule orders before the event, of rule 1
+    /// only what the rest leads to. `reads` is the row of rule 2.
     pub fn fill_candidates(&self, event: &Event, returned: Option<u32>, reads: &Row, row: &mut Row)
         requires asked { IsAsked self.now event.now }
         requires returned { IsReturned (hart_of self.now) event.now returned }
@@ -61,7 +61,8 @@ impl Kept {
         }
     }
 
-    /// Rule 4: what a fence orders before a load, where the event is one, and before a store, where it is one.
+    /// Rule 4: what a fence orders before a load, where the event is one, and before a store, where
+    /// it is one.
     fn add_fenced(&self, event: &Event, row: &mut Row)
         requires { IsAsked self.now event.now }
         ensures { Adds (hart_of self.now) event.now 4 row.old row.new }

@@ -10,7 +10,8 @@ use crate::rows::{insert_if, join_if};
 use rv_event::{DepKind, Event, MemoryModel, Op, does_order, is_acquire, is_rcsc};
 use rv_rows::Row;
 
-/// Which events of a hart so far a rule may order before the next one, by what the rule asks of them.
+/// Which events of a hart so far a rule may order before the next one, by what the rule asks of
+/// them.
 #[derive(Drop)]
 pub struct Sets {
     /// The loads.
@@ -96,7 +97,8 @@ impl Sets {
     }
 }
 
-/// Puts in the memory operations, by the loads and the stores, on which the event lists a dependency of this kind.
+/// Puts in the memory operations, by the loads and the stores, on which the event lists a
+/// dependency of this kind.
 pub fn add_dependencies(row: &mut Row, event: &Event, kind: DepKind, loads: &Row, stores: &Row)
     requires { All (λ d. d.seq < 4096) event.now.deps }
     ensures { (s : ℕ) → Has row.new s ↔ (Has row.old s ⊎ NamesMemory kind event.now.deps loads.now stores.now s) }

@@ -1,4 +1,5 @@
-//! Walks back over the memory operations of a word: rules 1 and 2 of preserved program order (manual, section 14.1).
+//! Walks back over the memory operations of a word: rules 1 and 2 of preserved program order
+//! (manual, section 14.1).
 ghost use Rattle.std.specs.Prelude.{ℕ, ◌≡◌, ◌≢◌, ◌↔◌, IsTrue, false};
 ghost use Rattle.rv_event.specs.Operations.{IsLoad};
 ghost use Rattle.rv_rows.specs.Bits.{has_bit};
@@ -11,8 +12,8 @@ use rv_event::Event;
 use rv_rows::Row;
 
 impl Kept {
-    /// Rule 1: puts into an empty row, where the event is a store, the operations of its word back to the last store,
-    /// which all earlier ones lead to.
+    /// Rule 1: puts into an empty row, where the event is a store, the operations of its word back
+    /// to the last store, which all earlier ones lead to.
     pub fn fill_overlapping(&self, event: &Event, row: &mut Row)
         requires asked { IsAsked self.now event.now }
         requires empty { (s : ℕ) → has_bit row.old s ≡ false }
@@ -34,8 +35,8 @@ impl Kept {
         }
     }
 
-    /// Rule 2: puts into an empty row, where the event is a load, the loads of its word back to the last store that
-    /// returned another version.
+    /// Rule 2: puts into an empty row, where the event is a load, the loads of its word back to the
+    /// last store that returned another version.
     pub fn fill_different_reads(&self, event: &Event, row: &mut Row)
         requires asked { IsAsked self.now event.now }
         requires empty { (s : ℕ) → has_bit row.old s ≡ false }

@@ -25,7 +25,8 @@ pub struct WordLink {
 pub struct Words {
     /// The number of each word's last memory operation.
     pub lasts: HashMap<u32, u32>,
-    /// A link for each event of the hart. Those of events that are no memory operations are never read.
+    /// A link for each event of the hart. Those of events that are no memory operations are never
+    /// read.
     pub links: Vec<WordLink>,
 }
 
@@ -108,7 +109,8 @@ impl Words {
         }
     }
 
-    /// Where a walk goes on from the hart's next event, where the word's last memory operation has this number.
+    /// Where a walk goes on from the hart's next event, where the word's last memory operation has
+    /// this number.
     fn before_run(&self, events: &[Event], event: &Event, number: u32) -> Option<u32>
         requires numbered { AreNumbered events.now }
         requires next { event.now.id.seq ≡ length events.now }
@@ -140,7 +142,8 @@ impl Words {
         }
     }
 
-    /// Makes the operation with this number the word's last, where there is one, and else forgets the word.
+    /// Makes the operation with this number the word's last, where there is one, and else forgets
+    /// the word.
     fn step_back(&mut self, word: u32, last: Option<u32>)
         requires { IsSome (get nat_eq self.old.lasts word) }
         ensures links { self.new.links ≡ self.old.links }

@@ -13,7 +13,8 @@ use rv_hart::HartOrder;
 use std::alloc::Global;
 use std::process::Abort;
 
-/// An event of hart 0, and the links that it has: the events that they come from, by number, each with its rule.
+/// An event of hart 0, and the links that it has: the events that they come from, by number, each
+/// with its rule.
 #[derive(Clone, Copy)]
 struct Step {
     op: Op,

@@ -1,9 +1,10 @@
 //! The lower crates one by one: small cases whose answer is known from outside the code.
 //!
-//! It has tests alone, and they call public functions alone. A crate with tests is proved twice, so they stand here in
-//! place of the crates that they test.
+//! It has tests alone, and they call public functions alone. A crate with tests is proved twice, so
+//! they stand here in place of the crates that they test.
 //!
-//! - `event`: printed texts and copies of `rv_event`, chunk texts and refusals to pack of `rv_chunk`.
+//! - `event`: printed texts and copies of `rv_event`, chunk texts and refusals to pack of
+//!   `rv_chunk`.
 //! - `rank`: placements by the order keeper of `rv_rank`, some of them beside brute force.
 //! - `hart`: the links by rules of a hart's next event, of `rv_hart`.
 //! - `versions`: the links by versions of a log's next event, of `rv_versions`.

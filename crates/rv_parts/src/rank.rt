@@ -6,8 +6,8 @@ use std::process::Abort;
 /// For each node in turn its predecessors and its successors.
 type Graph = [(&'static [u32], &'static [u32]); 4];
 
-/// Graphs of four nodes whose orders differ: no edge, two paths, a fork, a join, two pairs, and one that is
-/// placed from its end.
+/// Graphs of four nodes whose orders differ: no edge, two paths, a fork, a join, two pairs, and one
+/// that is placed from its end.
 const GRAPHS: [Graph; 7] = [
     [(&[], &[]), (&[], &[]), (&[], &[]), (&[], &[])],
     [(&[], &[]), (&[0], &[]), (&[1], &[]), (&[2], &[])],
@@ -40,7 +40,8 @@ fn check_order(rt: &impl Abort, ranks: &Ranks, want: &[u32]) {
 struct Worked {
     preds: &'static [u32],
     succs: &'static [u32],
-    /// The new node, how many nodes move, and how many are visited; nothing of it where the node is refused.
+    /// The new node, how many nodes move, and how many are visited; nothing of it where the node is
+    /// refused.
     placed: [u32; 3],
     /// The path that refuses the node; none where it is placed.
     circle: &'static [u32],
@@ -150,7 +151,8 @@ fn edges_of(rt: &impl Abort, alloc: Global, graph: &Graph) -> Vec<(u32, u32)> {
     edges
 }
 
-/// The starts and what edges lead to from them, by going over all edges as often as there are nodes.
+/// The starts and what edges lead to from them, by going over all edges as often as there are
+/// nodes.
 fn reached(rt: &impl Abort, alloc: Global, edges: &[(u32, u32)], starts: &[u32]) -> Vec<u32> {
     let mut seen = Vec::from_slice(alloc, starts).expect(rt, "memory");
     for _ in 0..4 {
@@ -180,8 +182,8 @@ fn reaching(
     nodes
 }
 
-/// The order after a placement: at the places of both sets, and at one more, the nodes of the backward set, the
-/// new node, and those of the forward set.
+/// The order after a placement: at the places of both sets, and at one more, the nodes of the
+/// backward set, the new node, and those of the forward set.
 fn mended(
     rt: &impl Abort,
     alloc: Global,
@@ -272,7 +274,8 @@ fn behind_of(rt: &impl Abort, alloc: Global, fifth: &Fifth) -> Vec<u32> {
     reaching(rt, alloc, fifth.edges, fifth.preds, &high)
 }
 
-/// Compares the order with the mended one, and counts the places at which it differs from the order before.
+/// Compares the order with the mended one, and counts the places at which it differs from the order
+/// before.
 fn count_mended(
     rt: &impl Abort,
     alloc: Global,

@@ -96,7 +96,8 @@ fn around(rt: &impl Abort, alloc: Global, versions: &Versions, event: &Event) ->
         .expect(rt, "memory")
 }
 
-/// Whether the event would have an edge to itself. It is let go here, so that no test holds several.
+/// Whether the event would have an edge to itself. It is let go here, so that no test holds
+/// several.
 fn has_own_edge(rt: &impl Abort, alloc: Global, versions: &Versions, event: Event) -> bool {
     assert_sound(rt, versions, &event);
     let reserved = reservation(alloc, versions.entries(), &event).expect(rt, "memory");
@@ -323,7 +324,8 @@ fn what_is_popped_is_found_no_more(rt: HostRuntime) {
     assert!(rt; versions.writer(7, 3).is_none());
 }
 
-/// Stores and loads of a word whose higher versions come first, with loads of one version by two harts.
+/// Stores and loads of a word whose higher versions come first, with loads of one version by two
+/// harts.
 fn late_events(alloc: Global) -> [Event; 5] {
     [
         event(alloc, Op::Store, id(0, 0), 7, (0, 4)),

@@ -16,8 +16,9 @@ struct Side {
 
 /// What the readers of one run, of 1 to 8 sources with numbers from 0, are told.
 ///
-/// Any thread may call it at any time. Nothing is promised of what it answers, since nothing rests on it but time:
-/// each rest ends by itself, and whoever is told that the run is over asks for itself whether that is so.
+/// Any thread may call it at any time. Nothing is promised of what it answers, since nothing rests
+/// on it but time: each rest ends by itself, and whoever is told that the run is over asks for
+/// itself whether that is so.
 #[derive(Drop)]
 pub struct Bell {
     over: AtomicBool,
@@ -49,7 +50,8 @@ impl Bell {
         self.over.load(Ordering::SeqCst)
     }
 
-    /// Whether the source's next row has not come yet. A source that has no pipe is never waited for.
+    /// Whether the source's next row has not come yet. A source that has no pipe is never waited
+    /// for.
     pub fn is_dry(&self, source: u8) -> bool {
         match self.sides.get(source as usize) {
             Some(side) => side.dry.load(Ordering::SeqCst),

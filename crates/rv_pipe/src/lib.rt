@@ -1,15 +1,16 @@
 //! Bytes that a thread of their own reads, so that nobody else waits inside a read.
 //!
-//! A [`pump`] reads a source that may be silent for as long as it likes, and hands what comes over through a
-//! [`Pipe`]. A [`Piped`] is the reader at the other end. It waits for bytes too, and ends where the [`Bell`] of the
-//! run that it serves says that the run is over. The pump's thread is never joined: it may stand in a read that
-//! nothing ends.
+//! A [`pump`] reads a source that may be silent for as long as it likes, and hands what comes over
+//! through a [`Pipe`]. A [`Piped`] is the reader at the other end. It waits for bytes too, and ends
+//! where the [`Bell`] of the run that it serves says that the run is over. The pump's thread is
+//! never joined: it may stand in a read that nothing ends.
 //!
-//! - [`bell`]: what the readers of a run are told. `lines`: bytes that were handed over and not taken yet.
+//! - [`bell`]: what the readers of a run are told. `lines`: bytes that were handed over and not
+//!   taken yet.
 //! - [`pipe`]: the two ends. [`piped`]: the reader.
 //!
-//! It stands on std alone. Its one contract: what is taken of the bytes that were handed over are the first of them,
-//! and the others stay.
+//! It stands on std alone. Its one contract: what is taken of the bytes that were handed over are
+//! the first of them, and the others stay.
 #![tactic(auto)]
 
 mod bell;

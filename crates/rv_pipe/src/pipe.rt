@@ -57,7 +57,8 @@ pub struct Pipe {
 }
 
 impl Pipe {
-    /// A pipe for the source of this number, 0 to 7, of which nothing is read yet. The bell is that of the run.
+    /// A pipe for the source of this number, 0 to 7, of which nothing is read yet. The bell is that
+    /// of the run.
     pub fn new(source: u8, bell: Arc<Bell, Global>) -> Pipe
         ensures source { result.source ≡ source }
         ensures bell { result.bell ≡ bell }
@@ -104,7 +105,8 @@ impl Pipe {
         true
     }
 
-    /// Hands over the bytes once those before are taken, and says whether it did: not where the run is over.
+    /// Hands over the bytes once those before are taken, and says whether it did: not where the run
+    /// is over.
     fn put<RT: Wait>(&self, rt: &RT, block: &[u8]) -> bool
         requires { length block.now ≤ SIZE }
     {
@@ -159,8 +161,8 @@ impl Pipe {
 
 /// Reads the source to its end and hands over what comes, until the run is over.
 ///
-/// It asks the source for no more once the run is over. A call that stands in a read of a silent source returns when
-/// that read does, so it is for a thread that nobody waits for.
+/// It asks the source for no more once the run is over. A call that stands in a read of a silent
+/// source returns when that read does, so it is for a thread that nobody waits for.
 pub fn pump<RT: Wait, R: Read>(rt: &RT, source: &mut R, pipe: &Pipe) {
     let mut block = [0; SIZE];
     for _ in rt.forever() {

@@ -12,8 +12,8 @@ use std::sync::{Arc, Wait};
 /// It does not tell its bytes, as a file does not.
 ///
 /// # Errors
-/// A read fails, with the kind `Other`, where one of the source's has, where the source could not be opened, and
-/// where nothing is there while the run is over. The next read tries again.
+/// A read fails, with the kind `Other`, where one of the source's has, where the source could not
+/// be opened, and where nothing is there while the run is over. The next read tries again.
 #[derive(Drop)]
 pub struct Piped<RT: Wait> {
     rt: RT,

@@ -1,4 +1,5 @@
--- How many of the first elements of a list pass a test, and where those that pass stand in the filtered list.
+-- How many of the first elements of a list pass a test, and where those that pass stand in the
+-- filtered list.
 use Rattle.std.proofs.Common.{◌≡◌, ℕ, zero, suc, ◌+◌, ◌-◌, ◌<◌, ◌≤◌, ◌⊎◌, Bool, true, false, cond, List}
 use Rattle.std.proofs.Common.{[], ◌∷◌, length, get_or, inl, inr, sym, ◌∙◌, arith, ap, refl, subst}
 use Rattle.std.specs.List.{filter}
@@ -10,10 +11,12 @@ count_to t xs zero = 0
 count_to t [] (suc k) = 0
 count_to t (x ∷ xs) (suc k) = cond (t x) (suc (count_to t xs k)) (count_to t xs k)
 
+-- a test passes or fails
 pub cases_test : (b : Bool) → (b ≡ true) ⊎ (b ≡ false)
 cases_test true = inl refl
 cases_test false = inr refl
 
+-- a count goes up where the test passes
 pub count_yes : (t : ℕ → Bool) (xs : List ℕ) (k : ℕ) → k < length xs → t (get_or xs k 0) ≡ true →
     count_to t xs (suc k) ≡ suc (count_to t xs k)
 count_yes t [] k l e = absurd (omega arith)
@@ -23,6 +26,7 @@ count_yes t (x ∷ xs) (suc k) l e =
     elim (t x) as (λ b. cond b (suc (count_to t xs (suc k))) (count_to t xs (suc k)) ≡ suc
     (cond b (suc (count_to t xs k)) (count_to t xs k))) [ true ↦ ap suc h | false ↦ h ]
 
+-- and stays where it fails
 pub count_no : (t : ℕ → Bool) (xs : List ℕ) (k : ℕ) → k < length xs → t (get_or xs k 0) ≡ false →
     count_to t xs (suc k) ≡ count_to t xs k
 count_no t [] k l e = absurd (omega arith)
@@ -46,9 +50,11 @@ count_along t xs k zero = let e : k + zero ≡ k = omega arith in rw e (omega ar
 count_along t xs k (suc d) = let e : k + suc d ≡ suc (k + d) =
     omega arith in rw e (omega (arith, count_along t xs k d, count_step t xs (k + d)))
 
+-- a count does not fall
 pub count_mono : (t : ℕ → Bool) (xs : List ℕ) (j k : ℕ) → j ≤ k → count_to t xs j ≤ count_to t xs k
 count_mono t xs j k l = let e : j + (k - j) ≡ k = omega arith in let h = count_along t xs j (k - j) in rw e at h
 
+-- and rises past what passes
 pub count_strict : (t : ℕ → Bool) (xs : List ℕ) (j k : ℕ) → j < length xs → t (get_or xs j 0) ≡ true → j < k →
     count_to t xs j < count_to t xs k
 count_strict t xs j k b e l = omega (arith, count_yes t xs j b e, count_mono t xs (suc j) k l)
@@ -67,6 +73,7 @@ filter_at t (x ∷ xs) (suc k) l e =
     (get_or (cond b (x ∷ filter t xs) (filter t xs)) (cond b (suc (count_to t xs k)) (count_to t xs k))
     0 ≡ get_or xs k 0)) [ true ↦ (omega (arith, h.0), h.1) | false ↦ h ]
 
+-- the whole count is the length of what passes
 pub count_all : (t : ℕ → Bool) (xs : List ℕ) → count_to t xs (length xs) ≡ length (filter t xs)
 count_all t [] = refl
 count_all t (x ∷ xs) =

@@ -14,6 +14,7 @@ use Rattle.rv_rank.proofs.Marks.{cases_free, marked_within, ahead_else, ahead_ma
 use Rattle.rv_rank.proofs.Searching.{reached_marked, marked_reached}
 use Rattle.rv_rank.proofs.Tracing.{behind_marked, reaching_behind}
 
+-- a trail from a successor to a predecessor is a circle
 pub circle_from_trail : (edges : List (List ℕ)) (succs preds : List ℕ) (end : ℕ) (path : List ℕ) →
     IsTrail edges succs end path → Contains preds end → IsCircle edges preds succs path
 circle_from_trail edges succs preds end path h w = record {
@@ -51,6 +52,7 @@ module _ (edges : List (List ℕ)) (order : Ordering) (preds succs : List ℕ) (
         | inr m ↦ ap is_ahead (sym (t.kept a m))
       ]
 
+      -- what the two searches have found
       pub found_both : (count : ℕ) (first list : List ℕ) →
           All (λ p. mark_of low order.ranks ahead p ≡ Free) preds →
           All (λ s. low ≤ get_or order.ranks s 0) succs → (low < length order.ranks → (s : ℕ) × Contains succs s ×

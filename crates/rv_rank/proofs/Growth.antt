@@ -15,6 +15,7 @@ edge_from edges a b e = elim (cases_lt a (length edges)) [
   | inr p ↦ let q = get_or_past edges a [] p in let f = rw q at e in absurd (omega (arith, f.1))
 ]
 
+-- rows that were appended are the edges of a new node
 pub grown : (old mid : List (List ℕ)) (preds succs : List ℕ) → All (λ p. p < length old) preds →
     IsAppended old mid preds (length old) → IsGrown old (mid ++ succs ∷ []) preds succs
 grown old mid preds succs placed h =

@@ -21,6 +21,7 @@ filter_none t (x ∷ xs) h =
     let rest = filter_none t xs (λ k l. h (suc k) (omega arith)) in
     ap (λ b. cond b (x ∷ filter t xs) (filter t xs)) (h 0 (omega arith)) ∙ rest
 
+-- what passes is no longer than the list
 pub listed_all_few : (t : ℕ → Bool) (xs : List ℕ) → length (filter t xs) ≤ length xs
 listed_all_few t xs = omega (arith, length-filter t xs, count_by-le-length t xs)
 
@@ -48,6 +49,7 @@ listed_none t xs r h = filter_none t (take r xs) (λ k l.
     let q = get_or-take r xs k 0 (omega arith) in
     rw q (h k (omega arith) (omega arith)))
 
+-- one more that passes, upward
 pub listed_more : (t u : ℕ → Bool) (xs : List ℕ) (r : ℕ) → r < length xs →
     ((k : ℕ) → k < r → k < length xs → t (get_or xs k 0) ≡ u (get_or xs k 0)) → u (get_or xs r 0) ≡ true →
     filter t (take r xs) ++ get_or xs r 0 ∷ [] ≡ filter u (take (r + 1) xs)
@@ -56,6 +58,7 @@ listed_more t u xs r l h e =
     ap (λ s. s ++ x ∷ []) (filter_take_same t u xs r h) ∙
     ap (λ b. filter u (take r xs) ++ cond b (x ∷ []) []) (sym e) ∙ sym (filter_more u xs r 0 l)
 
+-- one that fails, upward
 pub listed_skip : (t : ℕ → Bool) (xs : List ℕ) (r : ℕ) → r < length xs → t (get_or xs r 0) ≡ false →
     filter t (take r xs) ≡ filter t (take (r + 1) xs)
 listed_skip t xs r l e =
@@ -63,9 +66,11 @@ listed_skip t xs r l e =
     sym (append-nil (filter t (take r xs))) ∙ ap (λ b. filter t (take r xs) ++ cond b (x ∷ []) []) (sym e) ∙
     sym (filter_more t xs r 0 l)
 
+-- no more pass than were looked at
 pub listed_few : (t : ℕ → Bool) (xs : List ℕ) (r : ℕ) → length (filter t (take r xs)) ≤ r
 listed_few t xs r = omega (arith, listed_all_few t (take r xs), length-take r xs)
 
+-- one more that passes, downward
 pub listed_down_more : (t u : ℕ → Bool) (xs : List ℕ) (r : ℕ) → r < length xs →
     ((k : ℕ) → r + 1 ≤ k → k < length xs → t (get_or xs k 0) ≡ u (get_or xs k 0)) → u (get_or xs r 0) ≡ true →
     reverse (filter t (drop (r + 1) xs)) ++ get_or xs r 0 ∷ [] ≡ reverse (filter u (drop r xs))
@@ -79,6 +84,7 @@ listed_down_more t u xs r l h e =
     ap (λ s. reverse s ++ x ∷ []) same ∙ sym (reverse-append (x ∷ []) (filter u (drop (r + 1) xs))) ∙
     ap reverse (sym open_up)
 
+-- one that fails, downward
 pub listed_down_skip : (t : ℕ → Bool) (xs : List ℕ) (r : ℕ) → r < length xs → t (get_or xs r 0) ≡ false →
     reverse (filter t (drop (r + 1) xs)) ≡ reverse (filter t (drop r xs))
 listed_down_skip t xs r l e =
@@ -89,6 +95,7 @@ listed_down_skip t xs r l e =
     ap (λ b. cond b (x ∷ filter t (drop (r + 1) xs)) (filter t (drop (r + 1) xs))) e in
     ap reverse (sym open_up)
 
+-- no more pass than are behind
 pub listed_down_few : (t : ℕ → Bool) (xs : List ℕ) (r : ℕ) → r ≤ length xs →
     length (filter t (drop r xs)) + r ≤ length xs
 listed_down_few t xs r l = omega (arith, listed_all_few t (drop r xs), length-drop r xs)

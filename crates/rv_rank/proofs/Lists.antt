@@ -5,18 +5,21 @@ use Rattle.std.specs.List.{Contains}
 use Rattle.std.proofs.lemmas.List.{take_more}
 use Rattle.std.proofs.lemmas.List.Elements.{Contains-push_cases, Contains-append_left, Contains-push}
 
+-- the first elements and the next
 pub Contains-take_more : (xs : List ℕ) (i x : ℕ) → i < length xs → Contains (take (i + 1) xs) x →
     Contains (take i xs) x ⊎ (get_or xs i 0 ≡ x)
 Contains-take_more xs i x l h =
     let e = take_more xs i 0 l in
     Contains-push_cases (take i xs) (get_or xs i 0) x (rw e at h)
 
+-- the first elements stay
 pub Contains-take_kept : (xs : List ℕ) (i x : ℕ) → i < length xs → Contains (take i xs) x →
     Contains (take (i + 1) xs) x
 Contains-take_kept xs i x l h =
     let e = take_more xs i 0 l in
     rw e (Contains-append_left (take i xs) _ x h)
 
+-- the next is there
 pub Contains-take_last : (xs : List ℕ) (i : ℕ) → i < length xs → Contains (take (i + 1) xs) (get_or xs i 0)
 Contains-take_last xs i l =
     let e = take_more xs i 0 l in

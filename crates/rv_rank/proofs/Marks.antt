@@ -19,6 +19,7 @@ cases_free Start = inr (λ e. cc)
 cases_free (After u) = inr (λ e. cc)
 cases_free Behind = inr (λ e. cc)
 
+-- a mark that tests as not free is not
 pub not_free : (m : Mark) → is_free m ≡ false → m ≢ Free
 not_free Free e = cc
 not_free Start e = λ q. cc
@@ -32,30 +33,35 @@ ahead_else Start f b = refl
 ahead_else (After u) f b = refl
 ahead_else Behind f b = absurd (b refl)
 
+-- a mark ahead is not free
 pub ahead_marked : (m : Mark) → is_ahead m ≡ true → m ≢ Free
 ahead_marked Free e = cc
 ahead_marked Start e = λ q. cc
 ahead_marked (After u) e = λ q. cc
 ahead_marked Behind e = cc
 
+-- a mark that tests as behind is
 pub behind_is : (m : Mark) → is_behind m ≡ true → m ≡ Behind
 behind_is Free e = cc
 behind_is Start e = cc
 behind_is (After u) e = cc
 behind_is Behind e = refl
 
+-- one that does not is not
 pub not_behind : (m : Mark) → is_behind m ≡ false → m ≢ Behind
 not_behind Free e = λ q. cc
 not_behind Start e = λ q. cc
 not_behind (After u) e = λ q. cc
 not_behind Behind e = cc
 
+-- and the other way round
 pub is_behind_no : (m : Mark) → m ≢ Behind → is_behind m ≡ false
 is_behind_no Free n = refl
 is_behind_no Start n = refl
 is_behind_no (After u) n = refl
 is_behind_no Behind n = absurd (n refl)
 
+-- no mark is both
 pub behind_not_ahead : (m : Mark) → is_behind m ≡ true → is_ahead m ≡ false
 behind_not_ahead Free e = cc
 behind_not_ahead Start e = cc
@@ -69,23 +75,28 @@ found_either Start = refl
 found_either (After u) = refl
 found_either Behind = refl
 
+-- the mark of a rank from the lowest on
 pub mark_at-above : (low : ℕ) (marks : List Mark) (r : ℕ) → low ≤ r →
     mark_at low marks r ≡ get_or marks (r - low) Free
 unfolding mark_at
 mark_at-above low marks r l = cond-false (nat_lt r low) Free (get_or marks (r - low) Free) (le-ltb r low l)
 
+-- below it all are free
 pub mark_at-below : (low : ℕ) (marks : List Mark) (r : ℕ) → r < low → mark_at low marks r ≡ Free
 unfolding mark_at
 mark_at-below low marks r l = cond-true (nat_lt r low) Free (get_or marks (r - low) Free) (lt-ltb r low l)
 
+-- and so they are past the marks
 pub mark_at-past : (low : ℕ) (marks : List Mark) (r : ℕ) → low + length marks ≤ r → mark_at low marks r ≡ Free
 mark_at-past low marks r l = mark_at-above low marks r (omega arith) ∙ get_or_past marks (r - low) Free (omega arith)
 
+-- the mark that was set
 pub mark_at-set_same : (low : ℕ) (marks : List Mark) (r : ℕ) (m : Mark) → low ≤ r → r < low + length marks →
     mark_at low (set marks (r - low) m) r ≡ m
 mark_at-set_same low marks r m l h = mark_at-above low (set marks (r - low) m) r l ∙
     get_or-set_same marks (r - low) m Free (omega arith)
 
+-- any other mark
 pub mark_at-set_other : (low : ℕ) (marks : List Mark) (r s : ℕ) (m : Mark) → low ≤ s → r ≢ s →
     mark_at low (set marks (s - low) m) r ≡ mark_at low marks r
 mark_at-set_other low marks r s m l n = elim (cases_lt r low) [
@@ -138,6 +149,7 @@ mark_of-set_other low ranks marks a t m once lt below high n =
     ] in
     mark_at-set_other low marks (get_or ranks a (length ranks)) (get_or ranks t 0) m high differs
 
+-- one more target was marked
 pub IsSpread-more : (ranks : List ℕ) (low : ℕ) (old new : List Mark) (mark : Mark) (targets : List ℕ) (i : ℕ) →
     IsOnce ranks → low + length old ≡ length ranks → mark ≢ Free →
     IsSpread ranks low old new mark (take i targets) → i < length targets → get_or targets i 0 < length ranks →
@@ -180,6 +192,7 @@ IsSpread-more ranks low old new mark targets i once long marks h l b below high 
       ];
     }
 
+-- one was marked already or is too low
 pub IsSpread-skip : (ranks : List ℕ) (low : ℕ) (old new : List Mark) (mark : Mark) (targets : List ℕ) (i : ℕ) →
     IsSpread ranks low old new mark (take i targets) → i < length targets →
     (low ≤ get_or ranks (get_or targets i 0) 0 → IsMarked low ranks new (get_or targets i 0)) →
@@ -218,6 +231,7 @@ mark_of-rank low nodes ranks marks k h l =
     let i = h.there k l in
     mark_of-node low ranks marks (get_or nodes k 0) i.0 ∙ ap (mark_at low marks) i.1
 
+-- nodes below the lowest rank are free
 pub below_free : (low : ℕ) (nodes ranks : List ℕ) (marks : List Mark) (k : ℕ) → IsInverse nodes ranks →
     k < length nodes → k < low → mark_of low ranks marks (get_or nodes k 0) ≡ Free
 below_free low nodes ranks marks k h l b = mark_of-rank low nodes ranks marks k h l ∙ mark_at-below low marks k b
@@ -228,16 +242,19 @@ pub read_of : (low : ℕ) (ranks : List ℕ) (marks : List Mark) (a r : ℕ) →
 read_of low ranks marks a r l h e = mark_of-node low ranks marks a l ∙ ap (mark_at low marks) (sym e) ∙
     mark_at-above low marks r h
 
+-- a mark that tests as free is
 pub free_is : (m : Mark) → is_free m ≡ true → m ≡ Free
 free_is Free e = refl
 free_is Start e = cc
 free_is (After u) e = cc
 free_is Behind e = cc
 
+-- a node whose mark was read as free is
 pub read_free : (low : ℕ) (ranks : List ℕ) (marks : List Mark) (a r : ℕ) → a < length ranks → low ≤ r →
     r ≡ get_or ranks a 0 → is_free (get_or marks (r - low) Free) ≡ true → mark_of low ranks marks a ≡ Free
 read_free low ranks marks a r l h e f = read_of low ranks marks a r l h e ∙ free_is _ f
 
+-- and one whose mark was not is marked
 pub read_marked : (low : ℕ) (ranks : List ℕ) (marks : List Mark) (a r : ℕ) → a < length ranks → low ≤ r →
     r ≡ get_or ranks a 0 → is_free (get_or marks (r - low) Free) ≡ false → IsMarked low ranks marks a
 read_marked low ranks marks a r l h e f q = not_free _ f (sym (read_of low ranks marks a r l h e) ∙ q)
@@ -260,5 +277,6 @@ all_free low ranks marks h a = elim (cases_lt (get_or ranks a (length ranks)) lo
   | inr p ↦ mark_at-above low marks (get_or ranks a (length ranks)) p ∙ h _
 ]
 
+-- no slot lies below the lowest rank
 pub slot_below : (low : ℕ) (marks : List Mark) (k : ℕ) → k < low → is_slot low marks k ≡ false
 slot_below low marks k l = ap (λ m. not (is_free m)) (mark_at-below low marks k l)

@@ -122,6 +122,7 @@ module _ (found : Found) (nodes ranks visits : List ℕ) (inverse : IsInverse no
       rw same_members (members_apart b f nodes ranks inverse apart new_b new_f i j l
       (omega (arith, ap length same_members, members_of-long visits split (length nodes) split_within)))
 
+  -- the members, each with a place
   pub roster : (ranks0 : List ℕ) → length ranks0 ≡ length nodes + 1 → IsRoster found nodes ranks0 visits
   roster ranks0 e = record {
     long = plan.long;
@@ -140,12 +141,14 @@ module _ (found : Found) (nodes ranks visits : List ℕ) (inverse : IsInverse no
     last_is = is_last ∙ ap (λ x. get_or x (length visits) 0) same_members ∙
         ap (λ k. get_or (filter b nodes ++ length nodes ∷ filter f nodes) k 0) count_listed
 
+    -- nodes and ranks stay inverse with the new node at the end
     pub final_inverse : IsInverse (nodes1 ++ last ∷ []) (set ranks1 last (length nodes))
     final_inverse =
         let m = rw same_members at h in
         rw last_is (mended_inverse b f nodes ranks inverse apart new_b new_f (is_slot low marks) tests low
         (omega (arith, plan.long)) first_slot above_b above_f ranks0 nodes1 ranks1 begun m)
 
+    -- and all other ranks stay
     pub final_local : IsLocal b f low ranks (set ranks1 last (length nodes))
     final_local =
         let m = rw same_members at h in

@@ -12,6 +12,7 @@ use Rattle.rv_rank.specs.Local.{IsLocal}
 use Rattle.rv_rank.proofs.Counting.{cases_test, count_to, count_mono, count_strict, count_all}
 use Rattle.rv_rank.proofs.Counting.{count_below-count_to, filter_at, filter_from}
 
+-- no two nodes have one rank
 pub once_from_inverse : (old old_ranks : List ℕ) → IsInverse old old_ranks → (a b : ℕ) → a < length old_ranks →
     b < length old_ranks → get_or old_ranks a 0 ≡ get_or old_ranks b 0 → a ≡ b
 once_from_inverse old old_ranks h a b p q e = sym (h.back a p).1 ∙ ap (λ x. get_or old x 0) e ∙ (h.back b q).1
@@ -27,6 +28,7 @@ sum_step true false m k l d e = omega (arith, e)
 sum_step false true m k l d e = omega (arith, e)
 sum_step false false m k l d e = e
 
+-- the counts of two kinds that exclude each other add up
 pub count_sum : (b f : ℕ → Bool) → ((a : ℕ) → b a ≡ true → f a ≡ false) → (xs : List ℕ) (k : ℕ) →
     count_to (either_of b f) xs k ≡ count_to b xs k + count_to f xs k
 count_sum b f d xs zero = omega arith
@@ -55,6 +57,7 @@ module _ (b f : ℕ → Bool) (nodes ranks : List ℕ) (inverse : IsInverse node
       cond (b a) (count_to b nodes (get_or ranks a 0))
       (cond (f a) (length (filter b nodes) + 1 + count_to f nodes (get_or ranks a 0)) (length (filter b nodes)))
 
+  -- there is one member more than slots
   pub members_long : length members ≡ count_to (either_of b f) nodes (length nodes) + 1
   members_long = omega (
     arith,
@@ -163,6 +166,7 @@ module _ (b f : ℕ → Bool) (nodes ranks : List ℕ) (inverse : IsInverse node
         ]
       ]
 
+  -- no member stands twice
   pub members_apart : (i j : ℕ) → i < j → j < length members → get_or members i 0 ≢ get_or members j 0
   members_apart i j l m e =
       let p = from_place i (omega arith) in
@@ -170,11 +174,13 @@ module _ (b f : ℕ → Bool) (nodes ranks : List ℕ) (inverse : IsInverse node
       let same : p.0 ≡ q.0 = sym p.1 ∙ e ∙ q.1 in
       omega (arith, p.2, q.2, ap place same)
 
+  -- each member is a node or the new one
   pub members_below : (j : ℕ) → j < length members → get_or members j 0 < length nodes + 1
   members_below j m =
       let p = from_place j m in
       rw p.1 (elim p.3 [ inl w ↦ omega (arith, w.0) | inr q ↦ omega (arith, q) ])
 
+  -- what was not found is no member
   pub not_member : (a : ℕ) → a < length nodes → either_of b f a ≡ false → (j : ℕ) → j < length members →
       get_or members j 0 ≢ a
   not_member a l e j m q =
@@ -208,9 +214,11 @@ module _ (b f : ℕ → Bool) (nodes ranks : List ℕ) (inverse : IsInverse node
     long_start : length ranks0 ≡ length nodes + 1
     long_start = omega (arith, ap length begun, length_push ranks (length nodes), inverse.long)
 
+    -- there is a rank more
     pub long_final : length final_ranks ≡ length nodes + 1
     long_final = omega (arith, length-set ranks1 last (length nodes), h.long_ranks, long_start)
 
+    -- and a node more
     pub long_final_nodes : length final_nodes ≡ length nodes + 1
     long_final_nodes = omega (arith, length_push nodes1 last, h.long_nodes)
 
@@ -376,6 +384,7 @@ module _ (b f : ℕ → Bool) (nodes ranks : List ℕ) (inverse : IsInverse node
           rw e (omega (arith, last_below, length-set ranks1 last (length nodes)), rank_last ∙ sym q)
     ]
 
+    -- mended nodes and ranks are inverse
     pub mended_inverse : IsInverse final_nodes final_ranks
     mended_inverse = record { long = long_final_nodes ∙ sym long_final; there = there_at; back = back_at }
 
@@ -415,6 +424,7 @@ module _ (b f : ℕ → Bool) (nodes ranks : List ℕ) (inverse : IsInverse node
         )) in
         omega (arith, s.2, k)
 
+    -- and all other ranks stay
     pub mended_local : IsLocal b f low ranks final_ranks
     mended_local = record {
       long = omega (arith, long_final, count_ranks);

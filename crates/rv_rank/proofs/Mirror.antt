@@ -7,6 +7,7 @@ use Rattle.rv_rank.specs.Graph.{Edge, IsGrown}
 use Rattle.rv_rank.specs.Walking.{IsMirror}
 use Rattle.rv_rank.proofs.Growth.{edge_from}
 
+-- rows name nodes alone
 pub rows_within : (outgoing incoming : List (List ℕ)) → IsMirror outgoing incoming →
     All (λ row. All (λ a. a < length outgoing) row) outgoing
 rows_within outgoing incoming h k d l j e m =
@@ -21,6 +22,7 @@ rows_within outgoing incoming h k d l j e m =
       h.long,
     )
 
+-- a mirror of the mirror
 pub mirror_flip : (outgoing incoming : List (List ℕ)) → IsMirror outgoing incoming → IsMirror incoming outgoing
 mirror_flip outgoing incoming h = record {
   long = sym h.long;
@@ -29,6 +31,7 @@ mirror_flip outgoing incoming h = record {
       λ a b e. h.back b a e;
 }
 
+-- a new node leaves the rows mirrored
 pub mirror_grown : (outgoing incoming out in_ : List (List ℕ)) (preds succs : List ℕ) →
     IsMirror outgoing incoming → IsGrown outgoing out preds succs → IsGrown incoming in_ succs preds →
     IsMirror out in_

@@ -14,6 +14,7 @@ use Rattle.rv_rank.specs.Mended.{count_below}
 use Rattle.rv_rank.specs.Placing.{ListsOnce, moved_of}
 use Rattle.rv_rank.proofs.Counting.{cases_test}
 
+-- what a list contains stands somewhere
 pub contained_at : (xs : List ℕ) (a : ℕ) → (w : Contains xs a) → get_or xs w.0 0 ≡ a
 contained_at xs a w = get_or_default xs w.0 0 a w.1 ∙ w.2
 
@@ -126,6 +127,7 @@ pairs_moved old new (suc n) l m =
           (count_below (has_moved old new) n)) fails)
     ]
 
+-- the moved nodes are as many as the list that names each once
 pub moved_of-listed : (old new xs : List ℕ) → length old ≤ length new →
     ListsOnce (Passing (has_moved old new) (length old)) xs → moved_of old new ≡ length xs
 moved_of-listed old new xs l h =

@@ -62,6 +62,7 @@ module _ (edges : List (List ℕ)) (order : Ordering) (preds succs : List ℕ) (
       marked_within low order.ranks marks a h.long
       (behind_marked _ (behind_is (mark_of low order.ranks marks a) e))
 
+  -- no node is behind and ahead
   pub apart : (a : ℕ) → b a ≡ true → f a ≡ false
   apart a e = behind_not_ahead (mark_of low order.ranks marks a) e
 
@@ -111,6 +112,7 @@ module _ (edges : List (List ℕ)) (order : Ordering) (preds succs : List ℕ) (
             (IsPermutation-sym back (reverse back) (IsPermutation-reverse back)) x))
       ]
 
+  -- only affected nodes were visited
   pub visits_only : OnlyAffected edges order.ranks preds succs list
   visits_only a w = elim (visits_cases a w) [
     | inl x ↦ (inl (h.ahead a x), (ahead_within a x).0)
@@ -163,6 +165,7 @@ module _ (edges : List (List ℕ)) (order : Ordering) (preds succs : List ℕ) (
       let same = rw h.visits at e in
       omega (arith, visit_at i (omega arith), visit_at j n, ap place same)
 
+  -- and each of them once
   pub visits_listed : ListsOnce (IsAffected edges order.ranks preds succs) list
   visits_listed = record { each = visits_each; only = visits_only; once = visits_once }
 
@@ -223,6 +226,7 @@ module _ (edges : List (List ℕ)) (order : Ordering) (preds succs : List ℕ) (
               omega (arith, l.spared p lp (neither p nb nf), under, l.least_new)
         ]
 
+    -- every edge goes to a higher rank
     pub ordered : IsOrder new_edges new
     ordered = record {
       long = omega (arith, l.long, g.long, o.long);
@@ -241,6 +245,7 @@ module _ (edges : List (List ℕ)) (order : Ordering) (preds succs : List ℕ) (
       ];
     }
 
+    -- what is not affected keeps its rank
     pub spared : (a : ℕ) → a < length order.ranks → (IsAffected edges order.ranks preds succs a → ⊥) →
         get_or new a 0 ≡ get_or order.ranks a 0
     spared a la n = elim (cases_test (f a)) [
@@ -251,6 +256,7 @@ module _ (edges : List (List ℕ)) (order : Ordering) (preds succs : List ℕ) (
       ]
     ]
 
+    -- a mover has a rank that was freed
     pub exchanged : (a : ℕ) → IsAffected edges order.ranks preds succs a ⊎ (a ≡ length order.ranks) →
         (get_or new a 0 ≡ length order.ranks) ⊎ ((c : ℕ) × IsAffected edges order.ranks preds succs c ×
         (get_or order.ranks c 0 ≡ get_or new a 0))
@@ -278,6 +284,7 @@ module _ (edges : List (List ℕ)) (order : Ordering) (preds succs : List ℕ) (
           ]
     ]
 
+    -- each rank that was freed is taken
     pub taken : (r : ℕ) → IsFreed edges order.ranks preds succs r →
         (a : ℕ) × IsMover edges order.ranks preds succs a × (get_or new a 0 ≡ r)
     taken r w =
@@ -310,12 +317,14 @@ module _ (edges : List (List ℕ)) (order : Ordering) (preds succs : List ℕ) (
               ]
         ]
 
+    -- without successors the new node is the highest
     pub greatest : succs ≡ [] → get_or new (length order.ranks) 0 ≡ length order.ranks
     greatest e = elim (cases_lt low (length order.ranks)) [
       | inl m ↦ let s = h.lowest m in absurd (let w = rw e at s.1 in omega (arith, w.1))
       | inr p ↦ omega (arith, p, l.least_new, l.below (length order.ranks) (omega (arith, l.long)), l.long)
     ]
 
+    -- and nothing was visited
     pub still : succs ≡ [] → length list ≡ 0
     still e = elim (cases_eq (length list) 0) [
       | inl q ↦ q

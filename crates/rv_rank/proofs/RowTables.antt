@@ -40,6 +40,7 @@ IsAppended-more old new places item i h l b n =
           other a apart ∙ h.other a (λ v. m (Contains-take_kept places i a l v));
     }
 
+-- a row that was lengthened before
 pub IsAppended-skip : (old new : List (List ℕ)) (places : List ℕ) (item i : ℕ) →
     IsAppended old new (take i places) item → i < length places → Contains (take i places) (get_or places i 0) →
     IsAppended old new (take (i + 1) places) item
@@ -53,6 +54,7 @@ IsAppended-skip old new places item i h l v = record {
   other = λ a m. h.other a (λ u. m (Contains-take_kept places i a l u));
 }
 
+-- a row ends in what was appended
 pub EndsIn-append : (row : List ℕ) (item : ℕ) → EndsIn (row ++ item ∷ []) item
 EndsIn-append row item =
     let long = length_push row item in
@@ -63,6 +65,7 @@ EndsIn-append row item =
 pub not_EndsIn : (row : List ℕ) (item : ℕ) → All (λ a. a < item) row → EndsIn row item → ⊥
 not_EndsIn row item h e = let b = h (length row - 1) 0 (omega (arith, e.0)) in omega (arith, e.1)
 
+-- a write that leaves the room
 pub KeepsRoom-set : (old rows : List Neighbours) (p : ℕ) (v d : Neighbours) → KeepsRoom old rows →
     p < length rows → (get_or rows p d).room ≤ v.room → KeepsRoom old (set rows p v)
 KeepsRoom-set old rows p v d h l m a =
@@ -80,11 +83,13 @@ KeepsRoom-set old rows p v d h l m a =
           rw e (omega (arith, there, h a))
     ]
 
+-- room that was made stays
 pub HasRoom-kept : (old new : List Neighbours) (more a : ℕ) → outgoing_of new ≡ outgoing_of old →
     incoming_of new ≡ incoming_of old → get_or (rooms_of old) a 0 ≤ get_or (rooms_of new) a 0 →
     HasRoom old more a → HasRoom new more a
 HasRoom-kept old new more a o i k h = rw (o, i) (omega (arith, k, h))
 
+-- room where it was made
 pub HasRoom-set : (rows : List Neighbours) (p more : ℕ) (v : Neighbours) → p < length rows →
     degree v + more ≤ v.room → HasRoom (set rows p v) more p
 HasRoom-set rows p more v l h =
@@ -122,6 +127,7 @@ pub record IsRoomy (old rows : List Neighbours) (places : List ℕ) (more i : �
   pub kept : KeepsRoom old rows
   pub room : All (HasRoom rows more) (take i places)
 
+-- before the first place
 pub IsRoomy-none : (old : List Neighbours) (places : List ℕ) (more : ℕ) → IsRoomy old old places more 0
 IsRoomy-none old places more = record {
   outgoing = refl;
@@ -147,6 +153,7 @@ IsRoomy-set old rows places more i p v d h l o n k =
           (λ a. HasRoom-kept rows (set rows p v) more a same_out same_in (least a)) (take i places) h.room;
     }
 
+-- one place more has room
 pub IsRoomy-more : (old rows : List Neighbours) (places : List ℕ) (more i : ℕ) (v d : Neighbours) →
     IsRoomy old rows places more i → i < length places → get_or places i 0 < length rows →
     v.outgoing ≡ (get_or rows (get_or places i 0) d).outgoing →
@@ -170,6 +177,7 @@ pub record IsFilling (f g : Neighbours → List ℕ) (old rows : List Neighbours
   pub same : map g rows ≡ map g old
   pub kept : KeepsRoom old rows
 
+-- before the first row
 pub Filling-none : (f g : Neighbours → List ℕ) (old : List Neighbours) (places : List ℕ) (item : ℕ) →
     IsFilling f g old old places item 0
 Filling-none f g old places item = record {
@@ -184,6 +192,7 @@ module _
   row_at : get_or (map f rows) (get_or places i 0) [] ≡ f (get_or rows (get_or places i 0) d)
   row_at = get_or-map f rows (get_or places i 0) d [] within
 
+  -- a row that does not end in the item was not lengthened
   pub not_yet : (EndsIn (f (get_or rows (get_or places i 0) d)) item → ⊥) →
       Contains (take i places) (get_or places i 0) → ⊥
   not_yet n w =
@@ -192,6 +201,7 @@ module _
       (omega (arith, length-map rows f, filling.appended.long, within)) w in
       n (rw q (EndsIn-append (get_or (map f old) p []) item))
 
+  -- so it has the room that it had
   pub room_at : (Contains (take i places) (get_or places i 0) → ⊥) →
       (length (get_or (map f old) (get_or places i 0) []) + length (get_or (map g old) (get_or places i 0) []))
       + 1 ≤ get_or (rooms_of old) (get_or places i 0) 0 →
@@ -206,6 +216,7 @@ module _
       let k : get_or (map r rows) p 0 ≡ (get_or rows p d).room = get_or-map r rows p d 0 within in
       rw (here, there) (omega (arith, k, filling.kept p, room))
 
+  -- one row more
   pub Filling-more : (v : Neighbours) → i < length places →
       f v ≡ f (get_or rows (get_or places i 0) d) ++ item ∷ [] →
       g v ≡ g (get_or rows (get_or places i 0) d) → (get_or rows (get_or places i 0) d).room ≤ v.room →
@@ -223,6 +234,7 @@ module _
         kept = KeepsRoom-set old rows p v d filling.kept within k;
       }
 
+  -- a row that was lengthened before
   pub Filling-skip : i < length places → All (λ row. All (λ a. a < item) row) (map f old) →
       EndsIn (f (get_or rows (get_or places i 0) d)) item → IsFilling f g old rows places item (i + 1)
   Filling-skip l fresh ends =

@@ -20,10 +20,12 @@ edge_below edges ranks o a b e = elim (cases_lt b (length ranks)) [
   | inr p ↦ absurd (omega (arith, o.forward a b e, get_or_past ranks b 0 p))
 ]
 
+-- edges lead to nodes
 pub targets_below : (edges : List (List ℕ)) (ranks : List ℕ) → IsOrder edges ranks → (a : ℕ) →
     All (λ t. t < length ranks) (get_or edges a [])
 targets_below edges ranks o a k d l = edge_below edges ranks o a _ (Contains-get_or (get_or edges a []) k d l)
 
+-- the successors are marked
 pub IsSearched-begin : (edges : List (List ℕ)) (ranks succs : List ℕ) (low : ℕ) (old new : List Mark) →
     low + length old ≡ length ranks → ((a : ℕ) → mark_of low ranks old a ≡ Free) →
     All (λ s. low ≤ get_or ranks s 0) succs → IsSpread ranks low old new Start succs →
@@ -39,6 +41,7 @@ IsSearched-begin edges ranks succs low old new l free least h =
       forward = λ a e. elim (h.only a (free a)) [ inl n ↦ cc | inr w ↦ cc ];
     }
 
+-- a marked node's targets are
 pub IsSearched-more : (edges : List (List ℕ)) (ranks succs : List ℕ) (low : ℕ) (old new : List Mark) (r v : ℕ) →
     IsOrder edges ranks → IsSearched edges ranks succs low old r → low ≤ r → get_or ranks v 0 ≡ r →
     v < length ranks → IsMarked low ranks old v → IsSpread ranks low old new (After v) (get_or edges v []) →
@@ -83,6 +86,7 @@ IsSearched-more edges ranks succs low old new r v o h from at below m s =
       ];
     }
 
+-- a free node is passed
 pub IsSearched-skip : (edges : List (List ℕ)) (ranks succs : List ℕ) (low : ℕ) (marks : List Mark) (r v : ℕ) →
     IsOrder edges ranks → IsSearched edges ranks succs low marks r → get_or ranks v 0 ≡ r → v < length ranks →
     mark_of low ranks marks v ≡ Free → IsSearched edges ranks succs low marks (r + 1)
@@ -107,6 +111,7 @@ reached_marked edges ranks succs low marks h a b here m = m
 reached_marked edges ranks succs low marks h a b (step {b = x} e p) m =
     reached_marked edges ranks succs low marks h x b p (h.closed a x (marked_within low ranks marks a h.long m).2 m e)
 
+-- what reaches a node reaches what follows it
 pub reaches_append : (edges : List (List ℕ)) (a b c : ℕ) → Reaches edges a b → Edge edges b c → Reaches edges a c
 reaches_append edges a b c here e = step e here
 reaches_append edges a b c (step {b = x} f p) e = step f (reaches_append edges x b c p e)

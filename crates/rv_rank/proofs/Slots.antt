@@ -6,10 +6,12 @@ use Rattle.std.proofs.lemmas.List.{get_or-set_same, get_or-set_other, length-set
 use Rattle.std.proofs.lemmas.Bool.{cases_eq, false≢true}
 use Rattle.rv_rank.specs.Mended.{count_below, members_of, IsMended}
 
+-- a count of slots goes up at one
 pub below_yes : (s : ℕ → Bool) (k : ℕ) → s k ≡ true → count_below s (k + 1) ≡ count_below s k + 1
 below_yes s k e = let q : k + 1 ≡ suc k =
     omega arith in rw q (ap (λ b. cond b (suc (count_below s k)) (count_below s k)) e ∙ omega arith)
 
+-- and stays where there is none
 pub below_no : (s : ℕ → Bool) (k : ℕ) → s k ≡ false → count_below s (k + 1) ≡ count_below s k
 below_no s k e = let q : k + 1 ≡ suc k =
     omega arith in rw q (ap (λ b. cond b (suc (count_below s k)) (count_below s k)) e)
@@ -27,17 +29,21 @@ below_along s k zero = let e : k + zero ≡ k = omega arith in rw e (omega arith
 below_along s k (suc d) = let e : k + suc d ≡ suc (k + d) =
     omega arith in rw e (omega (arith, below_along s k d, below_step s (k + d)))
 
+-- it does not fall
 pub below_mono : (s : ℕ → Bool) (j k : ℕ) → j ≤ k → count_below s j ≤ count_below s k
 below_mono s j k l = let e : j + (k - j) ≡ k = omega arith in let h = below_along s j (k - j) in rw e at h
 
+-- and rises past a slot
 pub below_strict : (s : ℕ → Bool) (j k : ℕ) → s j ≡ true → j < k → count_below s j < count_below s k
 below_strict s j k e l = omega (arith, below_yes s j e, below_mono s (j + 1) k (omega arith))
 
+-- without slots it is 0
 pub below_none : (s : ℕ → Bool) (r : ℕ) → ((k : ℕ) → k < r → s k ≡ false) → count_below s r ≡ 0
 below_none s zero n = refl
 below_none s (suc r) n = ap (λ b. cond b (suc (count_below s r)) (count_below s r)) (n r (omega arith)) ∙
     below_none s r (λ k l. n k (omega arith))
 
+-- it is at most the rank
 pub below_few : (s : ℕ → Bool) (k : ℕ) → count_below s k ≤ k
 below_few s zero = omega arith
 below_few s (suc k) =
@@ -50,6 +56,7 @@ below_few s (suc k) =
       | false ↦ omega (arith, h)
     ]
 
+-- a rank that is no slot stays
 pub IsMended-skip : (slot : ℕ → Bool) (members nodes ranks new_nodes new_ranks : List ℕ) (r : ℕ) →
     IsMended slot members nodes ranks new_nodes new_ranks r → slot r ≡ false →
     IsMended slot members nodes ranks new_nodes new_ranks (r + 1)
@@ -66,6 +73,7 @@ IsMended-skip slot members nodes ranks new_nodes new_ranks r h f = record {
   others = h.others;
 }
 
+-- a slot takes the next member
 pub IsMended-more : (slot : ℕ → Bool) (members nodes ranks new_nodes new_ranks : List ℕ) (r : ℕ) →
     IsMended slot members nodes ranks new_nodes new_ranks r → r < length nodes → slot r ≡ true →
     count_below slot r < length members → get_or members (count_below slot r) 0 < length ranks →
@@ -100,6 +108,7 @@ IsMended-more slot members nodes ranks new_nodes new_ranks r h b e m within apar
       others = λ a n. rank_there a (λ q. n i m (sym q)) ∙ h.others a n;
     }
 
+-- below the lowest slot nothing changes
 pub IsMended-none : (slot : ℕ → Bool) (members nodes ranks : List ℕ) (low : ℕ) →
     ((k : ℕ) → k < low → slot k ≡ false) → IsMended slot members nodes ranks nodes ranks low
 IsMended-none slot members nodes ranks low below = record {
@@ -111,6 +120,7 @@ IsMended-none slot members nodes ranks low below = record {
   others = λ a n. refl;
 }
 
+-- there is one member more than visits
 pub members_of-long : (visits : List ℕ) (split node : ℕ) → split ≤ length visits →
     length (members_of visits split node) ≡ length visits + 1
 members_of-long visits split node l =

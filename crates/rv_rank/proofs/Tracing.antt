@@ -10,11 +10,13 @@ use Rattle.rv_rank.specs.Graph.{Edge, Reaches, here, step, IsOrder}
 use Rattle.rv_rank.specs.Marks.{mark_of, IsSpread, IsSearched, IsTraced}
 use Rattle.rv_rank.proofs.Marks.{cases_free, marked_within}
 
+-- a mark behind is not free
 pub behind_marked : (m : Mark) → m ≡ Behind → m ≢ Free
 behind_marked m e f = cc
 
 module _ (edges : List (List ℕ)) (ranks succs preds : List ℕ) (low : ℕ) (ahead : List Mark)
     (o : IsOrder edges ranks) (h : IsSearched edges ranks succs low ahead (length ranks)) where
+  -- the predecessors are marked
   pub IsTraced-begin : (new : List Mark) → All (λ p. mark_of low ranks ahead p ≡ Free) preds →
       IsSpread ranks low ahead new Behind preds → IsTraced edges ranks preds low ahead new (length ranks)
   IsTraced-begin new free s = record {
@@ -43,6 +45,7 @@ module _ (edges : List (List ℕ)) (ranks succs preds : List ℕ) (low : ℕ) (a
         absurd (h.forward v (sym (t.kept v next) ∙ m))
   ]
 
+  -- what leads to a marked node is
   pub IsTraced-more : (old new : List Mark) (r v : ℕ) (sources : List ℕ) →
       ((a : ℕ) → Contains sources a → Edge edges a v) → ((a : ℕ) → Edge edges a v → Contains sources a) →
       IsTraced edges ranks preds low ahead old (r + 1) → get_or ranks v 0 ≡ r → v < length ranks →
@@ -89,6 +92,7 @@ module _ (edges : List (List ℕ)) (ranks succs preds : List ℕ) (low : ℕ) (a
         ];
       }
 
+  -- a node that is not behind is passed
   pub IsTraced-skip : (marks : List Mark) (r v : ℕ) → IsTraced edges ranks preds low ahead marks (r + 1) →
       get_or ranks v 0 ≡ r → v < length ranks → mark_of low ranks marks v ≢ Behind →
       IsTraced edges ranks preds low ahead marks r

@@ -18,6 +18,7 @@ pub record IsWayBack (edges : List (List ℕ)) (low : ℕ) (ranks : List ℕ) (m
   pub marked : IsMarked low ranks marks node
   pub steps : (k : ℕ) → k + 1 < length back → Edge edges (get_or back (k + 1) 0) (get_or back k 0)
 
+-- the way back begins at its end
 pub IsWayBack-begin : (edges : List (List ℕ)) (low : ℕ) (ranks : List ℕ) (marks : List Mark) (end : ℕ) →
     IsMarked low ranks marks end → IsWayBack edges low ranks marks end end (end ∷ [])
 IsWayBack-begin edges low ranks marks end m = record {
@@ -28,6 +29,7 @@ IsWayBack-begin edges low ranks marks end m = record {
   steps = λ k l. absurd (omega arith);
 }
 
+-- one step further back
 pub IsWayBack-more : (edges : List (List ℕ)) (low : ℕ) (ranks : List ℕ) (marks : List Mark) (end node from : ℕ)
     (back : List ℕ) → IsWayBack edges low ranks marks end node back → Edge edges from node →
     IsMarked low ranks marks from → IsWayBack edges low ranks marks end from (back ++ from ∷ [])
@@ -61,6 +63,7 @@ rising f n h i (suc d) l =
     let e : i + suc d ≡ i + d + 1 = omega arith in
     rw e (let below = rising f n h i d (omega arith) in let last = h (i + d + 1) (omega arith) in omega arith)
 
+-- turned round it is a trail
 pub IsTrail-reverse : (edges : List (List ℕ)) (low : ℕ) (ranks succs : List ℕ) (marks : List Mark)
     (end node : ℕ) (back : List ℕ) → IsOrder edges ranks → IsWayBack edges low ranks marks end node back →
     Contains succs node → IsTrail edges succs end (reverse back)

@@ -21,7 +21,8 @@ found_ahead low order marks = filter (is_ahead_of low order.ranks marks) order.n
 abbrev pub found_behind : ℕ → Ordering → List Mark → List ℕ
 found_behind low order marks = filter (is_behind_of low order.ranks marks) order.nodes
 
--- the marks tell the two sets; the list has the forward one by rising rank, and the other one by falling rank
+-- the marks tell the two sets; the list has the forward one by rising rank, and the other one by
+-- falling rank
 pub record IsFound (edges : List (List ℕ)) (order : Ordering) (preds succs : List ℕ) (low : ℕ)
     (marks : List Mark) (count : ℕ) (list : List ℕ) : Type 0 where
   pub long : low + length marks ≡ length order.ranks

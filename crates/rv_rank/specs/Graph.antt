@@ -27,7 +27,8 @@ pub record IsTrail (edges : List (List ℕ)) (succs : List ℕ) (end : ℕ) (pat
   pub steps : (k : ℕ) → k + 1 < length path → Edge edges (slice_index path k) (slice_index path (k + 1))
   pub once : (i j : ℕ) → i < j → j < length path → slice_index path i ≢ slice_index path j
 
--- the ranks are the numbers below the count of nodes, each once, and each edge goes to a higher rank
+-- the ranks are the numbers below the count of nodes, each once, and each edge goes to a higher
+-- rank
 pub record IsOrder (edges : List (List ℕ)) (ranks : List ℕ) : Type 0 where
   pub long : length ranks ≡ length edges
   pub below : (a : ℕ) → a < length ranks → slice_index ranks a < length ranks

@@ -1,7 +1,8 @@
 -- Ranks that are mended near one new node.
 use Rattle.std.specs.Prelude.{◌≡◌, ℕ, ◌+◌, ◌<◌, ◌≤◌, ◌||◌, Bool, true, false, List, length, slice_index}
 
--- nodes found backward have lower ranks, before the new node, and nodes found forward have higher ones, after it
+-- nodes found backward have lower ranks, before the new node, and nodes found forward have higher
+-- ones, after it
 pub record IsLocal (back ahead : ℕ → Bool) (low : ℕ) (old new : List ℕ) : Type 0 where
   pub long : length new ≡ length old + 1
   pub below : (a : ℕ) → a < length new → slice_index new a < length new

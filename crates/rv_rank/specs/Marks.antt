@@ -1,4 +1,5 @@
--- What a search has found of the nodes. The marks are kept by rank, from the lowest affected rank on.
+-- What a search has found of the nodes. The marks are kept by rank, from the lowest affected rank
+-- on.
 use Rattle.std.specs.Prelude.{◌≡◌, ◌≢◌, ℕ, ◌+◌, ◌-◌, ◌<◌, ◌≤◌, ◌⊎◌, Bool, true, false, not, if◌then◌else◌}
 use Rattle.std.specs.Prelude.{nat_lt, List, length, slice_index, slice_index_or}
 use Rattle.std.specs.List.{Contains}
@@ -51,7 +52,8 @@ is_behind_of low ranks marks a = is_behind (mark_of low ranks marks a)
 abbrev pub is_slot : ℕ → List Mark → ℕ → Bool
 is_slot low marks r = not (is_free (mark_at low marks r))
 
--- the targets of rank `low` or above are marked, those that were free by the mark, and nothing else changed
+-- the targets of rank `low` or above are marked, those that were free by the mark, and nothing else
+-- changed
 pub record IsSpread (ranks : List ℕ) (low : ℕ) (old new : List Mark) (mark : Mark) (targets : List ℕ) : Type 0 where
   pub long : length new ≡ length old
   pub kept : (a : ℕ) → IsMarked low ranks old a → mark_of low ranks new a ≡ mark_of low ranks old a
@@ -60,7 +62,8 @@ pub record IsSpread (ranks : List ℕ) (low : ℕ) (old new : List Mark) (mark :
       (mark_of low ranks new a ≡ Free) ⊎
       ((mark_of low ranks new a ≡ mark) × Contains targets a × (low ≤ slice_index ranks a))
 
--- the search forward has gone through the ranks below r, and each mark says where its node was found first
+-- the search forward has gone through the ranks below r, and each mark says where its node was
+-- found first
 pub record IsSearched (edges : List (List ℕ)) (ranks succs : List ℕ) (low : ℕ) (marks : List Mark)
     (r : ℕ) : Type 0 where
   pub long : low + length marks ≡ length ranks
@@ -71,7 +74,8 @@ pub record IsSearched (edges : List (List ℕ)) (ranks succs : List ℕ) (low : 
   pub after : (a u : ℕ) → mark_of low ranks marks a ≡ After u → Edge edges u a × IsMarked low ranks marks u
   pub forward : (a : ℕ) → mark_of low ranks marks a ≢ Behind
 
--- the search backward has gone through the ranks from r up, over the marks that the search forward left
+-- the search backward has gone through the ranks from r up, over the marks that the search forward
+-- left
 pub record IsTraced (edges : List (List ℕ)) (ranks preds : List ℕ) (low : ℕ) (ahead marks : List Mark)
     (r : ℕ) : Type 0 where
   pub long : length marks ≡ length ahead

@@ -7,7 +7,8 @@ abbrev pub count_below : (ℕ → Bool) → ℕ → ℕ
 count_below test zero = 0
 count_below test (suc n) = if test n then suc (count_below test n) else count_below test n
 
--- the members in their new order: the visits after the first `split`, last one first, the new node, the others
+-- the members in their new order: the visits after the first `split`, last one first, the new node,
+-- the others
 abbrev pub members_of : List ℕ → ℕ → ℕ → List ℕ
 members_of visits split node = reverse (drop split visits) ++ node ∷ take split visits
 

@@ -84,7 +84,7 @@ abbrev pub IsPartRound : Ranking → Ranking → List ℕ → List ℕ → Type 
 IsPartRound old new preds succs =
     IsNextRound old new × OnlyAffected old.edges old.ranks preds succs new.visits
 
--- what a refusal leaves of the visits: a new round, or for want of memory also the old one
+-- what a refusal leaves of the visits: a new round, or out of memory also the old one
 abbrev pub IsRefusedRound : Ranking → Ranking → List ℕ → List ℕ → Refused → Type 0
 IsRefusedRound old new preds succs (Circle path) = IsPartRound old new preds succs
 IsRefusedRound old new preds succs NoMemory =

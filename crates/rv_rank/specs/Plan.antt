@@ -21,7 +21,8 @@ slot_in found r = is_slot found.low found.marks.items r
 abbrev pub members_in : Found → List ℕ → ℕ → List ℕ
 members_in found visits node = members_of visits found.split node
 
--- the visits are the nodes that the marks tell: those found forward by rising rank, the others by falling rank
+-- the visits are the nodes that the marks tell: those found forward by rising rank, the others by
+-- falling rank
 pub record IsPlan (found : Found) (nodes ranks visits : List ℕ) : Type 0 where
   pub long : found.low + length found.marks.items ≡ length nodes
   pub lowest : found.low < length nodes →

@@ -2,7 +2,8 @@
 use Rattle.std.specs.Prelude.{◌≡◌, ℕ, List, length}
 use Rattle.rv_rank.specs.Graph.{Edge}
 
--- the kept edges, by node those that they lead to, the nodes visited, the rounds begun, and the room for visits
+-- the kept edges, by node those that they lead to, the nodes visited, the rounds begun, and the
+-- room for visits
 pub record Walking : Type 0 where
   pub edges : List (List ℕ)
   pub visits : List ℕ

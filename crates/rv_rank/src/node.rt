@@ -31,8 +31,8 @@ impl Model for Node {
 }
 
 impl Node {
-    /// A node with its neighbours. It has room for twice as many, and for four at least. The only error is want
-    /// of memory.
+    /// A node with its neighbours. It has room for twice as many, and for four at least. The only
+    /// error is out of memory.
     pub(crate) fn new(alloc: Global, preds: &[u32], succs: &[u32]) -> Result<Self, AllocError>
         ensures incoming { IfOk result (λ n. n.incoming ≡ preds.now) }
         ensures outgoing { IfOk result (λ n. n.outgoing ≡ succs.now) }
@@ -61,8 +61,8 @@ impl Node {
         &self.neighbours[self.split..]
     }
 
-    /// Makes room for so many neighbours more. A list that lacks it becomes twice as long, or as much longer as
-    /// is asked for. After want of memory, the only error, all is as it was.
+    /// Makes room for so many neighbours more. A list that lacks it becomes twice as long, or as
+    /// much longer as is asked for. Out of memory, the only error, leaves all as it was.
     pub(crate) fn reserve(&mut self, more: usize) -> Result<(), AllocError>
         ensures incoming { self.new.incoming ≡ self.old.incoming }
         ensures outgoing { self.new.outgoing ≡ self.old.outgoing }
@@ -78,7 +78,8 @@ impl Node {
         Ok(())
     }
 
-    /// Puts a node at the end of those that an edge leads from, and before those that one leads to. There is room.
+    /// Puts a node at the end of those that an edge leads from, and before those that one leads to.
+    /// There is room.
     pub(crate) fn append_incoming(&mut self, node: u32)
         requires { degree self.old < self.old.room }
         ensures incoming { self.new.incoming ≡ self.old.incoming ++ node ∷ [] }

@@ -145,7 +145,8 @@ fn place_members(nodes: &mut Vec<u32>, ranks: &mut Vec<u32>, found: &Found, visi
     nodes.push(last).unwrap();
 }
 
-/// Puts the members at their new ranks, but for the last, whose rank alone is written. The last is answered.
+/// Puts the members at their new ranks, but for the last, whose rank alone is written. The last is
+/// answered.
 fn mend_all(nodes: &mut [u32], ranks: &mut [u32], found: &Found, visits: &[u32]) -> u32
     requires small { length nodes.old < 65536 }
     requires roster { IsRoster found.now nodes.old ranks.old visits.now }
@@ -181,8 +182,8 @@ fn mend(nodes: &mut [u32], ranks: &mut [u32], found: &Found, visits: &[u32])
     }
 }
 
-/// A member by its place in the new order: those visited backward, last visit first, then the new node, then
-/// those visited forward, which are the first `split` visits.
+/// A member by its place in the new order: those visited backward, last visit first, then the new
+/// node, then those visited forward, which are the first `split` visits.
 fn member(visits: &[u32], split: usize, new: u32, place: usize) -> u32
     requires split { split ≤ length visits.now }
     requires place { place ≤ length visits.now }

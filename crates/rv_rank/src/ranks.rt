@@ -1,9 +1,10 @@
-//! The order keeper: an order of nodes in which each kept edge goes from the lower rank to the higher.
+//! The order keeper: an order of nodes in which each kept edge goes from the lower rank to the
+//! higher.
 //!
-//! The new ranks of a placement follow David J. Pearce and Paul H. J. Kelly, "A dynamic topological sort
-//! algorithm for directed acyclic graphs", ACM Journal of Experimental Algorithmics 11 (2006): only the nodes
-//! of two sets, which the successors and the predecessors name, take other ranks, and those are the ranks that
-//! the sets had, with the new greatest one.
+//! The new ranks of a placement follow David J. Pearce and Paul H. J. Kelly, "A dynamic topological
+//! sort algorithm for directed acyclic graphs", ACM Journal of Experimental Algorithmics 11 (2006):
+//! only the nodes of two sets, which the successors and the predecessors name, take other ranks,
+//! and those are the ranks that the sets had, with the new greatest one.
 ghost use Rattle.std.specs.Prelude.{◌≡◌, ◌<◌, ◌↔◌, ℕ, [], length, slice_index, IsTrue, IfOk, IfErr, OnErr};
 ghost use Rattle.std.specs.List.{All};
 ghost use Rattle.rv_rank.specs.Graph.{IsOrder};
@@ -29,8 +30,9 @@ pub struct Placed {
 /// Why a node was not placed. After either case ranks and edges are as they were.
 #[derive(Debug, Drop)]
 pub enum Refused {
-    /// A path of kept edges from a successor to a predecessor, which names no node twice. With the new node's
-    /// edges it would close a circle. A node that is both gives a path of that node alone.
+    /// A path of kept edges from a successor to a predecessor, which names no node twice. With the
+    /// new node's edges it would close a circle. A node that is both gives a path of that node
+    /// alone.
     Circle(Vec<u32>),
     /// The allocator refused memory.
     NoMemory,
@@ -46,9 +48,9 @@ impl From<AllocError> for Refused {
 
 /// The kept edges, and an order of the nodes in which each of them goes forward.
 ///
-/// Nodes are numbered in the order in which they were placed, from 0, and there are at most 65,536. The ranks
-/// are the numbers below the count of nodes, each once. Contracts see the edges, the ranks by node, and the
-/// visits and rounds of the `Walk` by which alone the edges are read.
+/// Nodes are numbered in the order in which they were placed, from 0, and there are at most 65,536.
+/// The ranks are the numbers below the count of nodes, each once. Contracts see the edges, the
+/// ranks by node, and the visits and rounds of the `Walk` by which alone the edges are read.
 #[derive(Drop)]
 pub struct Ranks {
     alloc: Global,
@@ -122,7 +124,7 @@ impl Ranks {
         self.order.rank(one) < self.order.rank(other)
     }
 
-    /// The nodes by rank, from rank 0. The only error is want of memory.
+    /// The nodes by rank, from rank 0. The only error is out of memory.
     pub fn order(&self) -> Result<Vec<u32>, AllocError>
         ensures long { IfOk result (λ nodes. length nodes.items ≡ length self.now.ranks) }
         // At each place stands the node of that rank.
@@ -136,18 +138,19 @@ impl Ranks {
 
     /// Places the next node, with an edge from each predecessor and one to each successor.
     ///
-    /// It is placed exactly where no successor reaches a predecessor by kept edges, a node reaching itself. Then
-    /// only the new node and the affected nodes have new ranks: the successors and what they reach, and, from
-    /// the least rank of a successor on, the predecessors and what reaches them. Together these have the old
-    /// ranks of the affected nodes and the new greatest one. Each affected node is visited once, and no other.
-    /// Without successors the node gets the greatest rank, and the call costs the length of its two lists.
+    /// It is placed exactly where no successor reaches a predecessor by kept edges, a node reaching
+    /// itself. Then only the new node and the affected nodes have new ranks: the successors and
+    /// what they reach, and, from the least rank of a successor on, the predecessors and what
+    /// reaches them. Together these have the old ranks of the affected nodes and the new greatest
+    /// one. Each affected node is visited once, and no other. Without successors the node gets the
+    /// greatest rank, and the call costs the length of its two lists.
     ///
     /// A list may name a node twice, which changes nothing in the ranks.
     ///
     /// # Errors
-    /// `Circle` with a path from a successor to a predecessor, and `NoMemory` where memory was refused. After
-    /// either ranks and edges are as they were. `rounds` has grown by one, wrapping, where the node was placed
-    /// and at `Circle`; at `NoMemory` it may also be as it was.
+    /// `Circle` with a path from a successor to a predecessor, and `NoMemory` where memory was
+    /// refused. After either ranks and edges are as they were. `rounds` has grown by one, wrapping,
+    /// where the node was placed and at `Circle`; at `NoMemory` it may also be as it was.
     pub fn place(&mut self, preds: &[u32], succs: &[u32]) -> Result<Placed, Refused>
         requires preds { All (λ p. p < length self.old.ranks) preds.now }
         requires succs { All (λ s. s < length self.old.ranks) succs.now }

@@ -1,8 +1,9 @@
 //! The search for the nodes that a placement affects, in passes over the ranks.
 //!
-//! The ranks respect the kept edges. So a pass by rising rank over the nodes found from the successors meets
-//! each of them after all that lead to it, and a pass by falling rank over those found from the predecessors
-//! meets each before all that lead to it. Neither pass needs a worklist, and each node is visited once.
+//! The ranks respect the kept edges. So a pass by rising rank over the nodes found from the
+//! successors meets each of them after all that lead to it, and a pass by falling rank over those
+//! found from the predecessors meets each before all that lead to it. Neither pass needs a
+//! worklist, and each node is visited once.
 ghost use Rattle.std.specs.Prelude.{◌≡◌, ◌≢◌, ◌↔◌, ℕ, ◌+◌, ◌-◌, ◌<◌, List, [], ◌≤◌, ◌*◌, ◌++◌, length, reverse};
 ghost use Rattle.std.specs.Prelude.{slice_index, slice_index_or, IsTrue, IfOk, IfErr, OnErr, MatchOption};
 ghost use Rattle.std.specs.List.{All, Contains};
@@ -47,7 +48,8 @@ impl Mark {
     }
 }
 
-/// The affected nodes: a mark for each rank from `low` up, and how many of the visits were made forward.
+/// The affected nodes: a mark for each rank from `low` up, and how many of the visits were made
+/// forward.
 #[derive(Drop)]
 pub struct Found {
     pub low: usize,
@@ -174,8 +176,8 @@ fn sweep_forward(walk: &mut Walk, order: &Order, low: usize, succs: &[u32], mark
     }
 }
 
-/// Marks what reaches the predecessors by edges from rank `low` up, and visits just those nodes, by falling rank.
-/// No predecessor was found forward.
+/// Marks what reaches the predecessors by edges from rank `low` up, and visits just those nodes, by
+/// falling rank. No predecessor was found forward.
 fn sweep_backward(walk: &mut Walk, order: &Order, low: usize, preds: &[u32], marks: &mut [Mark])
     requires ordered { IsOrder walk.old.edges order.now.ranks }
     requires inverse { IsInverse order.now.nodes order.now.ranks }

@@ -2,18 +2,20 @@
 //!
 //! # Memory
 //!
-//! An order keeper takes at most 80 bytes a node and 16 an edge, both directions together and the allocator's
-//! own aside. A node has 48 bytes: 32 for its list and the count of its predecessors here, two places of 4 in the
-//! list of visits, and a place of 4 in either table of the order. A full table grows by a quarter and one, so it
-//! has room for at most five quarters of its items and one more, and the 48 bytes become 60. An edge has 4 bytes
-//! in the list of either end. A list has room for at most twice its neighbours, which makes the 8 bytes 16, or for
-//! four, which are 16 bytes more a node: so it begins, and a full one becomes twice as long. The list of a
-//! successor becomes so where it has room for one alone, since a successor may be a predecessor too. Where one
-//! call names an edge twice, both mentions count.
+//! An order keeper takes at most 80 bytes a node and 16 an edge, both directions together and the
+//! allocator's own aside. A node has 48 bytes: 32 for its list and the count of its predecessors
+//! here, two places of 4 in the list of visits, and a place of 4 in either table of the order. A
+//! full table grows by a quarter and one, so it has room for at most five quarters of its items and
+//! one more, and the 48 bytes become 60. An edge has 4 bytes in the list of either end. A list has
+//! room for at most twice its neighbours, which makes the 8 bytes 16, or for four, which are 16
+//! bytes more a node: so it begins, and a full one becomes twice as long. The list of a successor
+//! becomes so where it has room for one alone, since a successor may be a predecessor too. Where
+//! one call names an edge twice, both mentions count.
 //!
-//! Beyond this are some 200 bytes for each keeper, room that a refused placement made in vain, and, until a
-//! call returns, the marks of a placement with successors, 8 bytes for each rank from the least of theirs on,
-//! the path that `Circle` gives, and the old block of a table or a list that grows.
+//! Beyond this are some 200 bytes for each keeper, room that a refused placement made in vain, and,
+//! until a call returns, the marks of a placement with successors, 8 bytes for each rank from the
+//! least of theirs on, the path that `Circle` gives, and the old block of a table or a list that
+//! grows.
 ghost use Rattle.std.specs.Prelude.{◌≡◌, ◌<◌, ◌≤◌, ◌+◌, ◌*◌, ◌%◌, ◌-◌, ◌^◌, ◌↔◌, ◌++◌, ℕ, [], ◌∷◌, length};
 ghost use Rattle.std.specs.Prelude.{slice_index_or, max, ◌/◌, vec_len, vec_capacity, IsTrue, OnOk, OnErr};
 ghost use Rattle.std.specs.List.{All, Contains};
@@ -28,8 +30,9 @@ use std::marker::Model;
 
 /// A graph whose edges are read node by node, by visits that it lists.
 ///
-/// Nodes are numbers from 0 in the order in which they were added. A round begins with `begin`, and each read
-/// of a node's edges after it, in either direction, puts the node at the end of the list of visits.
+/// Nodes are numbers from 0 in the order in which they were added. A round begins with `begin`, and
+/// each read of a node's edges after it, in either direction, puts the node at the end of the list
+/// of visits.
 #[derive(Drop)]
 pub struct Walk {
     alloc: Global,
@@ -72,8 +75,8 @@ impl Walk {
         }
     }
 
-    /// Begins a round: makes room in the list of visits for two visits of each node, empties it, and adds one to
-    /// `rounds`, wrapping. After want of memory, the only error, all is as it was.
+    /// Begins a round: makes room in the list of visits for two visits of each node, empties it,
+    /// and adds one to `rounds`, wrapping. Out of memory, the only error, leaves all as it was.
     pub fn begin(&mut self) -> Result<(), AllocError>
         requires { length self.old.edges ≤ 65536 }
         ensures edges { self.new.edges ≡ self.old.edges }
@@ -120,8 +123,8 @@ impl Walk {
         self.nodes.is_empty()
     }
 
-    /// Adds the next node, with an edge from each of `preds` and one to each of `succs`. The visits stay. After
-    /// want of memory, the only error, all is as it was.
+    /// Adds the next node, with an edge from each of `preds` and one to each of `succs`. The visits
+    /// stay. Out of memory, the only error, leaves all as it was.
     pub fn add(&mut self, preds: &[u32], succs: &[u32]) -> Result<(), AllocError>
         requires preds { All (λ p. p < length self.old.edges) preds.now }
         requires succs { All (λ s. s < length self.old.edges) succs.now }
@@ -135,8 +138,8 @@ impl Walk {
         grow(self.alloc, &mut self.nodes, preds, succs)
     }
 
-    /// The nodes that an edge leads to from `node`, which is put at the end of the list of visits. The list is
-    /// shorter than the room that `begin` made. Takes no memory.
+    /// The nodes that an edge leads to from `node`, which is put at the end of the list of visits.
+    /// The list is shorter than the room that `begin` made. Takes no memory.
     pub fn forward(&mut self, node: u32) -> &[u32]
         requires placed { node < length self.old.edges }
         requires room { length self.old.visits < self.old.room }
@@ -147,8 +150,8 @@ impl Walk {
         self.nodes[node as usize].outgoing()
     }
 
-    /// The nodes that an edge leads from to `node`, which is put at the end of the list of visits. The list is
-    /// shorter than the room that `begin` made. Takes no memory.
+    /// The nodes that an edge leads from to `node`, which is put at the end of the list of visits.
+    /// The list is shorter than the room that `begin` made. Takes no memory.
     pub fn backward(&mut self, node: u32) -> &[u32]
         requires placed { node < length self.old.edges }
         requires room { length self.old.visits < self.old.room }
@@ -182,8 +185,8 @@ fn grow(
     Ok(())
 }
 
-/// Makes room for one node more, for one neighbour more of each predecessor, and for two of each successor,
-/// which may be a predecessor too.
+/// Makes room for one node more, for one neighbour more of each predecessor, and for two of each
+/// successor, which may be a predecessor too.
 fn prepare(nodes: &mut Vec<Node>, preds: &[u32], succs: &[u32]) -> Result<(), AllocError>
     requires preds { All (λ p. p < length nodes.old.items) preds.now }
     requires succs { All (λ s. s < length nodes.old.items) succs.now }

@@ -6,6 +6,7 @@ use Rattle.rv_event.specs.declared.reason.Reason.{Reason}
 use Rattle.rv_cert.specs.Certificates.{start_of}
 use Rattle.rv_report.specs.Texts.{edge_line, edge_lines, circle_lines}
 
+-- one line more of a circle
 pub edge_more : (start now next : List ℕ) (rest after all : List (Id × Reason)) (step : Id × Reason) (to end : Id)
     → now ++ edge_lines rest end ≡ start ++ edge_lines all end
     → rest ≡ step ∷ after → to ≡ start_of after end → next ≡ now ++ edge_line step.0 step.1 to
@@ -14,6 +15,7 @@ unfolding edge_lines
 edge_more start now next rest after all step to end h e t n =
     rw (n, t) (append_assoc now (edge_line step.0 step.1 (start_of after end)) (edge_lines after end) ∙ rw e at h)
 
+-- all its lines
 pub edges_done : (start now : List ℕ) (rest all : List (Id × Reason)) (first : Id × Reason)
     (after : List (Id × Reason)) (end : Id)
     → now ++ edge_lines rest end ≡ start ++ edge_lines all end → length rest ≡ 0 → all ≡ first ∷ after → end ≡ first.0

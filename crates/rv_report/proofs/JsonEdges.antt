@@ -8,6 +8,7 @@ use Rattle.rv_event.specs.declared.reason.Reason.{Reason}
 use Rattle.rv_cert.specs.Certificates.{start_of}
 use Rattle.rv_report.specs.JsonData.{edge_data, walk_data, edges_data}
 
+-- one edge more of a circle's JSON
 pub data_more : (now next : List Value) (v : Value) (rest after all : List (Id × Reason)) (step : Id × Reason)
     (to end : Id)
     → map view now ++ walk_data rest end ≡ walk_data all end
@@ -19,6 +20,7 @@ data_more now next v rest after all step to end h e t w n =
     rw (n, map-append view now (v ∷ []), one)
     (append_assoc (map view now) (edge_data step.0 step.1 (start_of after end) ∷ []) (walk_data after end) ∙ rw e at h)
 
+-- all its edges
 pub data_done : (now : List Value) (rest all : List (Id × Reason)) (first : Id × Reason)
     (after : List (Id × Reason)) (end : Id)
     → map view now ++ walk_data rest end ≡ walk_data all end → length rest ≡ 0 → all ≡ first ∷ after → end ≡ first.0

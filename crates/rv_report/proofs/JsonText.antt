@@ -40,7 +40,8 @@ unfolding serde_json_on_literals
 stale_text a b = simp append_assoc
 
 malformed_text : (n f : ℕ) (a b : List ℕ)
-    → compact_text (object (member (codes "after") (whole_number n) (member (codes "event") (string a) (member (codes "fault") (whole_number f)
+    → compact_text (object (member (codes "after") (whole_number n) (member (codes "event") (string a) (member
+    (codes "fault") (whole_number f)
     (member (codes "outcome") (string (codes "malformed")) (member (codes "text") (string b) no_members))))))
     ≡ malformed_json n (escape a) f (escape b)
 unfolding serde_json_on_literals
@@ -66,13 +67,15 @@ edge_law from reason to =
     ∙ ap (λ (z : List ℕ). edge_json (id_text from) (reason_text reason) z) (escape_id to)
 
 walk_law : (later : Bool) (step : Id × Reason) (rest : List (Id × Reason)) (end : Id)
-    → items_text later (items_of (walk_data (step ∷ rest) end)) ≡ comma_if later ++ (walk_json (step ∷ rest) end ++ codes "]")
+    → items_text later (items_of (walk_data (step ∷ rest) end)) ≡ comma_if later ++ (walk_json (step ∷ rest)
+    end ++ codes "]")
 unfolding walk_data walk_json
 walk_law later step [] end = ap (λ (x : List ℕ). comma_if later ++ (x ++ codes "]")) (edge_law step.0 step.1 end)
 walk_law later step (next ∷ rest) end =
     ap₂ (λ (x y : List ℕ). comma_if later ++ (x ++ y)) (edge_law step.0 step.1 next.0) (walk_law true next rest end)
     ∙ ap (λ (x : List ℕ). comma_if later ++ x)
-    (sym (append_assoc (edge_json (id_text step.0) (reason_text step.1) (id_text next.0)) (codes "," ++ walk_json (next ∷ rest) end) (codes "]")))
+    (sym (append_assoc (edge_json (id_text step.0) (reason_text step.1) (id_text next.0)) (codes "," ++
+    walk_json (next ∷ rest) end) (codes "]")))
 
 circle_law : (steps : List (Id × Reason)) → compact_text (circle_data (edges_data steps)) ≡ circle_json
     (edges_json steps)
@@ -81,7 +84,8 @@ circle_law [] = refl
 circle_law (step ∷ rest) =
     circle_text (items_of (walk_data (step ∷ rest) step.0))
     ∙ ap (λ (x : List ℕ). codes "{\"circle\":[" ++ (x ++ codes "}")) (walk_law false step rest step.0)
-    ∙ ap (λ (x : List ℕ). codes "{\"circle\":[" ++ x) (append_assoc (walk_json (step ∷ rest) step.0) (codes "]") (codes "}"))
+    ∙ ap (λ (x : List ℕ). codes "{\"circle\":[" ++ x) (append_assoc (walk_json (step ∷ rest) step.0) (codes
+    "]") (codes "}"))
 
 certificate_law : (c : Certificate) → compact_text (certificate_data c) ≡ certificate_json c
 certificate_law (certificate.Circle steps) = circle_law steps
@@ -112,6 +116,7 @@ certificate_has_no_float (certificate.Circle []) = refl
 certificate_has_no_float (certificate.Circle (step ∷ rest)) = rw (walk_has_no_float (step ∷ rest) step.0) refl
 certificate_has_no_float (certificate.Stale load store) = refl
 
+-- a report has no float
 pub data_has_no_float : (o : Outcome) → has_float (report_data o) ≡ false
 data_has_no_float (outcome.Allowed e o w) = refl
 data_has_no_float (outcome.Forbidden f) = rw (certificate_has_no_float f.certificate) refl

@@ -5,6 +5,7 @@ use Rattle.std.proofs.lemmas.List.{take_all}
 use Rattle.std.proofs.Math.Seq.{take-add}
 use Rattle.std.specs.Io.KnownBytes.{Appends}
 
+-- a text and one behind it
 pub Appends-trans : (a b c : Option (List ℕ)) (xs ys zs : List ℕ)
     → Appends a b xs → Appends b c ys → xs ++ ys ≡ zs → Appends a c zs
 Appends-trans None b c xs ys zs h k e = tt
@@ -16,12 +17,14 @@ Appends-trans (Some x) (Some y) (Some z) xs ys zs h k e =
 rest_whole : (text : List ℕ) (at : ℕ) → take (length text - at) (drop at text) ≡ drop at text
 rest_whole text at = let l = length-drop at text in take_all (length text - at) (drop at text) (omega arith)
 
+-- a piece of a text ends inside it
 pub piece_bound : (text : List ℕ) (at count : ℕ)
     → at ≤ length text → count ≤ length (take (length text - at) (drop at text)) → at + count ≤ length text
 piece_bound text at count h k =
     let l = length-drop at text in
     let j = rw (rest_whole text at) at k in omega arith
 
+-- one piece more
 pub piece_more : (text : List ℕ) (at count : ℕ)
     → take at text ++ take count (take (length text - at) (drop at text)) ≡ take (at + count) text
 piece_more text at count = rw (rest_whole text at) (sym (take-add at count text))

@@ -91,14 +91,18 @@ last_plain : (o : Option Entry) → are_plain (unwrap_or (option_map (λ x. id_t
 last_plain None = refl
 last_plain (Some x) = id_plain x.event.id
 
+-- an id needs no escape
 pub escape_id : (i : Id) → escape (id_text i) ≡ id_text i
 escape_id i = escape_of_plain (id_text i) (id_plain i)
 
+-- nor does a reason
 pub escape_reason : (r : Reason) → escape (reason_text r) ≡ reason_text r
 escape_reason r = escape_of_plain (reason_text r) (reason_plain r)
 
+-- nor a fault
 pub escape_fault : (f : Fault) → escape (fault_text f) ≡ fault_text f
 escape_fault f = escape_of_plain (fault_text f) (fault_plain f)
 
+-- nor a refused event
 pub escape_refused : (log : List Entry) → escape (refused_text log) ≡ refused_text log
 escape_refused log = escape_of_plain (refused_text log) (last_plain (last_or None log))

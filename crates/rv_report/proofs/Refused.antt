@@ -11,6 +11,7 @@ last_or-append : (o : Option Entry) (front : List Entry) (x : Entry) → last_or
 last_or-append o [] x = refl
 last_or-append o (y ∷ front) x = last_or-append (Some y) front x
 
+-- the refused event is the last
 pub refused_text_of_last : (log : List Entry) (i : Id) → LastIs log i → refused_text log ≡ id_text i
 refused_text_of_last log i h =
     ap (λ (l : List Entry). refused_text l) h.whole

@@ -1,4 +1,5 @@
--- The report of an outcome as compact JSON: one object, its keys in ascending order. The format is this project's own.
+-- The report of an outcome as compact JSON: one object, its keys in ascending order. The format is
+-- this project's own.
 use Rattle.std.specs.Prelude.{ℕ, List, [], ◌∷◌, codes, decimal}
 use Rattle.rv_event.specs.Texts.{◌⋯◌, id_text, reason_text, fault_text, fault_number}
 use Rattle.rv_event.specs.declared.event.Id.{Id}

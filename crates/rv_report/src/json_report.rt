@@ -158,8 +158,8 @@ fn value_of(alloc: Global, outcome: &Outcome) -> Result<Value, AllocError>
     }
 }
 
-/// The report of an outcome as a JSON value: one object, its keys in ascending order and its numbers whole. So its
-/// `to_string` is exactly the compact text.
+/// The report of an outcome as a JSON value: one object, its keys in ascending order and its
+/// numbers whole. So its `to_string` is exactly the compact text.
 ///
 /// # Errors
 /// `NoMemory` where a part of it could not be had; the outcome stays as it is.
@@ -185,8 +185,8 @@ fn line_of(alloc: Global, outcome: &Outcome) -> Result<String, NoMemory>
 /// Writes the compact text of the JSON report, and one line feed.
 ///
 /// # Errors
-/// - `Write` where the writer failed or took no byte: it then has a part of the text, from its first byte on. A failed
-///   write is not tried again.
+/// - `Write` where the writer failed or took no byte: it then has a part of the text, from its
+///   first byte on. A failed write is not tried again.
 /// - `NoMemory` where the text could not be had: the writer is then as it was.
 pub fn report_json_line<W: Write>(
     alloc: Global,

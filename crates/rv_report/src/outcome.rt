@@ -6,7 +6,8 @@ use rv_cert::{Forbidden, Malformed, Verdict};
 use rv_event::NoMemory;
 use std::alloc::Global;
 
-/// What came of a trace: each event was accepted, or the first that was not is shown with the cause.
+/// What came of a trace: each event was accepted, or the first that was not is shown with the
+/// cause.
 ///
 /// The refusals are held as they are, since what they say of their log is kept by their types.
 #[derive(Drop, Debug)]

@@ -95,8 +95,8 @@ fn text_of(alloc: Global, outcome: &Outcome) -> Result<String, NoMemory>
 /// Writes the report of an outcome, each line with its line feed.
 ///
 /// # Errors
-/// - `Write` where the writer failed or took no byte: it then has a part of the text, from its first byte on. A failed
-///   write is not tried again.
+/// - `Write` where the writer failed or took no byte: it then has a part of the text, from its
+///   first byte on. A failed write is not tried again.
 /// - `NoMemory` where the text could not be had: the writer is then as it was.
 pub fn report<W: Write>(alloc: Global, writer: &mut W, outcome: &Outcome) -> Result<(), ReportFault>
     ensures written { OnOk result

@@ -10,10 +10,12 @@ use Rattle.std.proofs.Math.Seq.{take-length, drop-append_seam}
 use Rattle.rv_rows.specs.Flat.{part_at, shifted, row_at, rows_of, IsWithin, AreLaid}
 use Rattle.rv_rows.specs.declared.rows.Place.{Place}
 
+-- rows are read one by one
 pub rows_are : (words : List ℕ) (places : List Place) → rows_of words places ≡ map (row_at words) places
 unfolding rows_of
 rows_are words places = refl
 
+-- as many as there are places
 pub rows_count : (words : List ℕ) (places : List Place) → length (rows_of words places) ≡ length places
 rows_count words places = ap (λ (rs : List (List ℕ)). length rs) (rows_are words places) ∙
     length-map places (row_at words)
@@ -55,6 +57,7 @@ part_stays words more p low =
     ap (λ (xs : List ℕ). take p.count xs) (drop-append-le p.start words more (omega arith))
     ∙ take-append-le p.count (drop p.start words) more (omega (arith, length-drop p.start words))
 
+-- words that are added leave the rows
 pub rows_stay : (words more : List ℕ) (places : List Place) →
     ((k : ℕ) (d : Place) → k < length places → (get_or places k d).start + (get_or places k d).count ≤ length words)
     → map (row_at (words ++ more)) places ≡ map (row_at words) places
@@ -143,6 +146,7 @@ rows_less words front last rows row laid is =
       length-map front (row_at words),
     )
 
+-- the rows without the last one
 pub laid_less : (words : List ℕ) (front : List Place) (last : Place) → AreLaid words (front ++ last ∷ []) →
     AreLaid (take last.start words) front
 laid_less words front last laid = record {

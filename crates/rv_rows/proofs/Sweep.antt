@@ -17,6 +17,7 @@ pub record Swept (rows : List (List ℕ)) (first left : List ℕ) (listed : List
   pub unsplit : (a c : ℕ) → Contains listed a → Has first c → c ≢ a → RowHas rows c a → ⊥
   pub apart : (b j : ℕ) → Contains listed b → RowHas rows b j → Has left j → ⊥
 
+-- a sweep with nothing left is done
 pub swept-done : (rows : List (List ℕ)) (first left listed : List ℕ) (top : ℕ) → Swept rows first left listed top →
     IsHighest left None → IsThinned rows first listed
 swept-done rows first left listed top s none = record {
@@ -29,6 +30,7 @@ swept-done rows first left listed top s none = record {
     go a (inl h) = absurd (false≢true (sym (none a) ∙ h))
     go a (inr r) = r
 
+-- a sweep begins with all candidates
 pub swept-init : (rows : List (List ℕ)) (first : List ℕ) (top : ℕ) → ((b : ℕ) → Has first b → b < top) →
     Swept rows first first [] top
 swept-init rows first top low = record {
@@ -135,6 +137,7 @@ module _ (rows : List (List ℕ)) (first left left' listed : List ℕ) (top b : 
       go (inl old) = s.only a old
       go (inr is) = subst (Has first) is (s.sub b highest.1)
 
+  -- a step takes the highest
   pub swept-step : Swept rows first left' (listed ++ b ∷ []) b
   swept-step = record {
     low = low';
@@ -158,6 +161,7 @@ module _ (rows : List (List ℕ)) (first : List ℕ) (closed : IsClosed rows)
       (rest-thins steps.0 (listed ++ n ∷ []) rest n
       (swept-step rows first left steps.0 listed top n closed own s steps.1.0 steps.1.1) steps.2)
 
+  -- so the steps of a sweep thin the candidates
   pub sweeps : (taken : List ℕ) → IsSwept rows first taken → IsThinned rows first taken
   sweeps [] none =
       let low : (b : ℕ) → Has first b → b < 0 = λ b h. absurd (false≢true (sym (none b) ∙ h)) in
@@ -176,6 +180,7 @@ module _ (rows : List (List ℕ)) (first : List ℕ) (closed : IsClosed rows)
 abbrev pub Gathers : List (List ℕ) → List ℕ → List ℕ → List ℕ → Type 0
 Gathers rows base taken row = (j : ℕ) → Has row j ↔ (Has base j ⊎ IsReached rows taken j)
 
+-- before the first step nothing was joined
 pub gathers-none : (rows : List (List ℕ)) (row : List ℕ) → Gathers rows row [] row
 gathers-none rows row j = (
   λ h. inl h,
@@ -183,6 +188,7 @@ gathers-none rows row j = (
       [ inl h ↦ h | inr r ↦ absurd (let c = r.is_taken in let low = c.1 in omega arith) ],
 )
 
+-- a step joins one row more
 pub gathers-step : (rows : List (List ℕ)) (base taken row row' : List ℕ) (b : ℕ) → Gathers rows base taken row →
     ((j : ℕ) → has_bit row' j ≡ (has_bit row j || has_bit (slice_index_or rows b []) j)) →
     Gathers rows base (taken ++ b ∷ []) row'

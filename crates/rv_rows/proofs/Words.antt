@@ -36,12 +36,14 @@ less_is (suc (suc x)) y p q = absurd (omega arith)
 abbrev word : List ℕ → ℕ → ℕ
 word xs i = get_or xs (i / 64) 0
 
+-- a bit of two words joined
 pub has-or : (new a b : List ℕ) (i : ℕ) → word new i ≡ bit_or (word a i) (word b i) →
     has_bit new i ≡ (has_bit a i || has_bit b i)
 has-or new a b i e =
     ap (λ x. bit_at x (i % 64) == 1) e ∙ ap (λ x. x == 1) (bit_at_or (word a i) (word b i) (i % 64)) ∙
     or_is _ _ (bit_at-lt (word a i) (i % 64)) (bit_at-lt (word b i) (i % 64))
 
+-- a bit of a word less another
 pub has-less : (new a b : List ℕ) (i : ℕ) → word b i < 2 ^ 64 → word new i ≡ bit_and (word a i)
     (bit_not w64 (word b i)) → has_bit new i ≡ (has_bit a i && not (has_bit b i))
 has-less new a b i fits e =
@@ -57,6 +59,7 @@ or_true : (b : Bool) → true ≡ (b || true)
 or_true true = refl
 or_true false = refl
 
+-- a bit of a word in which one was set
 pub has-set : (words : List ℕ) (i j : ℕ) → i / 64 < length words →
     has_bit (set words (i / 64) (bit_or (word words i) (1 * 2 ^ (i % 64) % 2 ^ 64))) j ≡ (has_bit words j || (i == j))
 has-set words i j within = go (cases_eq i j) (cases_eq (j / 64) (i / 64))
@@ -121,8 +124,8 @@ has-top words k n pos fits above is =
     (omega (arith, is, (leading_top 64 (get_or words k 0) pos fits).1))
     (omega (arith, (leading_top 64 (get_or words k 0) pos fits).1))
 
--- where all numbers are below the limit, and the words from k up to the limit are empty, no number is in word k or
--- later
+-- where all numbers are below the limit, and the words from k up to the limit are empty, no number
+-- is in word k or later
 pub none_above : (words : List ℕ) (limit start k : ℕ) → limit ≤ start * 64 → ((j : ℕ) → Has words j → j < limit) →
     ((j : ℕ) → k ≤ j → j < start → get_or words j 0 ≡ 0) → (j : ℕ) → k ≤ j / 64 → has_bit words j ≡ false
 none_above words limit start k enough below empty j high = go (cases_lt (j / 64) start)
@@ -138,6 +141,7 @@ none_above words limit start k enough below empty j high = go (cases_lt (j / 64)
 abbrev zeros : List ℕ
 zeros = replicate 64 0
 
+-- words of nothing
 pub zero_words : (k : ℕ) → get_or zeros k 0 ≡ 0
 zero_words k = go (cases_lt k 64)
   where
@@ -244,8 +248,8 @@ used_bits words part low high first between least is i =
         ∙ get_or-drop first words (i / 64 - first) 0
         ∙ ap (λ k. get_or words k 0) at
 
--- where all numbers are below the limit, and the words from k up to the limit or the end are empty, none is in word k
--- or later
+-- where all numbers are below the limit, and the words from k up to the limit or the end are empty,
+-- none is in word k or later
 pub none_from : (words : List ℕ) (low high limit top start k : ℕ) → IsBetween words low high → limit ≤ top * 64 →
     start ≡ min top high → ((j : ℕ) → Has words j → j < limit)
     → ((j : ℕ) → k ≤ j → j < start → get_or words j 0 ≡ 0) → (j : ℕ) → k ≤ j / 64 → has_bit words j ≡ false

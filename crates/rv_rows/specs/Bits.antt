@@ -27,7 +27,8 @@ pub record IsFirst (words : List ℕ) (place : ℕ) : Type 0 where
   pub before : (k : ℕ) → k < place → slice_index_or words k 0 ≡ 0
   pub used : place < 64 → 0 < slice_index_or words place 0
 
--- there are at most 64 words, those from the place on are empty, and the one before it is not; 0 where all are empty
+-- there are at most 64 words, those from the place on are empty, and the one before it is not; 0
+-- where all are empty
 pub record IsEnd (words : List ℕ) (place : ℕ) : Type 0 where
   pub few : place ≤ 64
   pub after : (k : ℕ) → place ≤ k → slice_index_or words k 0 ≡ 0

@@ -11,7 +11,8 @@ pub record IsClosed (rows : List (List ℕ)) : Type 0 where
   pub below : (b j : ℕ) → RowHas rows b j → j ≤ b
   pub closed : (b c j : ℕ) → RowHas rows b c → RowHas rows c j → RowHas rows b j
 
--- the highest number of the set was taken out of it, with all that its row has; none, where the set is empty
+-- the highest number of the set was taken out of it, with all that its row has; none, where the set
+-- is empty
 abbrev pub IsTaken : List (List ℕ) → List ℕ → Option ℕ → List ℕ → Type 0
 IsTaken rows old (Some n) new =
     IsHighest old (Some n) × ((j : ℕ) → has_bit new j ≡ (has_bit old j && not (has_bit (slice_index_or rows n []) j)))
@@ -23,8 +24,8 @@ pub record IsReached (rows : List (List ℕ)) (taken : List ℕ) (j : ℕ) : Typ
   pub is_taken : Contains taken b
   pub has : RowHas rows b j
 
--- the candidates that stand in no other candidate's row were taken, and each candidate stands in the row of one of
--- these
+-- the candidates that stand in no other candidate's row were taken, and each candidate stands in
+-- the row of one of these
 pub record IsThinned (rows : List (List ℕ)) (candidates taken : List ℕ) : Type 0 where
   pub only : (b : ℕ) → Contains taken b → Has candidates b
   pub each : (a : ℕ) → Has candidates a → IsReached rows taken a

@@ -1,4 +1,5 @@
--- Rows one after the other in one list of words, each without the empty words before its first and after its last.
+-- Rows one after the other in one list of words, each without the empty words before its first and
+-- after its last.
 use Rattle.std.specs.Prelude.{ℕ, ◌≡◌, ◌≤◌, ◌+◌, ◌++◌, ◌∷◌, [], List, length, take, drop, map, replicate, All}
 use Rattle.std.specs.List.{AllPairs}
 use Rattle.rv_rows.specs.Bits.{has_bit}

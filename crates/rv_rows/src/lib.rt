@@ -1,17 +1,19 @@
-//! Sets of the numbers below 4,096 as rows of bits, and the sweep that thins candidates by such rows.
+//! Sets of the numbers below 4,096 as rows of bits, and the sweep that thins candidates by such
+//! rows.
 //!
-//! The events of a hart have the numbers below 4,096. So one [`Row`] holds all events of a hart that lead to an event,
-//! and sets are joined and subtracted 64 numbers at a time. A sweep of [`take_highest`] takes those of a set of
-//! candidates from which no other candidate leads on: the links that remain where all others follow.
+//! The events of a hart have the numbers below 4,096. So one [`Row`] holds all events of a hart
+//! that lead to an event, and sets are joined and subtracted 64 numbers at a time. A sweep of
+//! [`take_highest`] takes those of a set of candidates from which no other candidate leads on: the
+//! links that remain where all others follow.
 //!
 //! - `row`: a set of numbers. `rows`: many, kept one after the other in one list of words.
 //! - `thinning`: a step of the sweep.
 //! - `laws`: what the steps of a whole sweep take.
-//! - `specs/`: what a row has (`Bits`), how rows lie one after the other (`Flat`), what a step of a sweep takes, and when
-//!   candidates are thinned (`Closure`), the law (`Laws`).
+//! - `specs/`: what a row has (`Bits`), how rows lie one after the other (`Flat`), what a step of a
+//!   sweep takes, and when candidates are thinned (`Closure`), the law (`Laws`).
 //!
-//! It stands on std alone. Its one contract to the others: a step takes the highest candidate, with all that its row has;
-//! and the steps of a whole sweep over closed rows thin the candidates.
+//! It stands on std alone. Its one contract to the others: a step takes the highest candidate, with
+//! all that its row has; and the steps of a whole sweep over closed rows thin the candidates.
 #![tactic(auto)]
 
 mod laws;

@@ -7,8 +7,9 @@ use std::marker::Model;
 
 /// A set of numbers below 4,096. It takes 528 bytes and no memory of the allocator.
 ///
-/// Contracts see it as its words, and read it with `has_bit`. Its type keeps that `low` is the place of the first word that
-/// is not 0, and that `high` is the place behind the last one, so that a small set costs few steps.
+/// Contracts see it as its words, and read it with `has_bit`. Its type keeps that `low` is the
+/// place of the first word that is not 0, and that `high` is the place behind the last one, so that
+/// a small set costs few steps.
 #[derive(Drop)]
 pub struct Row {
     words: [u64; 64],
@@ -58,8 +59,8 @@ impl Row {
         self.high = high;
     }
 
-    /// Puts in all that the other set has. It costs a step for each word of the other set from its first number to its
-    /// last.
+    /// Puts in all that the other set has. It costs a step for each word of the other set from its
+    /// first number to its last.
     pub fn join(&mut self, other: &Row)
         ensures { (j : ℕ) → has_bit self.new j ≡ (has_bit self.old j || has_bit other.now j) }
     {
@@ -103,7 +104,8 @@ impl Row {
         self.high = high;
     }
 
-    /// The words that have the set's numbers, and the place of the first of them; none of an empty set.
+    /// The words that have the set's numbers, and the place of the first of them; none of an empty
+    /// set.
     pub(crate) fn used(&self) -> (usize, &[u64])
         ensures within { result.0 + length result.1.now ≤ 64 }
         ensures same { (j : ℕ) → has_bit (shifted result.0 result.1.now) j ≡ has_bit self.now j }
@@ -112,8 +114,8 @@ impl Row {
         (first, &self.words[first..self.high])
     }
 
-    /// The highest number of a set whose numbers are all below `limit`, and `None` where it is empty. The search begins
-    /// at the limit.
+    /// The highest number of a set whose numbers are all below `limit`, and `None` where it is
+    /// empty. The search begins at the limit.
     pub fn highest_below(&self, limit: usize) -> Option<usize>
         requires limit { limit ≤ 4096 }
         requires below { (j : ℕ) → Has self.now j → j < limit }
@@ -131,8 +133,9 @@ impl Row {
     }
 }
 
-/// The place of the first word that is not 0, 64 where there is none, and the place behind the last one, 0 where there is
-/// none. The search begins at the given places, outside of which all words are 0.
+/// The place of the first word that is not 0, 64 where there is none, and the place behind the last
+/// one, 0 where there is none. The search begins at the given places, outside of which all words
+/// are 0.
 fn ends(words: &[u64; 64], from: usize, to: usize) -> (usize, usize)
     requires { IsBetween words.now from to }
     ensures { AreEnds words.now result.0 result.1 }

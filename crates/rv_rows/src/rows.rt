@@ -19,8 +19,8 @@ pub struct Place {
     pub count: u8,
 }
 
-/// Rows that grow at their end. Row n has numbers up to n alone, and takes 16 bytes, and 8 for each word from the first
-/// to the last of those that are not 0.
+/// Rows that grow at their end. Row n has numbers up to n alone, and takes 16 bytes, and 8 for each
+/// word from the first to the last of those that are not 0.
 ///
 /// Contracts see the list of the rows, each as its words, and read it with `RowHas`.
 #[derive(Drop)]

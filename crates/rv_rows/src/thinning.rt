@@ -6,13 +6,13 @@ ghost use Rattle.rv_rows.specs.Closure.{IsTaken};
 use crate::row::Row;
 use crate::rows::Rows;
 
-/// Takes the highest candidate out, and with it all that its row has; `None` where there is none. `limit` is above each
-/// candidate: the number of rows, or the candidate that was taken before.
+/// Takes the highest candidate out, and with it all that its row has; `None` where there is none.
+/// `limit` is above each candidate: the number of rows, or the candidate that was taken before.
 ///
-/// Where row n is that of the number n, has n and numbers below, and with a number all of that number's row, a sweep that
-/// takes until none is left takes just the candidates that stand in no other candidate's row, the highest first, and
-/// each candidate stands in the row of one that it took. A step costs a search from the limit down and the subtraction
-/// of one row.
+/// Where row n is that of the number n, has n and numbers below, and with a number all of that
+/// number's row, a sweep that takes until none is left takes just the candidates that stand in no
+/// other candidate's row, the highest first, and each candidate stands in the row of one that it
+/// took. A step costs a search from the limit down and the subtraction of one row.
 pub fn take_highest(candidates: &mut Row, rows: &Rows, limit: usize) -> Option<usize>
     requires few { length rows.now ≤ 4096 }
     requires limit { limit ≤ length rows.now }

@@ -10,6 +10,7 @@ use Rattle.rv_event.specs.declared.event.Event.{Event}
 use Rattle.rv_event.specs.declared.event.Entry.{Entry}
 use Rattle.rv_book.specs.Chunked.{given_by}
 
+-- what a source has given to two logs in a row
 pub given-append : (source : ℕ) (front back : List Entry) → given_by source (front ++ back) ≡ given_by source front ++
     given_by source back
 given-append source front back =

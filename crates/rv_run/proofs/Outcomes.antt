@@ -30,9 +30,9 @@ use Rattle.rv_run.specs.declared.fault.RunFault.TheVariants as fault
 use Rattle.rv_run.specs.declared.feeding.Fed.{Fed}
 use Rattle.rv_run.specs.declared.feeding.FeedEnd.{FeedEnd}
 use Rattle.rv_run.specs.declared.feeding.FeedEnd.TheVariants as end
-use Rattle.rv_run.proofs.Exact.{continued, exactly_allowed}
-use Rattle.rv_run.proofs.Merging.{goes-on, low-together, merge-of, together}
-use Rattle.rv_run.proofs.Weighing.{length-merge, operations-merge, waiting-merge}
+use Rattle.rv_run.proofs.InconsistentRefusals.{continued, exactly_allowed}
+use Rattle.rv_run.proofs.Merges.{goes-on, low-together, merge-of, together}
+use Rattle.rv_run.proofs.MergeCounts.{length-merge, operations-merge, waiting-merge}
 
 -- sources that end whole, with these events
 pub read-all :
@@ -51,6 +51,7 @@ read-all from (s ∷ streams) (es ∷ ess) long each = (
       (λ k low. each (suc k) (omega (arith, low))),
 )
 
+-- the entries are those of the sources, whose bytes are known
 pub record IsReadOf (from : ℕ) (streams : List (Option Stream)) (entries : List Entry) : Type 0 where
   pub ess : List (List Event)
   pub long : length ess ≡ length streams
@@ -64,6 +65,7 @@ all-of-more :
 all-of-more s streams es ess here more zero low = here
 all-of-more s streams es ess here more (suc k) low = more k (omega (arith, low))
 
+-- entries that were read whole are such
 pub read-of : (from : ℕ) (streams : List (Option Stream)) (entries : List Entry) → HasReadAll from streams entries →
     IsReadOf from streams entries
 read-of from [] entries read = record {
@@ -184,6 +186,7 @@ final-refutes model streams f entries known told read ok =
     let longer = consistent-merge model entries (f.evidence ++ on.0) on.1 ok in
     told.3 (f.evidence ++ on.0) longer.lawful.0 longer.well_formed (continued f.evidence on.0) longer.lawful.1
 
+-- no run is allowed where another is refused
 pub runs-agree :
     (model : MemoryModel) (streams : List (Option Stream)) (one other : Outcome) → All IsSome streams →
     IsTrueOf model streams one → IsTrueOf model streams other →
@@ -220,6 +223,7 @@ run-refused model streams entries (Forbidden f) known read told refused ok =
 run-refused model streams entries (Malformed m) known read told refused ok =
     told.3 known (entries, read, ok.well_formed)
 
+-- no run is allowed where a pass is refused, nor the other way round
 pub passes-agree :
     (model : MemoryModel) (streams : List (Option Stream)) (entries merge : List Entry) (run pass : Outcome) →
     All IsSome streams → HasReadAll 0 streams entries → SameSources entries merge → IsTrueOf model streams run →
@@ -249,6 +253,7 @@ module _ (streams : List (Option Stream)) (fed : List Fed) (any : Fed) (same : l
       (get_or fed i any).events.items
   read-at i low = get_or-map (λ (f : Fed). f.events.items) fed i any [] low
 
+  -- an outcome that agrees with what was read is true of the sources
   pub outcome-true : (model : MemoryModel) (outcome : Outcome) → AgreesWith model fed outcome →
       IsTrueOf model streams outcome
   outcome-true model (Allowed e o w) a =
@@ -267,6 +272,7 @@ module _ (streams : List (Option Stream)) (fed : List Fed) (any : Fed) (same : l
   outcome-true model (Malformed m) a = let part = part-true m.evidence a.1 in
       (a.0, part, a.2, ill-formed streams m.evidence m.fault part a.2)
 
+  -- a fault that a feeder met is one of its source
   pub fault-true : (why : RunFault) → IsFaultIn fed why → IsFaultAmong streams why
   fault-true (fault.Trace source f) told =
       let low : source < length streams = omega (arith, told.low, same) in
@@ -290,6 +296,7 @@ each-of says readers fed same each r i f low =
     subst (λ (s : Option Stream). IsFedOf s (get_or fed i f)) (sym (get_or-map says readers i r None below))
     (each i r f below)
 
+-- so what the threads come to is true of the sources
 pub answer-true :
     {R : Type 0} (says : R → Option Stream) (readers : List R) (fed : List Fed) (model : MemoryModel)
     (a : Result Outcome RunFault) → 0 < length readers →
@@ -303,6 +310,7 @@ answer-true says (r ∷ rs) (f ∷ fs) model (Ok o) some same each a =
     outcome-true (map says (r ∷ rs)) (f ∷ fs) f (same ∙ sym (length-map (r ∷ rs) says))
     (each-of says (r ∷ rs) (f ∷ fs) same each r) model o a
 
+-- and their fault is one of them
 pub answer-fault :
     {R : Type 0} (says : R → Option Stream) (readers : List R) (fed : List Fed) (a : Result Outcome RunFault) →
     0 < length readers →

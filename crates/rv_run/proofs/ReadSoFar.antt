@@ -63,6 +63,7 @@ whole-end : (start now : Option Stream) (es : List Event) → TakesEvents start 
 whole-end start now es taken end s is = subst (λ (o : Option Stream). IsAllOf o es) is
     (all-taken start now es taken end)
 
+-- the source has ended whole
 pub feeding-whole : (start : Option Stream) (es : List Event) (trace : TraceLeft) → IsWhole trace.stream →
     IsFeeding start es trace → IsReadOf start es Whole
 feeding-whole start es trace whole so = ended start trace.stream es Whole so.taken
@@ -72,9 +73,11 @@ fault-end : (start now : Option Stream) (es : List Event) (f : TraceFault) → T
     IsFaultOf now f → EndsIn start f
 fault-end None now es f taken fault = tt
 fault-end (Some s) None es f taken fault = absurd taken
-fault-end (Some s) (Some t) es f taken (inl own) = λ of_text. ap (λ (x : Stream). x.end) taken ∙ ap (λ (x : Stream). x.end) own.1
+fault-end (Some s) (Some t) es f taken (inl own) = λ of_text. ap (λ (x : Stream). x.end) taken ∙ ap (λ (x :
+    Stream). x.end) own.1
 fault-end (Some s) (Some t) es f taken (inr outside) = λ of_text. absurd (not-of-text f outside of_text)
 
+-- the source has a fault
 pub feeding-fails :
     (start : Option Stream) (es : List Event) (trace : TraceLeft) (f : TraceFault) →
     (trace.fault ≡ None → IsFaultOf trace.stream f) → IsFeeding start es trace →
@@ -110,10 +113,12 @@ pub stopped-there : (start : Option Stream) (es : List Event) (end : FeedEnd) �
 stopped-there None es end read = tt
 stopped-there (Some s) es end read = (read.0, tt)
 
+-- the gate was stopped
 pub feeding-stops : (start : Option Stream) (es : List Event) (trace : TraceLeft) → IsFeeding start es trace →
     IsReadOf start es Stopped
 feeding-stops start es trace so = ended start trace.stream es Stopped so.taken (λ s is. tt)
 
+-- memory ran out
 pub feeding-wants : (start : Option Stream) (es : List Event) (trace : TraceLeft) → IsFeeding start es trace →
     IsReadOf start es NoMemory
 feeding-wants start es trace so = ended start trace.stream es NoMemory so.taken (λ s is. tt)

@@ -14,7 +14,8 @@ use Rattle.rv_run.specs.declared.feeding.Fed.{Fed}
 use Rattle.rv_run.specs.declared.feeding.FeedEnd.{FeedEnd}
 use Rattle.rv_run.specs.declared.feeding.FeedEnd.TheVariants.{Whole, Stopped, Fault, NoMemory}
 
--- a whole end is the source's, after all its events; a fault of the text is the one that the source ends in
+-- a whole end is the source's, after all its events; a fault of the text is the one that the source
+-- ends in
 abbrev pub IsEndOf : Stream → List Event → FeedEnd → Type 0
 IsEndOf s events Whole = (s.events ≡ events) × (s.end ≡ None)
 IsEndOf s events Stopped = ⊤
@@ -49,8 +50,8 @@ IsLastOf events source chunk =
     (chunk.source ≡ source) × (chunk.events ≡ drop (8 * chunk.number) events)
     × (8 * chunk.number < length events) × (length events ≤ 8 * chunk.number + 8)
 
--- The feeder's end, where its source ended so: the same, but for a whole source whose last chunk was not put, and for a
--- read that failed as its reader was told to stop.
+-- The feeder's end, where its source ended so: the same, but for a whole source whose last chunk
+-- was not put, and for a read that failed as its reader was told to stop.
 abbrev pub IsSettledEnd : FeedEnd → Bool → FeedEnd → Type 0
 IsSettledEnd Whole true new = new ≡ Whole
 IsSettledEnd Whole false new = new ≡ Stopped

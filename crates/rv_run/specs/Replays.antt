@@ -3,7 +3,6 @@ use Rattle.std.specs.Prelude.{ℕ, ◌≡◌, ◌≤◌, ◌++◌, List, ◌∷�
 use Rattle.rv_event.specs.WellFormed.{WellFormed}
 use Rattle.rv_event.specs.declared.event.Entry.{Entry}
 use Rattle.rv_event.specs.declared.memory_model.MemoryModel.{MemoryModel}
-use Rattle.rv_cert.specs.declared.verdict.Verdict.TheVariants as verdict
 use Rattle.rv_book.specs.Booked.{SomeLawful, IsMalformedOn, IsForbiddenOn}
 use Rattle.rv_book.specs.Counts.{operations_of, waiting_of}
 use Rattle.rv_report.specs.declared.outcome.Outcome.{Outcome}
@@ -20,18 +19,18 @@ pub record Reaches (model : MemoryModel) (entries before : List Entry) (entry : 
   pub whole : entries ≡ before ++ entry ∷ after
   pub shorter : (n : ℕ) → n ≤ length before → IsConsistent model (take n entries)
 
--- Consistent, with its counts; or the first entry with which the list has a fault or no lawful order. A fault is looked
--- at first.
+-- Consistent, with its counts; or the first entry with which the list has a fault or no lawful
+-- order. A fault is looked at first.
 abbrev pub IsReplayed : MemoryModel → List Entry → Outcome → Type 0
 IsReplayed model entries (Allowed events operations waiting) =
     IsConsistent model entries
     × (events ≡ length entries) × (operations ≡ operations_of entries) × (waiting ≡ waiting_of entries)
 IsReplayed model entries (Malformed m) =
     (before : List Entry) × (entry : Entry) × Reaches model entries before entry
-    × IsMalformedOn model before entry (verdict.Malformed m)
+    × IsMalformedOn model before entry m
 IsReplayed model entries (Forbidden f) =
     (before : List Entry) × (entry : Entry) × Reaches model entries before entry
-    × IsForbiddenOn model before entry (verdict.Forbidden f)
+    × IsForbiddenOn model before entry f
 
 abbrev pub IsAllowed : Outcome → Type 0
 IsAllowed (Allowed events operations waiting) = Unit {0}

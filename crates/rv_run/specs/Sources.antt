@@ -40,12 +40,11 @@ pub record IsPartOf (streams : List (Option Stream)) (log : List Entry) : Type 0
   pub first :
       (i : ℕ) → i < length streams → IfSome (slice_index_or streams i None) (λ s. IsPrefix (given_by i log) s.events)
 
--- Allowed: the sources end whole, and one after another they are a well formed log that has a lawful order, with its
--- counts.
--- Forbidden: the evidence is a part of the sources and well formed, and no order is lawful for any well formed log that
--- continues it.
--- Malformed: the evidence is a part of the sources, and its last entry has the fault; so the sources, where their bytes
--- are known, are not well formed.
+-- Allowed: the sources end whole, and one after another they are a well formed log that has a
+-- lawful order, with its counts. Forbidden: the evidence is a part of the sources and well formed,
+-- and no order is lawful for any well formed log that continues it. Malformed: the evidence is a
+-- part of the sources, and its last entry has the fault; so the sources, where their bytes are
+-- known, are not well formed.
 abbrev pub IsTrueOf : MemoryModel → List (Option Stream) → Outcome → Type 0
 IsTrueOf model streams (Allowed events operations waiting) =
     (entries : List Entry) × HasReadAll 0 streams entries × IsConsistent model entries
@@ -73,13 +72,15 @@ IsRefused (Allowed events operations waiting) = ⊥
 IsRefused (Forbidden f) = ⊤
 IsRefused (Malformed m) = ⊤
 
--- runs over the same sources, whose bytes are known, agree: none is allowed where another is refused
+-- runs over the same sources, whose bytes are known, agree: none is allowed where another is
+-- refused
 abbrev pub RunsAgree : Type 0
 RunsAgree =
     (model : MemoryModel) (streams : List (Option Stream)) (one other : Outcome) → All IsSome streams →
     IsTrueOf model streams one → IsTrueOf model streams other → IsAllowed one → IsRefused other → ⊥
 
--- and so do a run over sources and a pass over their entries, in whatever order the sources are merged
+-- and so do a run over sources and a pass over their entries, in whatever order the sources are
+-- merged
 abbrev pub PassesAgree : Type 0
 PassesAgree =
     (model : MemoryModel) (streams : List (Option Stream)) (entries merge : List Entry) (run pass : Outcome) →

@@ -216,7 +216,8 @@ fn start_and_join<
     Ok(Driven { fed, served })
 }
 
-/// Starts all threads and joins them. Where a growth or a start is refused, the threads that run are told to end.
+/// Starts all threads and joins them. Where a growth or a start is refused, the threads that run
+/// are told to end.
 fn drive_in<
     's,
     E,
@@ -251,16 +252,16 @@ fn drive_in<
     driven
 }
 
-/// Reads each source by [`feed`] and offers its chunks by so many calls of [`serve`], each call on a thread of
-/// its own, and joins all of them.
+/// Reads each source by [`feed`] and offers its chunks by so many calls of [`serve`], each call on
+/// a thread of its own, and joins all of them.
 ///
-/// There are 1 to 8 sources, their readers in order, at least one worker, and a seat for each thread. What
-/// comes back is one answer of a feeder for each source, true of its reader, and one of a worker for each
-/// worker, with a note of this cell.
+/// There are 1 to 8 sources, their readers in order, at least one worker, and a seat for each
+/// thread. What comes back is one answer of a feeder for each source, true of its reader, and one
+/// of a worker for each worker, with a note of this cell.
 ///
 /// # Errors
-/// `AllocError` where a growth or the start of a thread was refused. The threads that had been started were
-/// told to end, and have ended.
+/// `AllocError` where a growth or the start of a thread was refused. The threads that had been
+/// started were told to end, and have ended.
 pub fn drive<RT: Threads + Wait + Sync, R: Read + Send + Drop, C: Carrier + Sync, G: Gate + Sync>(
     rt: &RT,
     alloc: Global,

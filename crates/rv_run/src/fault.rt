@@ -41,7 +41,7 @@ impl From<NoMemory> for RunFault {
 impl From<AllocError> for RunFault {
     ghost from_gives = { λ _ f. f ≡ fault.NoMemory };
 
-    /// Want of memory.
+    /// Out of memory.
     fn from(_error: AllocError) -> Self {
         RunFault::NoMemory
     }

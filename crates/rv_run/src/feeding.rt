@@ -22,7 +22,8 @@ const FULL: usize = 8;
 pub enum FeedEnd {
     /// The source was read to its end, and each of its chunks was put.
     Whole,
-    /// The gate was stopped before the source was read to its end, or before its last chunk was put.
+    /// The gate was stopped before the source was read to its end, or before its last chunk was
+    /// put.
     Stopped,
     /// The source has this fault.
     Fault(TraceFault),
@@ -39,8 +40,9 @@ pub struct Fed {
     pub end: FeedEnd,
 }
 
-/// Tries until a slot has taken the chunk (`Placed`), or the gate is stopped (`Busy`). Between two tries other
-/// threads are given the processor, and after some tries the thread rests until a slot may be free.
+/// Tries until a slot has taken the chunk (`Placed`), or the gate is stopped (`Busy`). Between two
+/// tries other threads are given the processor, and after some tries the thread rests until a slot
+/// may be free.
 fn place<RT: Wait, C: Carrier, G: Gate>(
     rt: &RT,
     carrier: &C,
@@ -79,9 +81,11 @@ fn last_chunk(events: &[Event], source: u8) -> Chunk
     }
 }
 
-/// Puts the chunk that the last of the events is in, and says whether it did: not where the gate was stopped.
+/// Puts the chunk that the last of the events is in, and says whether it did: not where the gate
+/// was stopped.
 ///
-/// A chunk may be put again once more of its events are there, as the gate takes those that it does not have.
+/// A chunk may be put again once more of its events are there, as the gate takes those that it does
+/// not have.
 fn put_last<RT: Wait, C: Carrier, G: Gate>(
     rt: &RT,
     events: &[Event],
@@ -118,8 +122,8 @@ fn read_next<R: Read>(trace: &mut Trace<R>, events: &mut Vec<Event>) -> Option<F
     }
 }
 
-/// How the feeder has ended, where the source ended so. A read that failed while the gate is stopped is no fault of
-/// the source: its reader was told to stop.
+/// How the feeder has ended, where the source ended so. A read that failed while the gate is
+/// stopped is no fault of the source: its reader was told to stop.
 fn settle_end<RT: Wait, G: Gate>(rt: &RT, end: FeedEnd, is_put: bool, gate: &G) -> FeedEnd
     ensures { IsSettledEnd end is_put result }
 {
@@ -132,9 +136,9 @@ fn settle_end<RT: Wait, G: Gate>(rt: &RT, end: FeedEnd, is_put: bool, gate: &G) 
     }
 }
 
-/// Reads the source and puts its chunks into the carrier, one after another. Before a read that would have to wait,
-/// the events at hand are put, however few. The gate is asked before each read whether it was told that it is
-/// stopped, and after each chunk whether it is.
+/// Reads the source and puts its chunks into the carrier, one after another. Before a read that
+/// would have to wait, the events at hand are put, however few. The gate is asked before each read
+/// whether it was told that it is stopped, and after each chunk whether it is.
 fn put_all<RT: Wait, R: Read + Drop, C: Carrier, G: Gate>(
     rt: &RT,
     alloc: Global,
@@ -178,13 +182,15 @@ fn put_all<RT: Wait, R: Read + Drop, C: Carrier, G: Gate>(
     unreachable!()
 }
 
-/// Reads the source of this number, puts its chunks into the carrier, and tells the gate how it ended.
+/// Reads the source of this number, puts its chunks into the carrier, and tells the gate how it
+/// ended.
 ///
-/// An event is taken into the list before its chunk is put, and a chunk that finds no free slot is tried again
-/// until it is placed or the gate is stopped. Where the next row has to be waited for, the events at hand are put as a
-/// chunk with fewer than eight, which is put again once it has more. The gate is asked before each read. For a reader
-/// that tells its bytes, the events are the first of those that the bytes say, and all of them at `Whole`; a fault of
-/// the text is the one that the bytes end in. A fault `Read` or `NoMemory` is the trace's own.
+/// An event is taken into the list before its chunk is put, and a chunk that finds no free slot is
+/// tried again until it is placed or the gate is stopped. Where the next row has to be waited for,
+/// the events at hand are put as a chunk with fewer than eight, which is put again once it has
+/// more. The gate is asked before each read. For a reader that tells its bytes, the events are the
+/// first of those that the bytes say, and all of them at `Whole`; a fault of the text is the one
+/// that the bytes end in. A fault `Read` or `NoMemory` is the trace's own.
 pub fn feed<RT: Wait, R: Read + Drop, C: Carrier, G: Gate>(
     rt: &RT,
     alloc: Global,

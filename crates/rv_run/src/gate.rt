@@ -24,21 +24,22 @@ pub enum Awaited {
 
 /// Where chunks are offered, and where it is known how far the sources are.
 ///
-/// Several threads call it at once. What it holds changes between two calls, so an answer promises only what
-/// follows from the chunk, and what the type of its verdict keeps.
+/// Several threads call it at once. What it holds changes between two calls, so an answer promises
+/// only what follows from the chunk, and what the type of its verdict keeps.
 pub trait Gate {
     /// Offers the chunk's events as [`Book::offer_chunk`] does.
     fn offer_chunk<R: Wait>(&self, rt: &R, chunk: &Chunk) -> ChunkOffer
         ensures { IsAnswerFor chunk.now result };
 
-    /// Says that a source has ended: whole, with so many events, or else by a fault or for want of memory.
+    /// Says that a source has ended: whole, with so many events, or else by a fault or as memory
+    /// ran out.
     fn end_source<R: Wait>(&self, rt: &R, source: u8, total: Option<u32>);
 
     /// Whether nothing is left to be offered: the run is decided, or cannot be.
     fn stopped<R: Wait>(&self, rt: &R) -> bool;
 
-    /// Whether this gate was told that it is stopped. One that is told of nothing says no, and is asked by
-    /// `stopped`.
+    /// Whether this gate was told that it is stopped. One that is told of nothing says no, and is
+    /// asked by `stopped`.
     fn is_over(&self) -> bool {
         false
     }
@@ -48,14 +49,14 @@ pub trait Gate {
         false
     }
 
-    /// How often this gate was told so far that what is awaited may be there. A gate that is told of no news
-    /// answers 0.
+    /// How often this gate was told so far that what is awaited may be there. A gate that is told
+    /// of no news answers 0.
     fn news(&self, _awaited: Awaited) -> u64 {
         0
     }
 
-    /// Waits for a moment, or until there is more news of what is awaited than `seen`. Nothing is promised of how
-    /// long.
+    /// Waits for a moment, or until there is more news of what is awaited than `seen`. Nothing is
+    /// promised of how long.
     fn rest<R: Wait>(&self, rt: &R, _awaited: Awaited, _seen: u64) {
         Condvar::new().sleep(rt, 0, Duration::from_millis(REST));
     }
@@ -63,16 +64,16 @@ pub trait Gate {
 
 /// A book under a lock.
 ///
-/// Behind the lock stands a [`Book`], whose type keeps that its log is well formed and that its order is lawful
-/// for it. So this holds whenever the lock is free.
+/// Behind the lock stands a [`Book`], whose type keeps that its log is well formed and that its
+/// order is lawful for it. So this holds whenever the lock is free.
 #[derive(Drop)]
 pub struct BookGate {
     desk: Mutex<Desk>,
 }
 
 impl BookGate {
-    /// An empty book under this model, for so many sources, numbers from 0. It takes no memory; the allocator
-    /// serves the calls to come.
+    /// An empty book under this model, for so many sources, numbers from 0. It takes no memory; the
+    /// allocator serves the calls to come.
     pub fn new(alloc: Global, model: MemoryModel, sources: u8) -> BookGate
         requires { (0 < sources) × (sources ≤ 8) }
     {
@@ -97,8 +98,8 @@ impl Gate for BookGate {
         self.desk.lock(rt).end_source(source, total);
     }
 
-    /// It is stopped where the book is, where a source ended without a total, where an offer found no memory,
-    /// or where every source has ended and its events are in the book.
+    /// It is stopped where the book is, where a source ended without a total, where an offer found
+    /// no memory, or where every source has ended and its events are in the book.
     fn stopped<R: Wait>(&self, rt: &R) -> bool {
         self.desk.lock(rt).stopped()
     }

@@ -20,8 +20,8 @@ fn is_asked(model: MemoryModel, asked: MemoryModel) -> bool
     model == asked
 }
 
-/// The outcome of a verdict, if it is of this model and its evidence has the first of each source's events and
-/// no others.
+/// The outcome of a verdict, if it is of this model and its evidence has the first of each source's
+/// events and no others.
 fn refusal_of(
     alloc: Global,
     model: MemoryModel,
@@ -57,13 +57,13 @@ fn first_fault(fed: &[Fed]) -> Option<RunFault>
 }
 
 /// Whether a thread found no memory.
-fn want_memory<S>(fed: &[Fed], served: &[Served<S>]) -> bool {
+fn is_out_of_memory<S>(fed: &[Fed], served: &[Served<S>]) -> bool {
     fed.iter().any(|f| matches!(f.end, FeedEnd::NoMemory))
         || served.iter().any(|s| matches!(s.end, ServeEnd::NoMemory))
 }
 
-/// The outcome of a book that was never stopped, if it is of this model, each source was read to its end, and
-/// its log has all of their events and no others.
+/// The outcome of a book that was never stopped, if it is of this model, each source was read to
+/// its end, and its log has all of their events and no others.
 fn allowance_of(model: MemoryModel, fed: &[Fed], book: &Book) -> Result<Outcome, RunFault>
     requires { length fed.now ≤ 8 }
     ensures outcome { IfOk result (AgreesWith model fed.now) }
@@ -81,7 +81,7 @@ fn allowance_of(model: MemoryModel, fed: &[Fed], book: &Book) -> Result<Outcome,
 
 /// What the threads' answers, the verdict and the book come to.
 ///
-/// A verdict comes first, then the fault of the lowest source that has one, then want of memory.
+/// A verdict comes first, then the fault of the lowest source that has one, then out of memory.
 pub(crate) fn judge<S>(
     alloc: Global,
     model: MemoryModel,
@@ -101,7 +101,7 @@ pub(crate) fn judge<S>(
     if let Some(fault) = first_fault(fed) {
         return Err(fault);
     }
-    if want_memory(fed, served) {
+    if is_out_of_memory(fed, served) {
         return Err(RunFault::NoMemory);
     }
     allowance_of(model, fed, book)

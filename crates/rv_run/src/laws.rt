@@ -2,14 +2,15 @@
 ghost use Rattle.rv_run.specs.Replays.{AllowedWhereConsistent};
 ghost use Rattle.rv_run.specs.Sources.{PassesAgree, RunsAgree};
 
-/// A pass over entries answers allowed exactly where they are a well formed log that has a lawful order.
+/// A pass over entries answers allowed exactly where they are a well formed log that has a lawful
+/// order.
 pub fn allowed_where_consistent()
     ensures { AllowedWhereConsistent }
 {}
 
-/// What is true of sources whose bytes are known agrees: no run over them is allowed where another run over them, or a
-/// pass over their entries in whatever merge, is refused, as forbidden or as malformed. Nor is such a pass allowed where
-/// a run is refused.
+/// What is true of sources whose bytes are known agrees: no run over them is allowed where another
+/// run over them, or a pass over their entries in whatever merge, is refused, as forbidden or as
+/// malformed. Nor is such a pass allowed where a run is refused.
 pub fn outcomes_agree()
     ensures runs { RunsAgree }
     ensures passes { PassesAgree }

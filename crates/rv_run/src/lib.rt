@@ -1,22 +1,26 @@
 //! Runs: what a whole list of entries, and what whole sources come to.
 //!
-//! [`replay`] offers entries one by one to a book of its own, in one thread, and answers the outcome: allowed,
-//! with its counts, or the first entry that is refused, with its verdict. [`run`] does it over sources while
-//! they are read: a thread for each source puts its events into slots, in chunks, and workers offer the chunks
-//! to one book under a lock; the first verdict stops all.
+//! [`replay`] offers entries one by one to a book of its own, in one thread, and answers the
+//! outcome: allowed, with its counts, or the first entry that is refused, with its verdict. [`run`]
+//! does it over sources while they are read: a thread for each source puts its events into slots,
+//! in chunks, and workers offer the chunks to one book under a lock; the first verdict stops all.
 //!
 //! - [`gate`], `desk`: the book under its lock, and how far each source is.
 //! - [`feeding`]: one source's thread. [`serving`]: one worker's thread.
-//! - [`driving`]: a thread for each, over any carrier and any gate. `step`: a carrier and a gate by which no
-//!   source runs far ahead of the others, and threads are woken that rest; `waiting`: how they come to rest.
-//! - [`running`]: a run's parts, and its settings; `judging`, `comparing`: what the threads' answers come to.
-//! - [`replaying`]: the pass in one thread; [`fault`]: why a run has no outcome; [`laws`]: that outcomes agree.
+//! - [`driving`]: a thread for each, over any carrier and any gate. `step`: a carrier and a gate by
+//!   which no source runs far ahead of the others, and threads are woken that rest; `waiting`: how
+//!   they come to rest.
+//! - [`running`]: a run's parts, and its settings; `judging`, `comparing`: what the threads'
+//!   answers come to.
+//! - [`replaying`]: the pass in one thread; [`fault`]: why a run has no outcome; [`laws`]: that
+//!   outcomes agree.
 //! - `specs/`: what each thread tells of its source, and an outcome of all.
 //!
-//! It stands on `rv_event`, `rv_chunk` and `rv_cert`, on `rv_trace` for sources, on `rv_slots`, `rv_book` and `rv_verdict`
-//! for the threads' shared parts, on `rv_pipe` for the bell by which readers are told that a run is over, on
-//! `rv_report` for outcomes, and on the kit's `thiserror`. Its one contract to the others: an outcome is true of the
-//! entries, or of the sources' bytes where they are known.
+//! It stands on `rv_event`, `rv_chunk` and `rv_cert`, on `rv_trace` for sources, on `rv_slots`,
+//! `rv_book` and `rv_verdict` for the threads' shared parts, on `rv_pipe` for the bell by which
+//! readers are told that a run is over, on `rv_report` for outcomes, and on the kit's `thiserror`.
+//! Its one contract to the others: an outcome is true of the entries, or of the sources' bytes
+//! where they are known.
 #![tactic(auto)]
 
 mod comparing;

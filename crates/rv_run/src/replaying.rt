@@ -18,9 +18,8 @@ fn pass(book: &mut Book, entries: &[Entry]) -> Result<Outcome, NoMemory>
     for entry in entries {
         match book.offer(entry) {
             Offer::Accepted => {}
-            Offer::Malformed(verdict) | Offer::Forbidden(verdict) => {
-                return Ok(Outcome::from(verdict));
-            }
+            Offer::Malformed(malformed) => return Ok(Outcome::Malformed(malformed)),
+            Offer::Forbidden(forbidden) => return Ok(Outcome::Forbidden(forbidden)),
             Offer::Stopped => unreachable!(),
             Offer::NoMemory => return Err(NoMemory),
         }
@@ -34,10 +33,10 @@ fn pass(book: &mut Book, entries: &[Entry]) -> Result<Outcome, NoMemory>
 
 /// What the entries come to under the model, judged one by one in their order, in one thread.
 ///
-/// `Allowed` exactly where they are a well formed log that has a lawful order, with the numbers of the entries,
-/// of the memory operations among them and of the loads whose store is not there. Else the evidence is the
-/// shortest beginning of the list whose last entry has a fault (`Malformed`), or that has no lawful order
-/// (`Forbidden`); where both hold, `Malformed`.
+/// `Allowed` exactly where they are a well formed log that has a lawful order, with the numbers of
+/// the entries, of the memory operations among them and of the loads whose store is not there. Else
+/// the evidence is the shortest beginning of the list whose last entry has a fault (`Malformed`),
+/// or that has no lawful order (`Forbidden`); where both hold, `Malformed`.
 ///
 /// # Errors
 /// `NoMemory` where a growth was refused; nothing is left of the pass.

@@ -81,10 +81,11 @@ fn run_in<RT: Threads + Wait + Sync, R: Read + Send + Drop, C: Carrier + Sync + 
     outcome
 }
 
-/// The same as [`run`], over a carrier of one's own that has not been used yet, with seats of it for all threads.
+/// The same as [`run`], over a carrier of one's own that has not been used yet, with seats of it
+/// for all threads.
 ///
-/// There are 1 to 8 readers and at least one worker; the number of slots in the settings is not read. The outcome
-/// promises what that of [`run`] does, whatever the carrier does.
+/// There are 1 to 8 readers and at least one worker; the number of slots in the settings is not
+/// read. The outcome promises what that of [`run`] does, whatever the carrier does.
 ///
 /// # Errors
 /// As [`run`], but for `Settings`.
@@ -109,21 +110,21 @@ pub fn run_over<RT: Threads + Wait + Sync, R: Read + Send + Drop, C: Carrier + S
     run_in(rt, alloc, readers, settings, carrier, seats, &Bell::new())
 }
 
-/// Reads the sources in threads of their own, judges their events in other threads while they are read, and
-/// stops at the first event that is malformed or forbidden.
+/// Reads the sources in threads of their own, judges their events in other threads while they are
+/// read, and stops at the first event that is malformed or forbidden.
 ///
-/// The sources have the numbers 0, 1 and so on. The events of one source are judged in their order; in which
-/// order those of several come, and so which event is refused where several could be, depends on the threads.
-/// For readers that tell their bytes: `Allowed` comes only where the sources end whole and their events are a
-/// well formed log that has a lawful order, with the counts over all of them. The evidence of a refusal has the
-/// first of each source's events and no others, and the model asked for; `Malformed` comes only where the
-/// sources are not well formed.
+/// The sources have the numbers 0, 1 and so on. The events of one source are judged in their order;
+/// in which order those of several come, and so which event is refused where several could be,
+/// depends on the threads. For readers that tell their bytes: `Allowed` comes only where the
+/// sources end whole and their events are a well formed log that has a lawful order, with the
+/// counts over all of them. The evidence of a refusal has the first of each source's events and no
+/// others, and the model asked for; `Malformed` comes only where the sources are not well formed.
 ///
 /// # Errors
-/// In this order: `Settings` exactly where a number is out of range; `NoMemory` where a part or a thread could
-/// not be had; where a verdict was found, `Lost` if it is not of what was read, and `NoMemory` if it could not
-/// be copied; `Trace` with the lowest source that has a fault, which is its own; `NoMemory` where a thread
-/// found none; `Lost` where the book is not what was read.
+/// In this order: `Settings` exactly where a number is out of range; `NoMemory` where a part or a
+/// thread could not be had; where a verdict was found, `Lost` if it is not of what was read, and
+/// `NoMemory` if it could not be copied; `Trace` with the lowest source that has a fault, which is
+/// its own; `NoMemory` where a thread found none; `Lost` where the book is not what was read.
 pub fn run<RT: Threads + Wait + Sync, R: Read + Send + Drop>(
     rt: &RT,
     alloc: Global,
@@ -139,11 +140,12 @@ pub fn run<RT: Threads + Wait + Sync, R: Read + Send + Drop>(
     run_with_bell(rt, alloc, readers, settings, &Bell::new())
 }
 
-/// The same as [`run`], where the readers are told by this bell that the run is over, as those of `rv_pipe` are.
+/// The same as [`run`], where the readers are told by this bell that the run is over, as those of
+/// `rv_pipe` are.
 ///
-/// The bell is that of no other run. By it the run knows which source is silent, and puts the events that such a
-/// source gave so far as a chunk that is not full. Once the run is decided, or cannot be, the bell says so, and the
-/// readers that wait for bytes end.
+/// The bell is that of no other run. By it the run knows which source is silent, and puts the
+/// events that such a source gave so far as a chunk that is not full. Once the run is decided, or
+/// cannot be, the bell says so, and the readers that wait for bytes end.
 ///
 /// # Errors
 /// As [`run`]. A read that fails because the run is over is no fault of its source.

@@ -86,7 +86,7 @@ fn serve_slot<RT: Wait, C: Carrier, G: Gate>(
     }
 }
 
-/// Looks at each slot in turn, and offers each chunk that is found. Want of memory ends the round.
+/// Looks at each slot in turn, and offers each chunk that is found. Out of memory ends the round.
 fn serve_round<RT: Wait, C: Carrier, G: Gate>(
     rt: &RT,
     alloc: Global,
@@ -114,12 +114,13 @@ fn serve_round<RT: Wait, C: Carrier, G: Gate>(
     (seat, round)
 }
 
-/// Offers the chunks that are found in the carrier to the gate, slot by slot and round by round, until the gate is
-/// stopped or memory is wanting.
+/// Offers the chunks that are found in the carrier to the gate, slot by slot and round by round,
+/// until the gate is stopped or memory runs out.
 ///
-/// A verdict is raised in the cell. A chunk is done with where all of it is in the book. After a round in which
-/// none was, other threads are given the processor, and after some such rounds the thread rests until the gate
-/// has news. The note that comes back is of the same cell and knows what it knew.
+/// A verdict is raised in the cell. A chunk is done with where all of it is in the book. After a
+/// round in which none was, other threads are given the processor, and after some such rounds the
+/// thread rests until the gate has news. The note that comes back is of the same cell and knows
+/// what it knew.
 pub fn serve<RT: Wait, C: Carrier, G: Gate>(
     rt: &RT,
     alloc: Global,

@@ -1,12 +1,12 @@
 //! Sources that keep in step, and threads that rest while there is nothing to do.
 //!
-//! Where one source runs far ahead of another, each event of the slower one stands before all that the faster
-//! one has given, and the book's order is mended over and over. So a chunk that is far ahead is held back for a
-//! while.
+//! Where one source runs far ahead of another, each event of the slower one stands before all that
+//! the faster one has given, and the book's order is mended over and over. So a chunk that is far
+//! ahead is held back for a while.
 //!
-//! What is put in by one thread and taken out by another passes through here, so here the threads are woken that
-//! wait for it, and the readers are told that the run is over. Nothing is promised of either, since nothing rests on
-//! them but time.
+//! What is put in by one thread and taken out by another passes through here, so here the threads
+//! are woken that wait for it, and the readers are told that the run is over. Nothing is promised
+//! of either, since nothing rests on them but time.
 ghost use Rattle.std.specs.Prelude.{◌≡◌};
 
 use crate::gate::{Awaited, Gate};
@@ -22,8 +22,8 @@ use std::{array, thread};
 /// How many chunks a source may be ahead of another that is still read.
 const AHEAD: u64 = 2;
 
-/// How often other threads are given the processor before a chunk that is ahead is put all the same, since a
-/// source that is slow to come must not stop the others.
+/// How often other threads are given the processor before a chunk that is ahead is put all the
+/// same, since a source that is slow to come must not stop the others.
 const TURNS: u64 = 1000;
 
 /// For how many milliseconds a thread rests at most, for the case that it was not woken.
@@ -43,9 +43,9 @@ struct Lane {
     wants: AtomicU64,
 }
 
-/// A carrier and a gate that are used together, with how far each source is. A worker that rests is woken where a chunk
-/// was placed, a source's thread where a slot may be free, and all where the gate may be stopped. The readers are told
-/// by the bell.
+/// A carrier and a gate that are used together, with how far each source is. A worker that rests is
+/// woken where a chunk was placed, a source's thread where a slot may be free, and all where the
+/// gate may be stopped. The readers are told by the bell.
 #[derive(Drop)]
 pub struct InStep<'a, C, G> {
     carrier: C,
@@ -92,8 +92,8 @@ impl<'a, C, G> InStep<'a, C, G> {
             < number)
     }
 
-    /// Gives other threads the processor while the chunk is ahead, for so many turns at most in all. A chunk that was
-    /// put before, with fewer events, is not held back.
+    /// Gives other threads the processor while the chunk is ahead, for so many turns at most in
+    /// all. A chunk that was put before, with fewer events, is not held back.
     fn hold(&self, lane: &Lane, number: u64) {
         if number < lane.placed.load(Ordering::SeqCst) {
             return;
@@ -148,8 +148,8 @@ impl<'a, C: Carrier, G> Carrier for InStep<'a, C, G> {
 
     ghost holds = { λ s lease. C.holds s.carrier lease };
 
-    /// Puts the chunk, after it was held back where its source is ahead. Where no slot is free, it says so and tries
-    /// once more, so that no slot is freed unseen.
+    /// Puts the chunk, after it was held back where its source is ahead. Where no slot is free, it
+    /// says so and tries once more, so that no slot is freed unseen.
     fn put_chunk<R: Wait>(&self, rt: &R, seat: C::Seat, chunk: &Chunk) -> (C::Seat, Put) {
         let Some(lane) = self.lanes.get(chunk.source() as usize) else {
             return self.carrier.put_chunk(rt, seat, chunk);
@@ -203,7 +203,8 @@ impl<'a, C, G: Gate> Gate for InStep<'a, C, G> {
         offer
     }
 
-    /// Ends the source, for which nobody waits from here on. Where it did not end whole, the run is over.
+    /// Ends the source, for which nobody waits from here on. Where it did not end whole, the run is
+    /// over.
     fn end_source<R: Wait>(&self, rt: &R, source: u8, total: Option<u32>) {
         if let Some(lane) = self.lanes.get(source as usize) {
             lane.placed.store(ENDED, Ordering::SeqCst);
@@ -235,8 +236,9 @@ impl<'a, C, G: Gate> Gate for InStep<'a, C, G> {
         }
     }
 
-    /// Rests until there is more news. A worker's last look, or its last unpin of a chunk that another has applied, may
-    /// have freed a slot, so before it rests it wakes whoever waits for one.
+    /// Rests until there is more news. A worker's last look, or its last unpin of a chunk that
+    /// another has applied, may have freed a slot, so before it rests it wakes whoever waits for
+    /// one.
     fn rest<R: Wait>(&self, rt: &R, awaited: Awaited, seen: u64) {
         let time = Duration::from_millis(REST);
         match awaited {

@@ -3,8 +3,8 @@ use crate::gate::{Awaited, Gate};
 use std::sync::Wait;
 use std::thread;
 
-/// How often in a row a thread gives up the processor before it rests, as while sources flow the next chunk is
-/// near.
+/// How often in a row a thread gives up the processor before it rests, as while sources flow the
+/// next chunk is near.
 const TURNS: u32 = 32;
 
 /// How often in a row a thread has found nothing to do.
@@ -24,8 +24,8 @@ impl Patience {
         self.turns = 0;
     }
 
-    /// Gives up the processor, or, where that was of no use for some turns, rests until the gate has more news
-    /// of what is awaited than was seen before the last look.
+    /// Gives up the processor, or, where that was of no use for some turns, rests until the gate
+    /// has more news of what is awaited than was seen before the last look.
     pub(crate) fn wait<RT: Wait, G: Gate>(
         &mut self,
         rt: &RT,

@@ -15,6 +15,7 @@ module _ {A B : Type 0} (f : A → B) (d : B) where
   abbrev pub seen_at : List A → ℕ → B
   seen_at xs i = get_or (map f xs) i d
 
+  -- what is read at a place
   pub read_at : (xs : List A) (i : ℕ) (x : A) → i < length xs → x ≡ get_or xs i x → seen_at xs i
       ≡ f x
   read_at xs i x h is = get_or-map f xs i x d h ∙ ap f (sym is)
@@ -24,6 +25,7 @@ module _ {A B : Type 0} (f : A → B) (d : B) where
   map_set (x ∷ xs) zero y = refl
   map_set (x ∷ xs) (suc i) y = ap (λ (ys : List B). f x ∷ ys) (map_set xs i y)
 
+  -- what is read after a write
   pub written_at : (xs : List A) (i : ℕ) (y : A) → i < length xs → seen_at (set xs i y) ≡ put_at
       (seen_at xs) i (f y)
   written_at xs i y h = λ k j. each j k
@@ -36,6 +38,7 @@ module _ {A B : Type 0} (f : A → B) (d : B) where
           (λ other. ap (λ (ys : List B). get_or ys j d) (map_set xs i y) ∙ get_or-set_other
           (map f xs) i j (f y) d other)
 
+-- a write of a slot
 pub slots_written : (h : Parts) (i : ℕ) (x y : SlotState) (z : Slot → Slot)
     → i < length h.slots.items → x ≡ get_or h.slots.items i x → slot_of y ≡ z (slot_of x) →
     core_of (record { slots = with_item h.slots i y; seats = h.seats }) ≡ with_slot (core_of h) i
@@ -51,6 +54,7 @@ slots_written h i x y z within is e =
       seats = (core_of h).seats;
     }
 
+-- a write of a seat
 pub seats_written : (h : Parts) (s : ℕ) (q p : SeatEntry) (z : Seat → Seat)
     → s < length h.seats.items → q ≡ get_or h.seats.items s q → seat_of p ≡ z (seat_of q) →
     core_of (record { slots = h.slots; seats = with_item h.seats s p }) ≡ with_seat (core_of h) s
@@ -73,6 +77,7 @@ put_same {A} f i = λ k j. each j k
     each : (j : ℕ) → put_at f i (f i) j ≡ f j
     each j = put_cases (λ z. z ≡ f j) f i j (f i) (λ e. ap f (sym e)) (λ _. refl)
 
+-- a seat written as it is
 pub same_seat : (c : machine.Core) (s : ℕ) → with_seat c s (c.seats s) ≡ c
 same_seat c s = λ k. record {
   slot_count = c.slot_count;

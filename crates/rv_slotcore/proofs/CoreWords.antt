@@ -22,14 +22,17 @@ use Rattle.rv_slotcore.proofs.Words.{one_word, word_reads, high_bit}
 use Rattle.rv_slotcore.proofs.Updates.{put_cases}
 use Rattle.rv_slotcore.specs.CoreIs.{slot_read}
 
+-- the bit that was set
 pub or_here : (w k : ℕ) → bit_at (bit_or w (2 ^ k)) k ≡ 1
 or_here w k = let a = bit_at_or w (2 ^ k) k in let b = bit_at-pow_same k in let l = bit_at-lt w k
     in
     omega arith
 
+-- any other bit
 pub or_else : (w k i : ℕ) → i ≢ k → bit_at (bit_or w (2 ^ k)) i ≡ bit_at w i
 or_else w k i n = let a = bit_at_or w (2 ^ k) i in let b = bit_at-pow_other k i n in omega arith
 
+-- the generation stays when a flag is set
 pub or_high : (w k : ℕ) → k < generation_bit → bit_or w (2 ^ k) / 2 ^ generation_bit
     ≡ w / 2 ^ generation_bit
 or_high w k h = or_shr w (2 ^ k) generation_bit ∙
@@ -64,6 +67,7 @@ same_slot a b g c f d p w = λ k. record {
 }
 
 module _ (w : ℕ) (content : List ℕ) where
+  -- a word with the claim
   pub claimed_word : slot_read (bit_or w (2 ^ claimed_bit)) content ≡ claimed_slot
       (slot_read w content)
   claimed_word = same_slot _ _ (or_high w claimed_bit (omega arith))
@@ -72,6 +76,7 @@ module _ (w : ℕ) (content : List ℕ) where
       (same _ _ (or_else w claimed_bit done_bit (λ e. omega arith)))
       (λ s. same_pin _ _ s (λ h. or_else w claimed_bit s (λ e. omega arith))) refl
 
+  -- a word with the flag full
   pub full_word : slot_read (bit_or w (2 ^ full_bit)) content ≡ full_slot (slot_read w content)
   full_word = same_slot _ _ (or_high w full_bit (omega arith))
       (same _ _ (or_else w full_bit claimed_bit (λ e. omega arith)))
@@ -79,6 +84,7 @@ module _ (w : ℕ) (content : List ℕ) where
       (same _ _ (or_else w full_bit done_bit (λ e. omega arith)))
       (λ s. same_pin _ _ s (λ h. or_else w full_bit s (λ e. omega arith))) refl
 
+  -- a word with the flag done
   pub done_word : slot_read (bit_or w (2 ^ done_bit)) content ≡ done_slot (slot_read w content)
   done_word = same_slot _ _ (or_high w done_bit (omega arith))
       (same _ _ (or_else w done_bit claimed_bit (λ e. omega arith)))
@@ -98,12 +104,14 @@ bit_set w k n = let m : bit_and w (2 ^ k) ≡ bit_at w k * 2 ^ k = and_pow w k i
     bit_at-lt w k in one_is (bit_at w k)
     (one_from (bit_at w k) l (λ z. n (m ∙ ap (λ (t : ℕ). t * 2 ^ k) z ∙ zero-mul (2 ^ k))))
 
+-- a mask that gives 0 finds the bit clear
 pub bit_clear : (w k : ℕ) → bit_and w (2 ^ k) ≡ 0 → (bit_at w k == 1) ≡ false
 bit_clear w k e = let m : bit_and w (2 ^ k) ≡ bit_at w k * 2 ^ k = and_pow w k in let l =
     bit_at-lt w k in let p = pow_pos k in
     ne_eqb (bit_at w k) 1
     (λ one. not_both (2 ^ k) p (ap (λ (t : ℕ). t * 2 ^ k) (sym one) ∙ (sym m ∙ e)))
 
+-- a mask tells the bit
 pub mask_is : (w k : ℕ) → not (nat_eq (bit_and w (2 ^ k)) 0) ≡ (bit_at w k == 1)
 mask_is w k = go (nat_eq (bit_and w (2 ^ k)) 0) refl
   where
@@ -147,6 +155,7 @@ pin_put w v s b f h here else k = put_cases (λ z. (nat_lt k seats_at_most && (b
     (guarded (nat_lt s seats_at_most) (bit_at v s == 1) (lt-ltb s seats_at_most h) ∙ here))
     (λ n. same_pin (bit_at v k) (bit_at w k) k (λ l. else k l n))
 
+-- a word with a pin
 pub pinned_word : (w : ℕ) (content : List ℕ) (s : ℕ) → s < seats_at_most → slot_read
     (bit_or w (2 ^ s)) content
     ≡ pinned_slot (slot_read w content) s true
@@ -157,6 +166,7 @@ pinned_word w content s h = same_slot _ _ (or_high w s (omega arith))
     (pin_put w (bit_or w (2 ^ s)) s true (λ k. true) h (one_is _ (or_here w s))
     (λ k l n. or_else w s k n)) refl
 
+-- a pin's word
 pub one_shl : (s : ℕ) → s < seats_at_most → 1 * 2 ^ s % 2 ^ 64 ≡ 2 ^ s
 one_shl s h = let b : 2 ^ s < 2 ^ 64 = pow_below s 64 (omega arith) in small (2 ^ s) b
   where
@@ -167,10 +177,12 @@ one_shl s h = let b : 2 ^ s < 2 ^ 64 = pow_below s 64 (omega arith) in small (2 
 abbrev pub cleared : ℕ → ℕ → ℕ
 cleared w k = bit_and w (bit_not w64 (2 ^ k))
 
+-- the bit that was cleared
 pub cleared_here : (w k : ℕ) → k < seats_at_most → bit_at (cleared w k) k ≡ 0
 cleared_here w k h = subst (λ (m : ℕ). bit_at (bit_and w (bit_not w64 m)) k ≡ 0) (one_shl k h)
     (bit_at_clear_same w64 w k (omega arith))
 
+-- any other bit
 pub cleared_else : (w k i : ℕ) → k < seats_at_most → i < 64 → i ≢ k
     → bit_at (cleared w k) i ≡ bit_at w i
 cleared_else w k i h l n =
@@ -190,6 +202,7 @@ cleared_bit_high w k i h small = high_bit (cleared w k) i ∙ (⊎_elim
     (bit_at_above w 64 (generation_bit + i) small high))
     (cases_lt (generation_bit + i) 64) ∙ sym (high_bit w i))
 
+-- the generation stays when a pin is cleared
 pub cleared_high : (w k : ℕ) → k < seats_at_most → w < 18446744073709551616
     → cleared w k / 2 ^ generation_bit ≡ w / 2 ^ generation_bit
 cleared_high w k h small = same_from_bits (cleared w k / 2 ^ generation_bit)
@@ -198,6 +211,7 @@ cleared_high w k h small = same_from_bits (cleared w k / 2 ^ generation_bit)
 none_is : (n : ℕ) → n ≡ 0 → (n == 1) ≡ false
 none_is n e = ap (λ (z : ℕ). z == 1) e
 
+-- a word without the pin
 pub unpinned_word : (w : ℕ) (content : List ℕ) (s : ℕ) → s < seats_at_most
     → w < 18446744073709551616
     → slot_read (cleared w s) content ≡ pinned_slot (slot_read w content) s false
@@ -220,6 +234,7 @@ guarded_none : (b c : Bool) → (b ≡ true → c ≡ false) → (b && c) ≡ fa
 guarded_none true c e = e refl
 guarded_none false c e = refl
 
+-- a word of the next generation
 pub freed_word : (w : ℕ) (content : List ℕ) → slot_read
     ((w / 2 ^ generation_bit + 1) * 2 ^ generation_bit) content
     ≡ freed_slot (slot_read w content)

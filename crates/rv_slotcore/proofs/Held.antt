@@ -96,6 +96,7 @@ module _ (c : Core) (s : ℕ) (h : AllNamed c) where
   low : (a : Bool) (i : ℕ) → a && nat_lt i c.slot_count ≡ true → i < c.slot_count
   low a i e = ltb-true i c.slot_count (second_true a (nat_lt i c.slot_count) e)
 
+  -- each act keeps the names of slots and seats
   pub moves_keep_named : (a : Act) → AllNamed (moves c s a).0
   moves_keep_named (Claim i) = fits_keep _ _
       (λ e. claims_keep i (c.seats s).state (c.slots i).claimed (low _ i e))
@@ -180,6 +181,7 @@ module _ (c : Core) (s : ℕ) where
   fits_keep_count true m f = f refl
   fits_keep_count false m f = refl
 
+  -- and the number of seats
   pub moves_keep_count : (a : Act) → (moves c s a).0.seat_count ≡ c.seat_count
   moves_keep_count (Claim i) = fits_keep_count _ _
       (λ e. claims_keep_count i (c.seats s).state (c.slots i).claimed)

@@ -17,15 +17,18 @@ on (Stray k) i = i == k
 abbrev pub PutIn : List (Option ℕ) → List ℕ → Type 0
 PutIn p c = (j w : ℕ) → get_or p j None ≡ Some w → get_or c j 0 ≡ w
 
+-- a full slot is claimed, and a done one is full
 pub record Flags (claimed full done : ℕ → Bool) : Type 0 where
   pub order : (i : ℕ) → full i ≡ true → claimed i ≡ true
   pub ended : (i : ℕ) → done i ≡ true → full i ≡ true
 
+-- a slot's pins are the seats that stand on it
 pub record PinsAre (m : ℕ) (pins : ℕ → ℕ → Bool) (state : ℕ → SeatState) : Type 0 where
   pub each : (i s : ℕ) → pins i s ≡ on (state s) i
   pub rest : (s : ℕ) → m ≤ s → state s ≡ Idle
   pub few : m ≤ seats_at_most
 
+-- a slot that is being filled is claimed and not full, with the words that were put
 pub record Fills (m : ℕ) (claimed full : ℕ → Bool) (content : ℕ → List ℕ)
     (state : ℕ → SeatState) : Type 0 where
   pub fills : (s i : ℕ) (p : List (Option ℕ)) → state s ≡ Filling i p → (claimed i ≡ true) ×
@@ -37,12 +40,14 @@ pub record Fills (m : ℕ) (claimed full : ℕ → Bool) (content : ℕ → List
       (s < m) × (state s ≡ Filling i p)
   pub long : (i : ℕ) → length (content i) ≡ 58
 
+-- a pinned slot is full, as its seat knows it
 pub record Holds (full : ℕ → Bool) (generation : ℕ → ℕ) (content : ℕ → List ℕ)
     (state : ℕ → SeatState) (records : ℕ → List Record) : Type 0 where
   pub pinned : (s i g : ℕ) (w : List ℕ) → state s ≡ Pinned i g w
       → (full i ≡ true) × (generation i ≡ g) × (content i ≡ w) × (rest : List Record) ×
       (records s ≡ record { slot = i; generation = g; content = w } ∷ rest)
 
+-- records of one fill agree, and are of no later generation
 pub record Recorded (m : ℕ) (full : ℕ → Bool) (generation : ℕ → ℕ) (content : ℕ → List ℕ)
     (records : ℕ → List Record) : Type 0 where
   pub dated : (s : ℕ) (r : Record) → Contains (records s) r → (r.generation ≤ generation r.slot) ×
@@ -72,6 +77,7 @@ module _ (m : ℕ) (slots : ℕ → Slot) (seats : ℕ → Seat) where
       (λ i. (slots i).content)
       (λ s. (seats s).records)
 
+  -- all of these
   pub record SafeOf : Type 0 where
     pub flags : FlagsOf
     pub pins : PinsOf
@@ -86,6 +92,7 @@ Safe c = SafeOf c.seat_count c.slots c.seats
 pub in_head : (r : Record) (rs : List Record) → Contains (r ∷ rs) r
 in_head r rs = (0, omega arith, refl)
 
+-- what the rest contains the list contains
 pub in_tail : (x r : Record) (rs : List Record) → Contains rs r → Contains (x ∷ rs) r
 in_tail x r rs c = let h = c.1 in (suc c.0, omega arith, c.2)
 
@@ -94,12 +101,14 @@ in_cons_at : (x r : Record) (rs : List Record) (k : ℕ) → k < length (x ∷ r
 in_cons_at x r rs zero h e = inl e
 in_cons_at x r rs (suc k) h e = inr (k, omega arith, e)
 
+-- an element is the first or one of the rest
 pub in_cons : (x r : Record) (rs : List Record) → Contains (x ∷ rs) r → (x ≡ r) ⊎ Contains rs r
 in_cons x r rs c = in_cons_at x r rs c.0 c.1 c.2
 
 abbrev pub nothing : ℕ → List (Option ℕ)
 nothing n = replicate n None
 
+-- where nothing was put no word is there
 pub none_put : (n j w : ℕ) → get_or (nothing n) j None ≡ Some w → ⊥
 none_put zero j w e = cc
 none_put (suc n) zero w e = cc
@@ -117,9 +126,11 @@ whole_is (Some w ∷ p) (x ∷ c) a l h = λ i. sym (h 0 w refl) i ∷ whole_is 
 
 -- ---- what a change of one slot or one seat leaves
 module _ {A B : Type 0} (F : A → B) (f : ℕ → A) (i : ℕ) (x : A) (e : F x ≡ F (f i)) where
+  -- a value that the write leaves, at one place
   pub same_at : (k : ℕ) → F (f k) ≡ F (put_at f i x k)
   same_at k = Rattle.rv_slotcore.proofs.Updates.put_cases (λ z. F (f k) ≡ F z) f i k x
       (λ d. ap (λ (u : ℕ). F (f u)) d ∙ sym e) (λ _. refl)
 
+  -- and at all
   pub same_map : ◌≡◌ {A = ℕ → B} (λ k. F (f k)) (λ k. F (put_at f i x k))
   same_map = λ j k. same_at k j

@@ -96,6 +96,7 @@ module _ (m : ℕ) (slots : ℕ → Slot) (seats : ℕ → Seat) (safe : SafeOf 
     not_full = ⊎_elim (λ h. absurd (true≢false (sym (safe.flags.order i h) ∙ free))) (λ h. h)
         (cases_Bool x.full)
 
+    -- a claim keeps the invariant
     pub claim_keeps : SafeOf m (put_at slots i (claimed_slot x))
         (put_at seats s (in_state q (Filling i no_words)))
     claim_keeps = let y : Slot = claimed_slot x in let r : Seat = in_state q (Filling i no_words)
@@ -334,6 +335,7 @@ module _ (m : ℕ) (slots : ℕ → Slot) (seats : ℕ → Seat) (safe : SafeOf 
 
   -- ---- pin
   module _ (idle : q.state ≡ Idle) where
+    -- a pin does
     pub pin_keeps : x.full ≡ true → SafeOf m (put_at slots i (pinned_slot x s true))
         (put_at seats s
         (recorded q (Pinned i x.generation x.content)
@@ -359,6 +361,7 @@ module _ (m : ℕ) (slots : ℕ → Slot) (seats : ℕ → Seat) (safe : SafeOf 
           records = records_added y r w refl refl refl refl full refl refl;
         }
 
+    -- a stray pin does
     pub stray_keeps : SafeOf m (put_at slots i (pinned_slot x s true))
         (put_at seats s (in_state q (Stray i)))
     stray_keeps = let y : Slot = pinned_slot x s true in let r : Seat = in_state q (Stray i) in

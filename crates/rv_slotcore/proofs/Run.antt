@@ -207,6 +207,7 @@ module _ (c : Core) (safe : Safe c) (s : ℕ) where
   seated : nat_lt s c.seat_count ≡ true → s < c.seat_count
   seated e = ltb-true s c.seat_count e
 
+  -- each act does
   pub moves_keep : (a : Act) → Safe (moves c s a).0
   moves_keep (Claim i) = guarded _ (claims c s i (c.seats s).state (c.slots i).claimed)
       (λ e. by_claim i (c.seats s).state (c.slots i).claimed
@@ -227,10 +228,12 @@ module _ (c : Core) (safe : Safe c) (s : ℕ) where
   moves_keep (Free i seen) = guarded _ (frees c s i seen (c.seats s).state)
       (λ e. by_free i seen (c.seats s).state)
 
+-- each list of steps does
 pub run_keeps : (steps : List Step) (c : Core) → Safe c → Safe (run steps c)
 run_keeps [] c h = h
 run_keeps (e ∷ es) c h = run_keeps es (after c e) (moves_keep c h e.seat e.act)
 
+-- the start has it
 pub start_safe : (n m : ℕ) → m ≤ seats_at_most → Safe (start n m)
 start_safe n m h = record {
   flags = record {
@@ -254,6 +257,7 @@ start_safe n m h = record {
   };
 }
 
+-- and it says that the state is safe
 pub safe_means : (c : Core) → Safe c → Protected c × Agreeing c × Dated c
 safe_means c h = (
   λ s i g w e. let o = h.holding.pinned s i g w e in (o.0, o.1, o.2),

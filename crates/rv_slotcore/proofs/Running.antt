@@ -25,12 +25,14 @@ module _ (all : List Step) (k : ℕ) (d : Step) (from : machine.Core) where
   one_more low = ap (map step_of) (take_more all k d low) ∙ map-append step_of (take k all)
       (get_or all k d ∷ [])
 
+  -- one step more of a run
   pub core_more : k < length all → (c e : machine.Core) → c ≡ run first from → e ≡ after c next
       → e ≡ run (map step_of (take (k + 1) all)) from
   core_more low c e ran is =
       is ∙ (ap (λ x. after x next) ran ∙
       (sym (run-append first (next ∷ []) from) ∙ ap (λ es. run es from) (sym (one_more low))))
 
+  -- one answer more
   pub told_more : k < length all → (c : machine.Core) (told more : List Answer) (a : Answer) → c
       ≡ run first from
       → map answer_of told ≡ answers first from → answer_of a ≡ answer c next → more ≡ told ++ a

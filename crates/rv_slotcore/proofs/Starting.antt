@@ -39,6 +39,7 @@ idle_at zero i = refl
 idle_at (suc n) zero = refl
 idle_at (suc n) (suc i) = idle_at n i
 
+-- a new program is the machine's start
 pub starts : (h : Parts) (n m : ℕ) → h.slots.items ≡ replicate n empty_slot
     → map seat_of h.seats.items ≡ replicate m idle_seat → core_of h ≡ start n m
 starts h n m slots idle =

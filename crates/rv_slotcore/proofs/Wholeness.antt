@@ -18,12 +18,15 @@ whole_by h c e few held = record {
   held = subst AllNamed (sym e) held;
 }
 
+-- the start is whole
 pub start_whole : (h : Parts) (n m : ℕ) → core_of h ≡ start n m → m ≤ seats_at_most → IsWhole h
 start_whole h n m e few = whole_by h (start n m) e few (λ s. tt)
 
+-- an equal machine is whole
 pub same_whole : (h g : Parts) → core_of g ≡ core_of h → IsWhole h → IsWhole g
 same_whole h g e whole = whole_by g (core_of h) e whole.few whole.held
 
+-- a step leaves it whole
 pub step_keeps_whole : (h g : Parts) (s : ℕ) (a : Act) (r : Result Answer NoMemory) → IsWhole h
     → IfOk r (λ x. Went g x (moves (core_of h) s (act_of a))) → OnErr r (core_of g ≡ core_of h)
     → IsWhole g

@@ -33,6 +33,7 @@ pin_bits_small f zero = omega arith
 pin_bits_small f (suc k) = let r = pin_bits_small f k in let p = pow-suc 2 k in room (f k) (2 ^ k)
     (pin_bits f k) (2 ^ suc k) r (p ∙ omega arith)
 
+-- the pin of a seat
 pub pin_bit : (f : ℕ → Bool) (k s : ℕ) → s < k → bit_at (pin_bits f k) s ≡ flag (f s)
 pin_bit f zero s h = absurd (omega arith)
 pin_bit f (suc k) s h = ⊎_elim
@@ -62,6 +63,7 @@ flags_are false false false = (refl, refl, refl, omega arith)
 low_small : (a p : ℕ) → a < 8 → p < 2 ^ claimed_bit → a * 2 ^ claimed_bit + p < 2 ^ generation_bit
 low_small a p h l = omega arith
 
+-- a slot's word is read as the slot
 pub word_reads : (x : Slot) → Reads (word_of x) x
 word_reads x = let a : ℕ = flags x.done x.full x.claimed in let p : ℕ =
     pin_bits x.pins seats_at_most in
@@ -83,6 +85,7 @@ word_reads x = let a : ℕ = flags x.done x.full x.claimed in let p : ℕ =
           (bit_at_cat_low a claimed_bit p s h ∙ pin_bit x.pins seats_at_most s h);
     }
 
+-- a bit of the generation
 pub high_bit : (w i : ℕ) → bit_at (w / 2 ^ generation_bit) i ≡ bit_at w (generation_bit + i)
 high_bit w i = ap (λ (z : ℕ). z % 2) (shr-shr w generation_bit i)
 
@@ -111,15 +114,18 @@ same_bit a b x r t i = ⊎_elim (λ pin. r.pins i pin ∙ sym (t.pins i pin)) (�
 pub one_word : (a b : ℕ) (x : Slot) → Reads a x → Reads b x → a ≡ b
 one_word a b x r t = same_from_bits a b (same_bit a b x r t)
 
+-- both of two tests that hold together
 pub both_true : (a b : Bool) → a && b ≡ true → (a ≡ true) × (b ≡ true)
 both_true true true e = (refl, refl)
 both_true true false e = (refl, e)
 both_true false b e = absurd (true≢false (sym e))
 
+-- a flag that is 1
 pub flag_one : (b : Bool) → flag b ≡ 1 → b ≡ true
 flag_one true e = refl
 flag_one false e = absurd (omega arith)
 
+-- a flag that is 0
 pub flag_none : (b : Bool) → flag b ≡ 0 → b ≡ false
 flag_none true e = absurd (omega arith)
 flag_none false e = refl

@@ -1,5 +1,5 @@
--- What state of the machine the core's code is in. A seat's records have the first at the front in the
--- code, and the latest at the front in the machine.
+-- What state of the machine the core's code is in. A seat's records have the first at the front in
+-- the code, and the latest at the front in the machine.
 use Rattle.std.specs.Prelude.{◌≡◌, ◌<◌, ◌≤◌, ◌/◌, ◌^◌, ℕ, ◌==◌, ◌&&◌, nat_lt, List, [], map}
 use Rattle.std.specs.Prelude.{slice_index_or, reverse, vec_len, vec_items}
 use Rattle.std.specs.Int.{bit_at}

@@ -120,95 +120,39 @@ start n m = record {
 }
 
 abbrev pub with_both : Core → ℕ → Slot → ℕ → Seat → Core
-with_both c i x s q = record {
-  slot_count = c.slot_count;
-  seat_count = c.seat_count;
-  slots = put_at c.slots i x;
-  seats = put_at c.seats s q;
-}
+with_both c i x s q = record c { slots = put_at c.slots i x; seats = put_at c.seats s q }
 
 abbrev pub with_seat : Core → ℕ → Seat → Core
-with_seat c s q = record {
-  slot_count = c.slot_count;
-  seat_count = c.seat_count;
-  slots = c.slots;
-  seats = put_at c.seats s q;
-}
+with_seat c s q = record c { seats = put_at c.seats s q }
 
 abbrev pub with_slot : Core → ℕ → Slot → Core
-with_slot c i x = record {
-  slot_count = c.slot_count;
-  seat_count = c.seat_count;
-  slots = put_at c.slots i x;
-  seats = c.seats;
-}
+with_slot c i x = record c { slots = put_at c.slots i x }
 
 abbrev pub in_state : Seat → SeatState → Seat
-in_state q st = record { state = st; records = q.records }
+in_state q st = record q { state = st }
 
 abbrev pub recorded : Seat → SeatState → Record → Seat
 recorded q st r = record { state = st; records = r ∷ q.records }
 
 abbrev pub claimed_slot : Slot → Slot
-claimed_slot x = record {
-  generation = x.generation;
-  claimed = true;
-  full = x.full;
-  done = x.done;
-  pins = x.pins;
-  content = x.content;
-}
+claimed_slot x = record x { claimed = true }
 
 abbrev pub written_slot : Slot → ℕ → ℕ → Slot
-written_slot x j w = record {
-  generation = x.generation;
-  claimed = x.claimed;
-  full = x.full;
-  done = x.done;
-  pins = x.pins;
-  content = slice_set x.content j w;
-}
+written_slot x j w = record x { content = slice_set x.content j w }
 
 abbrev pub full_slot : Slot → Slot
-full_slot x = record {
-  generation = x.generation;
-  claimed = x.claimed;
-  full = true;
-  done = x.done;
-  pins = x.pins;
-  content = x.content;
-}
+full_slot x = record x { full = true }
 
 abbrev pub pinned_slot : Slot → ℕ → Bool → Slot
-pinned_slot x s b = record {
-  generation = x.generation;
-  claimed = x.claimed;
-  full = x.full;
-  done = x.done;
-  pins = put_at x.pins s b;
-  content = x.content;
-}
+pinned_slot x s b = record x { pins = put_at x.pins s b }
 
 abbrev pub done_slot : Slot → Slot
-done_slot x = record {
-  generation = x.generation;
-  claimed = x.claimed;
-  full = x.full;
-  done = true;
-  pins = x.pins;
-  content = x.content;
-}
+done_slot x = record x { done = true }
 
 -- the content stays
 abbrev pub freed_slot : Slot → Slot
-freed_slot x = record {
-  generation = x.generation + 1;
-  claimed = false;
-  full = false;
-  done = false;
-  pins = λ s. false;
-  content = x.content;
-}
+freed_slot x =
+    record x { generation = x.generation + 1; claimed = false; full = false; done = false; pins = λ s. false }
 
 -- claimed, full and done, without a pin
 abbrev pub is_free_word : ℕ → Bool

@@ -76,7 +76,7 @@ impl Parts {
         Answer::Stored
     }
 
-    /// A publish. After want of memory all is as it was.
+    /// A publish. Out of memory leaves all as it was.
     fn publish(&mut self, seat: u8) -> Result<Answer, NoMemory>
         requires seat { seat < vec_len self.old.seats }
         requires held { IsHeld self.old seat }
@@ -103,7 +103,7 @@ impl Parts {
         Ok(Answer::Published)
     }
 
-    /// A pin. After want of memory all is as it was.
+    /// A pin. Out of memory leaves all as it was.
     fn pin(&mut self, seat: u8, slot: usize) -> Result<Answer, NoMemory>
         requires seat { seat < vec_len self.old.seats }
         requires seat_bit { seat < seats_at_most }
@@ -214,7 +214,7 @@ impl Parts {
         Answer::Freed
     }
 
-    /// One step of the machine. After want of memory all is as it was.
+    /// One step of the machine. Out of memory leaves all as it was.
     pub(crate) fn step(&mut self, step: Step) -> Result<Answer, NoMemory>
         requires few { vec_len self.old.seats ≤ seats_at_most }
         requires held { AllHeld self.old }

@@ -36,7 +36,7 @@ impl Core {
     /// record.
     ///
     /// # Errors
-    /// Want of memory.
+    /// Out of memory.
     pub fn new(alloc: Global, slots: usize, seats: u8) -> Result<Core, NoMemory>
         requires slots { (slots_at_least ≤ slots) × (slots ≤ slots_at_most) }
         requires seats { (1 ≤ seats) × (seats ≤ seats_at_most) }
@@ -71,7 +71,7 @@ impl Core {
     /// One step of the machine, and its answer.
     ///
     /// # Errors
-    /// Want of memory, for a record. The core is then as it was.
+    /// Out of memory, for a record. The core is then as it was.
     pub fn step(&mut self, step: Step) -> Result<Answer, NoMemory>
         ensures ok { IfOk result (λ a. Went self.new a (moves (core_of self.old) step.seat (act_of step.act))) }
         ensures err { OnErr result (core_of self.new ≡ core_of self.old) }
@@ -92,7 +92,7 @@ impl Core {
     /// They are made on a copy, which takes the core's place at the end.
     ///
     /// # Errors
-    /// Want of memory, at any of the steps too. The core is then as it was.
+    /// Out of memory, at any of the steps too. The core is then as it was.
     pub fn run(&mut self, alloc: Global, steps: &[Step]) -> Result<Vec<Answer>, NoMemory>
         ensures core { IfOk result (λ _. core_of self.new ≡ run (map step_of steps.now) (core_of self.old)) }
         ensures answers { IfOk result (λ v.

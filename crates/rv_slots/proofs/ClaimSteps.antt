@@ -24,6 +24,7 @@ use Rattle.rv_slots.proofs.Knowing.{knows, shown_idle}
 use Rattle.rv_slots.proofs.Seating.{Goes, allows_of, one, keeps_by, marked_same}
 use Rattle.rv_slots.proofs.Seating.{whole_same, slot_same}
 
+-- the machine's claim, where it fits
 pub moves_claim : (c : Core) (s i : ℕ) (b : Bool) → nat_lt s c.seat_count ≡ true
     → nat_lt i c.slot_count ≡ true → (c.seats s).state ≡ core.Idle → (c.slots i).claimed ≡ b
     → moves c s (Claim i) ≡ claims c s i core.Idle b
@@ -39,6 +40,7 @@ same_claimed x e = λ k. record {
   content = x.content;
 }
 
+-- a claiming exchange is that step
 pub claims_go : ClaimIsStep
 claims_go n slots id q i me idle below s k at small =
     let p : SeatView = the_view me.0 in let a = idle.alone in
@@ -96,6 +98,7 @@ claims_go n slots id q i me idle below s k at small =
     (slot_words * i) (bit_or w (2 ^ claimed_bit)) id l p') (sym bare) kept in
     (one p', goes.0, goes.1, (i, refl, λ j. (one p', bare j)))
 
+-- so it is allowed
 pub claims_by : (n slots id q i : ℕ) (me : Me (Unit {0}) View) → IsIdle q me → i < n → Allows
     (Kept n) slots id me (slot_words * i) (λ w. bit_or w (2 ^ claimed_bit))
     (claim_told (step slots (slot_words * i) (2 ^ claimed_bit) 0 none) me)

@@ -42,16 +42,19 @@ mark i g = record { slot = i; generation = g }
 -- one mark more in a row of lists
 module _ (F : SeatView → List Mark) (seat : ℕ → SeatView) (s : ℕ) (p' : SeatView) (m : Mark)
     (more : F p' ≡ m ∷ F (seat s)) where
+  -- old marks stay
   pub mark_still : (t : ℕ) (z : Mark) → Contains (F (seat t)) z → Contains
       (F (put_at seat s p' t)) z
   mark_still t z c = put_cases (λ v. Contains (F v) z) seat s t p'
       (λ e. subst (λ (l : List Mark). Contains l z) (sym more)
       (in_tail m z (F (seat s)) (subst (λ (u : ℕ). Contains (F (seat u)) z) e c))) (λ _. c)
 
+  -- the new mark is there
   pub mark_new : Contains (F (put_at seat s p' s)) m
   mark_new = subst (λ (v : SeatView). Contains (F v) m) (sym (put_here seat s p'))
       (subst (λ (l : List Mark). Contains l m) (sym more) (in_head m (F (seat s))))
 
+  -- a mark is the new one or an old one
   pub mark_origin : (t : ℕ) (z : Mark) → Contains (F (put_at seat s p' t)) z → (m ≡ z) ⊎ Contains
       (F (seat t)) z
   mark_origin t z = put_cases (λ v. Contains (F v) z → (m ≡ z) ⊎ Contains (F (seat t)) z) seat s t
@@ -61,6 +64,7 @@ module _ (F : SeatView → List Mark) (seat : ℕ → SeatView) (s : ℕ) (p' : 
       (in_cons m z (F (seat s)) (subst (λ (l : List Mark). Contains l z) more c)))
       (λ _ c. inr c)
 
+-- a finishing exchange is the machine's step
 pub finishes_go : DoneIsStep
 finishes_go n slots id q i me holds below s k at small = let a = holds.alone in
     let p : SeatView = the_view me.0 in
@@ -139,6 +143,7 @@ moves_free c s i seen b h g e fit low same =
     (λ k. if_fits c s (h k && g k) (core.frees c s i seen (e k))) ∙
     (λ k. core.frees_if c s i (fit k) (low k) (same k))
 
+-- a freeing exchange is the machine's step
 pub frees_go : FreeIsStep
 frees_go n slots id q i seen me idle below fit low s k at small = let a = idle.alone in
     let p : SeatView = the_view me.0 in
@@ -244,6 +249,7 @@ frees_go n slots id q i seen me idle below fit low s k at small = let a = idle.a
     (slot_words * i) (either (eqb w seen) next w) id l p') (sym bare) kept in
     (one p', goes.0, goes.1, (i, refl, λ u. (one p', bare u)))
 
+-- so a finishing exchange is allowed
 pub finishes_by : (n slots id q i : ℕ) (me : Me (Unit {0}) View) → IsPinned q i me → i < n
     → Allows (Kept n) slots id me (slot_words * i) (λ w. bit_or w (2 ^ done_bit))
     (done_told (step slots (slot_words * i) (2 ^ done_bit) 0 none) me)
@@ -252,6 +258,7 @@ finishes_by n slots id q i me holds below = allows_of n slots id (slot_words * i
     (done_told (step slots (slot_words * i) (2 ^ done_bit) 0 none) me)
     (finishes_go n slots id q i me holds below)
 
+-- so a freeing exchange is allowed
 pub frees_by : (n slots id q i seen : ℕ) (me : Me (Unit {0}) View) → IsIdle q me → i < n
     → core.is_free_word seen ≡ true → seen / 2 ^ generation_bit ≢ last_generation
     → Allows (Kept n) slots id me (slot_words * i)

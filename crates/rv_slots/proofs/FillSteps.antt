@@ -31,6 +31,7 @@ moves_put : (c : Core) (s i j v : ℕ) (p : List (Option ℕ)) → nat_lt s c.se
     ≡ core.puts c s j v (core.Filling i p)
 moves_put c s i j v p h g e = λ k. if_fits c s (h k && g k) (core.puts c s j v (e k))
 
+-- a putting exchange is the machine's step
 pub puts_go : PutIsStep
 puts_go n slots id q i j v me fills below within s k at small = let a = fills.alone in
     let p : SeatView = the_view me.0 in
@@ -79,6 +80,7 @@ moves_publish : (c : Core) (s i : ℕ) (p : List (Option ℕ)) → nat_lt s c.se
 moves_publish c s i p h e a b = (λ k. if_fits c s (h k) (core.publishes c s (e k))) ∙
     (λ k. core.publishes_if c s i p (a k && b k))
 
+-- a publishing exchange is the machine's step
 pub publishes_go : PublishIsStep
 publishes_go n slots id q i me fills all text below s k at small = let a = fills.alone in
     let p : SeatView = the_view me.0 in
@@ -143,6 +145,7 @@ publishes_go n slots id q i me fills all text below s k at small = let a = fills
     (slot_words * i) (bit_or w (2 ^ full_bit)) id l p') (sym bare) kept in
     (one p', goes.0, goes.1, (i, refl, λ u. (one p', bare u)))
 
+-- so a putting exchange is allowed
 pub puts_by : (n slots id q i j v : ℕ) (me : Me (Unit {0}) View) → IsFilling q i me → i < n
     → j < 58
     → Allows (Kept n) slots id me (slot_words * i + (1 + j)) (λ _. v)
@@ -152,6 +155,7 @@ puts_by n slots id q i j v me fills below within = allows_of n slots id
     (λ _. put_told (step slots (slot_words * i + (1 + j)) v 0 none) me v)
     (puts_go n slots id q i j v me fills below within)
 
+-- so a publishing exchange is allowed
 pub publishes_by : (n slots id q i : ℕ) (me : Me (Unit {0}) View) → IsFilling q i me
     → core.all_put (put_in (the_view me.0).state) ≡ true → is_chunk_text
     (core.put_words (put_in (the_view me.0).state)) ≡ true → i < n

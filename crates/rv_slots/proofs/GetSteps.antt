@@ -133,6 +133,7 @@ whole_with seat s p' r r' rs m l was is slot gen all text =
           (core.put_words y.words) ≡ true) d.0 text) (λ old. m.text t z h old) (origin t z c);
     }
 
+-- a getting exchange is the machine's step
 pub gets_go : GetIsStep
 gets_go n slots id q i j me holds below within s k at small = let a = holds.alone in
     let p : SeatView = the_view me.0 in
@@ -213,6 +214,7 @@ gets_go n slots id q i j me holds below within s k at small = let a = holds.alon
       ),
     )
 
+-- so it is allowed
 pub gets_by : (n slots id q i j : ℕ) (me : Me (Unit {0}) View) → IsPinned q i me → i < n → j < 58
     → Allows (Kept n) slots id me (slot_words * i + (1 + j)) (λ w. w)
     (get_told (step slots (slot_words * i + (1 + j)) 0 0 none) me)

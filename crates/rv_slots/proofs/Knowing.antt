@@ -19,6 +19,7 @@ use Rattle.rv_slots.specs.Knows.{IsAlone}
 use Rattle.rv_slots.specs.Rule.{Fits, Kept, RecordFits, RecordsFit, shown}
 use Rattle.rv_slots.proofs.Seating.{one, seat_is}
 
+-- who is shown as idle is idle
 pub shown_idle : (st : core.SeatState) → Idle ≡ shown st → st ≡ core.Idle
 shown_idle core.Idle e = refl
 shown_idle (core.Filling i p) e = absurd (cc)
@@ -33,6 +34,7 @@ pub record Knows {n : ℕ} {s : State (Unit {0}) View} (k : Kept n s) (id : ℕ)
   pub is : k.seat p.number ≡ p
   pub fits : Fits p (k.core.seats p.number)
 
+-- a seat alone knows its place in the machine
 pub knows : (n : ℕ) (s : State (Unit {0}) View) (k : Kept n s) (id q : ℕ)
     (me : Me (Unit {0}) View) → IsAlone q me → get_elem? s.views id ≡ some me.0 → Knows k id
     (the_view me.0)
@@ -47,6 +49,7 @@ knows n s k id q me a at = let p : SeatView = the_view me.0 in let here : get_el
           (λ z. Fits z (k.core.seats p.number)) is.3 (k.fits p.number is.0);
     }
 
+-- who is shown as pinned is pinned
 pub shown_pinned : (st : core.SeatState) (i g : ℕ) → Pinned i g ≡ shown st → (w : List ℕ) ×
     (st ≡ core.Pinned i g w)
 shown_pinned core.Idle i g e = absurd (cc)
@@ -55,12 +58,14 @@ shown_pinned (core.Pinned k h w) i g e = let a : k ≡ i = cc in let b : h ≡ g
     (w, λ j. core.Pinned (a j) (b j) w)
 shown_pinned (core.Stray k) i g e = absurd (cc)
 
+-- who is shown as stray is stray
 pub shown_stray : (st : core.SeatState) (i : ℕ) → Stray i ≡ shown st → st ≡ core.Stray i
 shown_stray core.Idle i e = absurd (cc)
 shown_stray (core.Filling k p) i e = absurd (cc)
 shown_stray (core.Pinned k h w) i e = absurd (cc)
 shown_stray (core.Stray k) i e = let a : k ≡ i = cc in ap core.Stray a
 
+-- who is shown as filling is filling
 pub shown_filling : (st : core.SeatState) (i : ℕ) (p : List (Option ℕ)) → Filling i p ≡ shown st
     → st ≡ core.Filling i p
 shown_filling core.Idle i p e = absurd (cc)
@@ -76,9 +81,11 @@ safe_of n s k = subst Safe k.reached.1
 
 -- ---- lists
 module _ {A : Type 0} where
+  -- the first is contained
   pub in_head : (r : A) (rs : List A) → Contains (r ∷ rs) r
   in_head r rs = (0, omega arith, refl)
 
+  -- what the rest contains the list contains
   pub in_tail : (x r : A) (rs : List A) → Contains rs r → Contains (x ∷ rs) r
   in_tail x r rs c = let h = c.1 in (suc c.0, omega arith, c.2)
 
@@ -87,6 +94,7 @@ module _ {A : Type 0} where
   in_cons_at x r rs zero h e = inl e
   in_cons_at x r rs (suc k) h e = inr (k, omega arith, e)
 
+  -- an element is the first or one of the rest
   pub in_cons : (x r : A) (rs : List A) → Contains (x ∷ rs) r → (x ≡ r) ⊎ Contains rs r
   in_cons x r rs c = in_cons_at x r rs c.0 c.1 c.2
 
@@ -100,6 +108,7 @@ fit_back (x ∷ rs) (y ∷ qs) q f c = ⊎_elim
     (λ e. (x, in_head x rs, subst (λ z. RecordFits x z) e f.0))
     (λ d. let o = fit_back rs qs q f.1 d in (o.0, in_tail x o.0 rs o.1, o.2)) (in_cons y q qs c)
 
+-- a record that fits has its counterpart
 pub fit_there : (rs : List Record) (qs : List core.Record) (r : Record) → RecordsFit rs qs
     → Contains rs r → (q : core.Record) × Contains qs q × RecordFits r q
 fit_there [] [] r f c = let l = c.1 in absurd (omega arith)

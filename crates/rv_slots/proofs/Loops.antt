@@ -18,6 +18,7 @@ use Rattle.rv_slots.specs.Carried.{IsLetGo}
 abbrev pub HasWords : List (Option ℕ) → List ℕ → ℕ → Type 0
 HasWords ws xs j = (m : ℕ) → m < j → get_or ws m None ≡ Some (get_or xs m 0)
 
+-- no words so far
 pub has_none : (ws : List (Option ℕ)) (xs : List ℕ) → HasWords ws xs 0
 has_none ws xs m h = absurd (omega arith)
 
@@ -33,6 +34,7 @@ has_more ws vs xs ys j w long within h is here same m l = ap
     (h m (omega arith) ∙ ap Some (sym (same m (omega arith)))))
     (cases_eq m j)
 
+-- all words are there
 pub all_there : (ws : List (Option ℕ)) (xs : List ℕ) → length ws ≡ length xs → HasWords ws xs
     (length ws) → (all_put ws ≡ true) × (put_words ws ≡ xs)
 all_there [] [] l h = (refl, refl)
@@ -43,10 +45,12 @@ all_there (Some w ∷ ws) (x ∷ xs) l h = let e : Some w ≡ Some x = h 0 (omeg
     ≡ x = cc in let r = all_there ws xs (omega arith) (λ m lt. h (suc m) (omega arith)) in
     (r.0, λ i. is i ∷ r.1 i)
 
+-- the words of the pin's record
 pub pin_words_is : (p : SeatView) → p.records ≡ pin_record p ∷ drop 1 p.records
     → pin_words p.records ≡ (pin_record p).words
 pin_words_is p e = ap pin_words e
 
+-- a word more of it
 pub got_words : (p : SeatView) (j w : ℕ) → p.records ≡ pin_record p ∷ drop 1 p.records → pin_words
     (got_in p.records j w) ≡ set (pin_words p.records) j (Some w)
 got_words p j w e = ap (λ (l : List Record). pin_words (got_in l j w)) e ∙ ap
@@ -59,6 +63,7 @@ put_all ws xs j past end long wide has =
     let n : j ≡ length ws = omega (arith, long) in
     all_there ws xs (long ∙ sym wide) (subst (HasWords ws xs) n has)
 
+-- an unpin and a free that follows
 pub let_go : (p : SeatView) (i j n m : ℕ) (u : Seat) (seen : ℕ) (answer : Free) (r : Seat)
     → j ≡ i → m ≡ n → IsUnpin p j m u seen → IsFree u i seen answer r → IsLetGo p i n r
 let_go p i j n m u seen answer r e f step free =

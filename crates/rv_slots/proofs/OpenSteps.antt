@@ -17,18 +17,21 @@ use Rattle.rv_slots.proofs.Places.{cuts, in_longer}
 abbrev pub Mine : Type 0
 Mine = Me (Unit {0}) View
 
+-- the seats that are left
 pub rest_is : (k : ℕ) → k ≤ last_seat → fresh_seats (seats_at_most - k) ≡ fresh k ∷ fresh_seats
     (last_seat - k)
 rest_is k h = let e : seats_at_most - k ≡ suc (last_seat - k) = omega arith in let f : last_seat -
     (last_seat - k) ≡ k = omega arith in ap fresh_seats e ∙ ap
     (λ (z : ℕ). fresh z ∷ fresh_seats (last_seat - k)) f
 
+-- one more is cut off
 pub next_cuts : (n id k : ℕ) (m : Mine) → k ≤ last_seat → m ≡
     (record { seats = fresh_seats (seats_at_most - k) }, []) → Splits (Kept n) id m.0
     (cut_left m.0) (cut_right m.0)
 next_cuts n id k m h e = cuts n id m.0 (fresh k) (fresh_seats (last_seat - k))
     (ap (λ (z : Mine). z.0) e ∙ (λ j. record { seats = rest_is k h j }))
 
+-- the seat that was cut off
 pub left_is : (k : ℕ) (m w : Mine) → k ≤ last_seat → m ≡
     (record { seats = fresh_seats (seats_at_most - k) }, []) → w ≡ (cut_left m.0, m.1) → w ≡ only
     (fresh k)
@@ -36,12 +39,14 @@ left_is k m w h e f = f ∙
     ((λ j. (cut_left (e j).0, (e j).1)) ∙
     (λ j. (cut_left (record { seats = rest_is k h j }), [])))
 
+-- and the others
 pub right_is : (k : ℕ) (m w : Mine) → k ≤ last_seat → m ≡
     (record { seats = fresh_seats (seats_at_most - k) }, []) → w ≡ (cut_right m.0, []) → w ≡
     (record { seats = fresh_seats (last_seat - k) }, [])
 right_is k m w h e f = f ∙
     ((λ j. (cut_right (e j).0, [])) ∙ (λ j. (cut_right (record { seats = rest_is k h j }), [])))
 
+-- a fresh seat is idle
 pub idle_fresh : (k : ℕ) (w : Mine) → k ≤ last_seat → w ≡ only (fresh k) → IsIdle k w
 idle_fresh k w h e = record {
   alone = record {
@@ -53,6 +58,7 @@ idle_fresh k w h e = record {
   state = ap (λ (z : Mine). (the_view z.0).state) e;
 }
 
+-- one seat more
 pub more_seats : (t : TableId) (l : List Seat) (k : ℕ) (s : Seat) → AreSeats t l k
     → s.place.table_id ≡ t → s.number ≡ k → s.place.me ≡ only (fresh k) → AreSeats t (l ++ s ∷ [])
     (k + 1)
@@ -69,6 +75,7 @@ more_seats t l k s a same named e = let n = a.0 in (
       (λ old. a.1 j z old.1) (in_longer l s z j at),
 )
 
+-- at the end of the list
 pub seats_pushed : (t : TableId) (l m : List Seat) (k : ℕ) (s : Seat) → m ≡ l ++ s ∷ []
     → AreSeats t l k → s.place.table_id ≡ t → s.number ≡ k → s.place.me ≡ only (fresh k)
     → AreSeats t m (k + 1)
@@ -83,6 +90,7 @@ at_default [] j d h = absurd (omega arith)
 at_default (x ∷ l) zero d h = refl
 at_default (x ∷ l) (suc j) d h = at_default l j d (omega arith)
 
+-- all seats are of the table
 pub all_ours : (t : TableId) (l : List Seat) (k : ℕ) → AreSeats t l k
     → Rattle.std.proofs.Common.All (λ (s : Seat). s.place.table_id ≡ t) l
 all_ours t l k a j d h =

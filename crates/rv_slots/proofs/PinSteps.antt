@@ -79,6 +79,7 @@ whole_more seat s p' w m l more has text =
 never_whole : core.all_put no_words ≡ true → ⊥
 never_whole e = cc
 
+-- a pinning exchange is the machine's step
 pub pins_go : PinIsStep
 pins_go n slots id q i me idle below s k at small =
     let p : SeatView = the_view me.0 in let a = idle.alone in
@@ -205,6 +206,7 @@ pins_go n slots id q i me idle below s k at small =
     (slot_words * i) (bit_or w (2 ^ q)) id l p') (sym bare) kept in
     (one p', goes.0, goes.1, ((i, refl, λ j. (one p', bare j)), newest))
 
+-- so it is allowed
 pub pins_by : (n slots id q i : ℕ) (me : Me (Unit {0}) View) → IsIdle q me → i < n → Allows
     (Kept n) slots id me (slot_words * i) (λ w. bit_or w (2 ^ q))
     (pin_told (step slots (slot_words * i) (2 ^ q) 0 none) me)

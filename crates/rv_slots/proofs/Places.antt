@@ -102,6 +102,7 @@ module _ (views : List View) (seat : ℕ → SeatView) (row column : ℕ → ℕ
       (some-injective x p e) in_first
   split_here (suc m) p e = in_rest m p e
 
+  -- the seats after a split are seated
   pub cut_seated : IsSeated after_cut seat cut_row cut_column
   cut_seated = record {
     there = λ t h. let a = d.there t h in dite (ℕ_discrete (row t) id)
@@ -154,6 +155,7 @@ module _ (views : List View) (seat : ℕ → SeatView) (row column : ℕ → ℕ
         (in_longer (set views id (one x)) (record { seats = xs }) a.0 k a.1);
   }
 
+-- so a place may be split
 pub cuts : (n id : ℕ) (v : View) (x : SeatView) (xs : List SeatView) → v
     ≡ record { seats = x ∷ xs } → Splits (Kept n) id v (cut_left v) (cut_right v)
 cuts n id v x xs is s k at = let here : get_elem? s.views id ≡ some (record { seats = x ∷ xs }) =
@@ -251,6 +253,7 @@ module _ (views : List View) (seat : ℕ → SeatView) (row column : ℕ → ℕ
   )
   two_there k (suc (suc m)) z e f = absurd (some-ne-none z (sym f))
 
+  -- the seats after a join are seated
   pub glue_seated : IsSeated after_glue seat (put_at row q.number id) (put_at column q.number 1)
   glue_seated = record {
     there = λ t h. dite (ℕ_discrete t q.number)
@@ -280,6 +283,7 @@ module _ (views : List View) (seat : ℕ → SeatView) (row column : ℕ → ℕ
         (at_set (set views id pair) other k spent a.0 a.1);
   }
 
+-- so two places may be joined
 pub glues : (n id other : ℕ) (v w : View) (p q : SeatView) → v ≡ one p → w ≡ one q → Joins
     (Kept n) id v other w (joined v w) spent
 glues n id other v w p q is its s k at apart there' =
@@ -312,6 +316,7 @@ contains_at : {A : Type 0} (l : List A) (a : A) → Contains l a → (k : ℕ) �
     (get_elem? l k ≡ some a)
 contains_at l a c = (c.0, Rattle.atomic_table.proofs.Lists.at_index l c.0 a c.1 (sym c.2))
 
+-- an exchange on two seats tells that their records agree
 pub learns : (n slots id : ℕ) (me : Me (Unit {0}) View) → Allows (Kept n) slots id me 0 (λ w. w)
     (meet_told (step slots 0 0 0 none) me)
 learns n slots id me s k homes at small = let safe = safe_of n s k in (
@@ -390,6 +395,7 @@ zero_word zero k = refl
 zero_word (suc m) zero = refl
 zero_word (suc m) (suc k) = zero_word m k
 
+-- a new table keeps the rule
 pub opens : (n : ℕ) → Kept n (opening (replicate (slot_words * n) 0) [] opening_view)
 opens n = record {
   core = core.start n seats_at_most;
@@ -441,15 +447,18 @@ opens n = record {
 abbrev pub two : Me (Unit {0}) View → Me (Unit {0}) View → View
 two m w = record { seats = the_view m.0 ∷ the_view w.0 ∷ [] }
 
+-- two seats joined
 pub joined_is : (q t : ℕ) (m w : Me (Unit {0}) View) → Rattle.rv_slots.specs.Knows.IsAlone q m
     → Rattle.rv_slots.specs.Knows.IsAlone t w → joined m.0 w.0 ≡ two m w
 joined_is q t m w a b = λ j. joined (a.one j).0 (b.one j).0
 
+-- and still joined after they met
 pub met_is : (q t : ℕ) (m w joint after : Me (Unit {0}) View)
     → Rattle.rv_slots.specs.Knows.IsAlone q m → Rattle.rv_slots.specs.Knows.IsAlone t w → joint ≡
     (joined m.0 w.0, m.1) → after ≡ joint → after ≡ (two m w, [])
 met_is q t m w joint after a b e f = f ∙ (e ∙ (λ j. (joined_is q t m w a b j, (a.one j).1)))
 
+-- they agree
 pub met : (q t : ℕ) (m w joint : Me (Unit {0}) View) → Rattle.rv_slots.specs.Knows.IsAlone q m
     → Rattle.rv_slots.specs.Knows.IsAlone t w → joint ≡ (joined m.0 w.0, m.1)
     → ((x y : SeatView) → Contains joint.0.seats x → Contains joint.0.seats y
@@ -461,11 +470,13 @@ met q t m w joint a b e f = let is : joint.0.seats ≡ the_view m.0 ∷ the_view
     (subst (λ (l : List SeatView). Contains l (the_view w.0)) (sym is)
     (in_tail (the_view m.0) (the_view w.0) (the_view w.0 ∷ []) (in_head (the_view w.0) [])))
 
+-- the first seat, split off again
 pub first_again : (q t : ℕ) (m w x y : Me (Unit {0}) View)
     → Rattle.rv_slots.specs.Knows.IsAlone q m → x ≡ (two m w, []) → y ≡ (cut_left x.0, x.1) → y
     ≡ m
 first_again q t m w x y a e f = f ∙ ((λ j. (cut_left (e j).0, (e j).1)) ∙ sym a.one)
 
+-- and the second
 pub second_again : (q t : ℕ) (m w x y : Me (Unit {0}) View)
     → Rattle.rv_slots.specs.Knows.IsAlone t w → x ≡ (two m w, []) → y ≡ (cut_right x.0, []) → y
     ≡ w

@@ -56,6 +56,7 @@ module _ (n : ℕ) (s : State (Unit {0}) View) (k : Kept n s) where
       (k.core.slots i).generation)
   same_generation i h = (k.table.states i h).generation
 
+  -- what the rule says of a state
   pub says : Says n s
   says = record {
     once = λ a b c d p q x y e. let u = k.seated.only a b p x in let v = k.seated.only c d q y in
@@ -167,5 +168,6 @@ module _ (n : ℕ) (s : State (Unit {0}) View) (k : Kept n s) where
     );
   }
 
+-- so it says that
 pub rule_says : RuleSays
 rule_says n s k = let d = safe_means k.core (safe_of n s k) in (says n s k, d.0, d.1, d.2)

@@ -19,6 +19,7 @@ use Rattle.rv_slots.specs.Rule.{Whole, Fits, Kept}
 abbrev pub one : SeatView → View
 one p = record { seats = p ∷ [] }
 
+-- what is there is below the length
 pub there_below : {A : Type 0} (l : List A) (i : ℕ) (a : A) → get_elem? l i ≡ some a
     → i < length l
 there_below [] i a e = absurd (some-ne-none a (sym e))
@@ -42,6 +43,7 @@ module _ (views : List View) (seat : ℕ → SeatView) (row column : ℕ → ℕ
   first_at : At views id 0 p
   first_at = (one p, here, refl)
 
+  -- a view is the seat of its number
   pub seat_is : (p.number < seats_at_most) × (row p.number ≡ id) × (column p.number ≡ 0) ×
       (seat p.number ≡ p)
   seat_is = let o = d.only id 0 p first_at in (
@@ -59,6 +61,7 @@ module _ (views : List View) (seat : ℕ → SeatView) (row column : ℕ → ℕ
       let f = only_first p (seat t) (column t) (ap (λ (v : View). get_elem? v.seats (column t))
       (sym same) ∙ a.2) in n (sym (d.named t h) ∙ sym (ap (λ (q : SeatView). q.number) f.1))
 
+  -- a view that was changed is seated
   pub seated_after : (q : SeatView) → q.number ≡ p.number → IsSeated (set views id (one q))
       (put_at seat p.number q) row column
   seated_after q same = record {
@@ -87,6 +90,7 @@ module _ (views : List View) (seat : ℕ → SeatView) (row column : ℕ → ℕ
         (at_set views id k (one q) a.0 a.1);
   }
 
+-- a step leads to a state that is reached
 pub reached_next : (n : ℕ) (c d : Core) (e : Step) → IsReached n c → after c e ≡ d → IsReached n d
 reached_next n c d e r is = (
   r.0 ++ e ∷ [],
@@ -100,11 +104,13 @@ pub field_same : {B : Type 0} (F : SeatView → B) (seat : ℕ → SeatView) (s 
 field_same {B} F seat s q e t = put_cases (λ z. F z ≡ F (seat t)) seat s t q
     (λ d. e ∙ ap (λ (k : ℕ). F (seat k)) (sym d)) (λ _. refl)
 
+-- a part of a slot that the write leaves
 pub slot_same : {B : Type 0} (F : Slot → B) (slots : ℕ → Slot) (i : ℕ) (x : Slot) → F x ≡ F
     (slots i) → (k : ℕ) → F (put_at slots i x k) ≡ F (slots k)
 slot_same {B} F slots i x e k = put_cases (λ z. F z ≡ F (slots k)) slots i k x
     (λ d. e ∙ ap (λ (u : ℕ). F (slots u)) (sym d)) (λ _. refl)
 
+-- marks that the write leaves
 pub marked_same : (slots xs : ℕ → Slot) (seat : ℕ → SeatView) (s : ℕ) (q : SeatView)
     → Marked slots seat → ((i : ℕ) → (xs i).done ≡ (slots i).done) →
     ((i : ℕ) → (xs i).generation ≡ (slots i).generation)
@@ -121,6 +127,7 @@ marked_same slots xs seat s q m done generation dones frees =
           (field_same (λ z. z.frees) seat s q frees t) i,
     )) m
 
+-- records that stay whole
 pub whole_same : (seat : ℕ → SeatView) (s : ℕ) (q : SeatView) → Whole seat → q.records ≡
     (seat s).records → Whole (put_at seat s q)
 whole_same seat s q m e = subst (λ (z : ℕ → List Record). AreWhole z)
@@ -132,6 +139,7 @@ abbrev pub Goes : (n : ℕ) (s : State (Unit {0}) View) → Kept n s → Step �
 Goes n s k e i w id l q = (k' : Kept n (stepped s i w id l (one q) keeps)) ×
     (k'.core ≡ after k.core e)
 
+-- a step of the machine that keeps the rule is allowed
 pub allows_of : (n slots id i : ℕ) (me : Rattle.atomic_table.specs.Table.Me (Unit {0}) View)
     (f : ℕ → ℕ) (e : Step) (told : ℕ → Rattle.atomic_table.specs.Table.Me (Unit {0}) View
     → Type 0)

@@ -22,6 +22,7 @@ use Rattle.rv_slots.proofs.Seating.{one}
 abbrev pub Mine : Type 0
 Mine = Me (Unit {0}) View
 
+-- a seat stays alone
 pub alone_after : (q : ℕ) (m w : Mine) (p : SeatView) → IsAlone q m → w ≡ (one p, []) → p.number ≡
     (the_view m.0).number → IsAlone q w
 alone_after q m w p a e same = record {
@@ -30,19 +31,23 @@ alone_after q m w p a e same = record {
   named = ap (λ (z : Mine). (the_view z.0).number) e ∙ (same ∙ a.named);
 }
 
+-- the claim is clear
 pub clear_bit : (n : ℕ) → bit_and n (2 ^ claimed_bit) ≡ 0 → bit_at n claimed_bit ≡ 0
 clear_bit n h = let e : bit_and n (2 ^ claimed_bit) ≡ bit_at n claimed_bit * 2 ^ claimed_bit =
     and_pow n claimed_bit in omega arith
 
+-- the claim is set
 pub set_bit : (n : ℕ) → bit_and n (2 ^ claimed_bit) ≢ 0 → bit_at n claimed_bit ≡ 1
 set_bit n h = let e : bit_and n (2 ^ claimed_bit) ≡ bit_at n claimed_bit * 2 ^ claimed_bit =
     and_pow n claimed_bit in let l = bit_at-lt n claimed_bit in omega arith
 
+-- what the exchange told
 pub told_here : (line : ℕ → SeatView) (slot : ℕ) (w : Mine) → ToldFor (slot_words * slot) line w
     → w ≡ (one (line slot), [])
 told_here line slot w t = let k = t.0 in let f = t.1 in let same : k ≡ slot = omega arith in t.2
     ∙ ap (λ (z : ℕ). (one (line z), [])) same
 
+-- the seat fills the slot
 pub filling_after : (q i n : ℕ) (m w : Mine) → IsIdle q m → ToldFor (slot_words * i)
     (λ k. claimed (the_view m.0) k n) w → bit_at n claimed_bit ≡ 0 → IsFilling q i w
 filling_after q i n m w idle t clear = let e = told_here (λ k. claimed (the_view m.0) k n) i w t
@@ -57,6 +62,7 @@ filling_after q i n m w idle t clear = let e = told_here (λ k. claimed (the_vie
           (λ z. Rattle.std.proofs.Common.length (put_in z)) is;
     }
 
+-- or the slot was busy
 pub busy_after : (q i n : ℕ) (m w : Mine) → IsIdle q m → ToldFor (slot_words * i)
     (λ k. claimed (the_view m.0) k n) w → bit_at n claimed_bit ≡ 1 → IsIdle q w
 busy_after q i n m w idle t set = let e = told_here (λ k. claimed (the_view m.0) k n) i w t in
@@ -72,6 +78,7 @@ pub view_told : (line : ℕ → SeatView) (slot : ℕ) (w : Mine) → ToldFor (s
     → the_view w.0 ≡ line slot
 view_told line slot w t = ap (λ (z : Mine). the_view z.0) (told_here line slot w t)
 
+-- the place is inside the table
 pub inside_after : (i n : ℕ) (t u v : TableId) → i < n → t.words ≡ slot_words * n → u ≡ t → v ≡ u
     → slot_words * i < v.words
 inside_after i n t u v h e a b = let w : v.words ≡ t.words = ap (λ (z : TableId). z.words) (b ∙ a)
@@ -83,6 +90,7 @@ pub slot_below : (i n key : ℕ) (t u : TableId) → slot_words * i < u.words �
 slot_below i n key t u h a e f = let w : u.words ≡ t.words = ap (λ (z : TableId). z.words) a in
     (omega arith, omega arith)
 
+-- the seat is idle
 pub idle_after : (q i : ℕ) (m w : Mine) (line : ℕ → SeatView) → IsAlone q m → ToldFor
     (slot_words * i) line w → (line i).number ≡ (the_view m.0).number → (line i).state ≡ Idle
     → IsIdle q w
@@ -93,22 +101,27 @@ idle_after q i m w line a t named st = let e = told_here line i w t in
           (λ (z : Mine). (the_view z.0).state) e ∙ st;
     }
 
+-- the flag full is clear
 pub full_clear : (n : ℕ) → bit_and n (2 ^ full_bit) ≡ 0 → bit_at n full_bit ≡ 0
 full_clear n h = let e : bit_and n (2 ^ full_bit) ≡ bit_at n full_bit * 2 ^ full_bit =
     and_pow n full_bit in omega arith
 
+-- it is set
 pub full_set : (n : ℕ) → bit_and n (2 ^ full_bit) ≢ 0 → bit_at n full_bit ≡ 1
 full_set n h = let e : bit_and n (2 ^ full_bit) ≡ bit_at n full_bit * 2 ^ full_bit =
     and_pow n full_bit in let l = bit_at-lt n full_bit in omega arith
 
+-- the flag done is clear
 pub done_clear : (n : ℕ) → bit_and n (2 ^ done_bit) ≡ 0 → bit_at n done_bit ≡ 0
 done_clear n h = let e : bit_and n (2 ^ done_bit) ≡ bit_at n done_bit * 2 ^ done_bit =
     and_pow n done_bit in omega arith
 
+-- it is set
 pub done_set : (n : ℕ) → bit_and n (2 ^ done_bit) ≢ 0 → bit_at n done_bit ≡ 1
 done_set n h = let e : bit_and n (2 ^ done_bit) ≡ bit_at n done_bit * 2 ^ done_bit =
     and_pow n done_bit in let l = bit_at-lt n done_bit in omega arith
 
+-- the seat has the slot pinned
 pub pinned_after : (q i n : ℕ) (m w : Mine) → IsIdle q m → ToldFor (slot_words * i)
     (λ k. pinned (the_view m.0) k n) w → bit_at n full_bit ≡ 1 → bit_at n done_bit ≡ 0
     → IsPinned q i w
@@ -141,6 +154,7 @@ pinned_after q i n m w idle t full live = let p : SeatView = the_view m.0 in let
           records ∙ ap pinned_at (sym state);
     }
 
+-- 0 is not 1
 pub zero_one : ◌≡◌ {A = ℕ} 0 1 → ⊥
 zero_one e = omega arith
 
@@ -149,6 +163,7 @@ stray_state i g zero d h l = refl
 stray_state i g (suc f) zero h l = let one : suc f ≡ 1 = omega arith in absurd (zero_one (h one))
 stray_state i g (suc f) (suc d) h l = refl
 
+-- or its pin is stray
 pub stray_after : (q i n : ℕ) (m w : Mine) → IsIdle q m → ToldFor (slot_words * i)
     (λ k. pinned (the_view m.0) k n) w → (bit_at n full_bit ≡ 1 → bit_at n done_bit ≡ 1)
     → IsStray q i w
@@ -161,6 +176,7 @@ stray_after q i n m w idle t h = let p : SeatView = the_view m.0 in let e = told
           (bit_at n full_bit) (bit_at n done_bit) h (bit_at-lt n full_bit);
     }
 
+-- no record is of a later generation
 pub latest_told : (p : SeatView) (i n : ℕ) → IsNewest p (slot_words * i) n → (r : Record)
     → Contains p.records r → r.slot ≡ i → r.generation ≤ n / 2 ^ generation_bit
 latest_told p i n h r c e = h r c (ap (λ (z : ℕ). slot_words * z) (sym e))
@@ -169,6 +185,7 @@ latest_told p i n h r c e = h r c (ap (λ (z : ℕ). slot_words * z) (sym e))
 pub not_last : (g : ℕ) (b : Bool) → b ≡ (g == last_generation) → b ≡ false → g ≢ last_generation
 not_last g b is clear e = true≢false (sym (eq-eqb g last_generation e) ∙ (sym is ∙ clear))
 
+-- a content word is inside the table
 pub content_below : (i j n key : ℕ) (t u : TableId) → slot_words * i < u.words → u ≡ t → t.words
     ≡ slot_words * n → key ≡ n → j < 58 → slot_words * i + (1 + j) < t.words
 content_below i j n key t u h a e f l = let w : u.words ≡ t.words = ap

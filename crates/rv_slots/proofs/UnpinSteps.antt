@@ -75,16 +75,19 @@ unpins_by n slots id q i mask me a holds below s k at small =
     (slot_words * i) (cleared w q) id l p') (sym bare) kept in
     (one p', goes.0, goes.1, (i, refl, λ j. (one p', bare j)))
 
+-- an unpinning exchange is the machine's step
 pub unpins_go : UnpinIsStep
 unpins_go n slots id q i mask me p below = unpins_by n slots id q i mask me p.alone
     (λ c st e. let o = shown_pinned st i _ (sym p.state ∙ e) in ap
     (core.unpins c (the_view me.0).number) o.1) below
 
+-- so it is for a stray pin
 pub unpins_stray_go : UnpinStrayIsStep
 unpins_stray_go n slots id q i mask me p below = unpins_by n slots id q i mask me p.alone
     (λ c st e. let o = shown_stray st i (sym p.state ∙ e) in ap
     (core.unpins c (the_view me.0).number) o) below
 
+-- so it is allowed
 pub unpins_pinned : (n slots id q i : ℕ) (me : Me (Unit {0}) View) → IsPinned q i me → i < n
     → Allows (Kept n) slots id me (slot_words * i) (λ w. cleared w q)
     (unpin_told (step slots (slot_words * i) (bit_not_of q) 0 none) me)
@@ -93,6 +96,7 @@ unpins_pinned n slots id q i me p below = allows_of n slots id (slot_words * i) 
     (unpin_told (step slots (slot_words * i) (bit_not_of q) 0 none) me)
     (unpins_go n slots id q i (bit_not_of q) me p below)
 
+-- and for a stray pin
 pub unpins_stray : (n slots id q i : ℕ) (me : Me (Unit {0}) View) → IsStray q i me → i < n
     → Allows (Kept n) slots id me (slot_words * i) (λ w. cleared w q)
     (unpin_told (step slots (slot_words * i) (bit_not_of q) 0 none) me)
@@ -111,6 +115,7 @@ unpins_pinned_by n slots id q i b me e p below = subst
     (unpin_told (step slots (slot_words * i) (bit_not w64 m) 0 none) me)) (sym e)
     (unpins_pinned n slots id q i me p below)
 
+-- by whatever word has the pin's bit
 pub unpins_stray_by : (n slots id q i b : ℕ) (me : Me (Unit {0}) View) → b ≡ 2 ^ q
     → IsStray q i me → i < n → Allows (Kept n) slots id me (slot_words * i)
     (λ w. bit_and w (bit_not w64 b))

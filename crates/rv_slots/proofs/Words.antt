@@ -19,6 +19,7 @@ use mathlib.Core.Logic.{dite}
 use native.Mathlib.Decide.{ℕ_discrete}
 use Rattle.std.proofs.lemmas.Nat.Bits.{bit_at_cat_low, bit_at-zero}
 
+-- a slot with the claim is read
 pub reads_claimed : (w : ℕ) (x : Slot) → Reads w x → Reads (bit_or w (2 ^ claimed_bit))
     (claimed_slot x)
 reads_claimed w x r = record {
@@ -29,6 +30,7 @@ reads_claimed w x r = record {
   pins = λ s h. or_else w claimed_bit s (λ e. omega arith) ∙ r.pins s h;
 }
 
+-- with the flag full
 pub reads_full : (w : ℕ) (x : Slot) → Reads w x → Reads (bit_or w (2 ^ full_bit)) (full_slot x)
 reads_full w x r = record {
   generation = or_high w full_bit (omega arith) ∙ r.generation;
@@ -38,6 +40,7 @@ reads_full w x r = record {
   pins = λ s h. or_else w full_bit s (λ e. omega arith) ∙ r.pins s h;
 }
 
+-- with the flag done
 pub reads_done : (w : ℕ) (x : Slot) → Reads w x → Reads (bit_or w (2 ^ done_bit)) (done_slot x)
 reads_done w x r = record {
   generation = or_high w done_bit (omega arith) ∙ r.generation;
@@ -47,6 +50,7 @@ reads_done w x r = record {
   pins = λ s h. or_else w done_bit s (λ e. omega arith) ∙ r.pins s h;
 }
 
+-- with a pin
 pub reads_pin : (w s : ℕ) (x : Slot) → s < seats_at_most → Reads w x → Reads (bit_or w (2 ^ s))
     (pinned_slot x s true)
 reads_pin w s x l r = record {
@@ -59,6 +63,7 @@ reads_pin w s x l r = record {
       (λ ne. or_else w s t ne ∙ r.pins t h);
 }
 
+-- without it
 pub reads_unpin : (w s : ℕ) (x : Slot) → s < seats_at_most → w < 18446744073709551616 → Reads w x
     → Reads (cleared w s) (pinned_slot x s false)
 reads_unpin w s x l small r = record {

@@ -29,7 +29,8 @@ pinned_view q = the_view q.place.me.0
 abbrev pub stray_view : straying.Stray → SeatView
 stray_view q = the_view q.place.me.0
 
--- the answer goes by whether the word found was claimed, and the view changes by the line of a claim
+-- the answer goes by whether the word found was claimed, and the view changes by the line of a
+-- claim
 abbrev pub IsClaim : idle.Seat → ℕ → claim.Claim → Type 0
 IsClaim q i (claim.TheVariants.Filling f) = (found : ℕ) × (bit_at found claimed_bit ≡ 0)
     × (filling_view f ≡ claimed (view_of q) i found)

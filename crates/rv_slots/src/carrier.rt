@@ -24,10 +24,10 @@ pub enum Looked<S, L> {
 
 /// Hands chunks from thread to thread through slots, each of which holds one chunk.
 ///
-/// A seat is what a thread needs to take part, and a lease what its seat becomes while it reads a slot. Each
-/// call takes the one that it needs and gives one back, so a thread can do one thing at a time. What keeps
-/// seats and leases of several carriers apart are two predicates of the implementer's own, which every call
-/// asks for and hands on.
+/// A seat is what a thread needs to take part, and a lease what its seat becomes while it reads a
+/// slot. Each call takes the one that it needs and gives one back, so a thread can do one thing at
+/// a time. What keeps seats and leases of several carriers apart are two predicates of the
+/// implementer's own, which every call asks for and hands on.
 ///
 /// No call promises that a chunk is ever placed, or ever found.
 pub trait Carrier {
@@ -48,8 +48,8 @@ pub trait Carrier {
         requires { fits self.now seat }
         ensures { fits self.now result.0 };
 
-    /// Looks at the slot of this index. `Nothing` is the answer too where there is no such slot, so that a
-    /// thread that does not know how many there are can try each index. It takes no memory.
+    /// Looks at the slot of this index. `Nothing` is the answer too where there is no such slot, so
+    /// that a thread that does not know how many there are can try each index. It takes no memory.
     fn read_chunk<R: Wait>(
         &self,
         rt: &R,
@@ -59,8 +59,8 @@ pub trait Carrier {
         requires { fits self.now seat }
         ensures { LooksFit (fits self.now) (holds self.now) result };
 
-    /// Ends the reading of a slot, and says whether its chunk is done with. A slot whose chunk is done with is
-    /// free again once nobody reads it. It takes no memory.
+    /// Ends the reading of a slot, and says whether its chunk is done with. A slot whose chunk is
+    /// done with is free again once nobody reads it. It takes no memory.
     fn finish_chunk<R: Wait>(&self, rt: &R, lease: Self::Lease, applied: bool) -> Self::Seat
         requires { holds self.now lease }
         ensures { fits self.now result };

@@ -45,8 +45,8 @@ impl Table {
 
 /// A carrier whose slots stand under one lock.
 ///
-/// A slot is freed only where its chunk is done with and nobody reads it. Each call waits for the lock, and for
-/// nothing else.
+/// A slot is freed only where its chunk is done with and nobody reads it. Each call waits for the
+/// lock, and for nothing else.
 #[derive(Drop)]
 pub struct LockedSlots {
     table: Mutex<Table>,
@@ -75,7 +75,8 @@ impl LockedSeat {
     }
 }
 
-/// A seat that reads a slot of such a carrier. Contracts see the seat's number and the slot's index.
+/// A seat that reads a slot of such a carrier. Contracts see the seat's number and the slot's
+/// index.
 #[derive(Drop)]
 pub struct LockedLease {
     seat: LockedSeat,
@@ -94,7 +95,8 @@ impl LockedSlots {
     /// So many free slots, and thirty-two seats, numbers 0 to 31.
     ///
     /// # Errors
-    /// `Count` exactly where the number of slots is not 2 to 16, and `NoMemory` where a growth was refused.
+    /// `Count` exactly where the number of slots is not 2 to 16, and `NoMemory` where a growth was
+    /// refused.
     pub fn new(alloc: Global, slots: u8) -> Result<(LockedSlots, Vec<LockedSeat>), SlotsFault>
         ensures seats { IfOk result (λ r. r.1.items ≡ range_with_len 0 32) }
         ensures many { IfOk result (λ r. vec_len r.1 ≡ 32) }
@@ -167,7 +169,8 @@ impl Carrier for LockedSlots {
         }
     }
 
-    /// Takes the reader off the slot, and frees the slot where its chunk is done with and nobody reads it.
+    /// Takes the reader off the slot, and frees the slot where its chunk is done with and nobody
+    /// reads it.
     fn finish_chunk<R: Wait>(&self, rt: &R, lease: LockedLease, applied: bool) -> LockedSeat
         ensures { result ≡ lease.seat }
     {

@@ -31,8 +31,8 @@ impl TableCarrier {
 }
 
 impl Slots {
-    /// Fills a slot that the seat has claimed with the words of a chunk, and gives it to be read. It is a put for each
-    /// word and then a publish.
+    /// Fills a slot that the seat has claimed with the words of a chunk, and gives it to be read.
+    /// It is a put for each word and then a publish.
     pub fn fill(&self, filling: Filling, words: &[u64; 58]) -> Seat
         requires table { filling.place.table_id ≡ self.now.table.shared.table_id }
         requires text { is_chunk_text words.now ≡ true }
@@ -114,8 +114,8 @@ impl Carrier for TableCarrier {
         }
     }
 
-    /// Declares the slot done where the chunk was applied, takes the pin off, and tries once to free
-    /// the slot where its word then says done and no pin.
+    /// Declares the slot done where the chunk was applied, takes the pin off, and tries once to
+    /// free the slot where its word then says done and no pin.
     fn finish_chunk<R: Wait>(&self, _rt: &R, lease: Pinned, applied: bool) -> Seat
         requires { IsLent self.now lease }
         ensures fits { IsHere self.now result }

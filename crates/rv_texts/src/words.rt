@@ -1,7 +1,7 @@
 //! Words that are taken, and what a refusal is.
 use clap::Error as ParseError;
+use rv_cli::{Asked, WordsFault, asked};
 use rv_event::MemoryModel;
-use rv_words::{Asked, WordsFault, asked};
 use std::alloc::{AllocError, Global};
 use std::test::Fail;
 

@@ -1,9 +1,11 @@
-//! What threads share, part by part, and whole runs: small cases whose answer is known from outside the code.
+//! What threads share, part by part, and whole runs: small cases whose answer is known from outside
+//! the code.
 //!
-//! It has tests alone, and they call public functions alone. A crate with tests is proved twice, so they stand here in
-//! place of the crates that they test. `tests/threads` runs each a hundred times.
+//! It has tests alone, and they call public functions alone. A crate with tests is proved twice, so
+//! they stand here in place of the crates that they test. `tests/threads` runs each a hundred
+//! times.
 //!
-//! - `machine`: worked runs of the slot machine of `rv_slotcore`.
+//! - `machine`: runs of the slot machine of `rv_slotcore`.
 //! - `slots`: the carriers of `rv_slots`, and its table call by call, by one thread and by two.
 //! - `verdict`: the cell of `rv_verdict`, by one thread and by two.
 //! - `runs`: passes in one thread and runs in several, of `rv_run`.

@@ -1,4 +1,4 @@
-//! Worked runs of the machine, and its refusals.
+//! LitmusTest runs of the machine, and its refusals.
 use rv_chunk::pack;
 use rv_event::{Deps, Event, Id, Op};
 use rv_slotcore::{Act, Answer, Core, SeatState, Step};

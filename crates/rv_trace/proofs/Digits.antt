@@ -20,22 +20,26 @@ from-digit : (n b : ℕ) (bs : List ℕ) (is : Bool)
 from-digit n b bs true rest = rest
 from-digit n b bs false rest = refl
 
+-- a text of digits is a number
 pub decimal_from-is : (n : ℕ) (text : List ℕ)
     → decimal_from n text ≡ (if list_all is_digit text then Some (decimal_after n text) else None)
 unfolding decimal_from
 decimal_from-is n [] = refl
 decimal_from-is n (b ∷ bs) = from-digit n b bs (is_digit b) (decimal_from-is (n * 10 + (b - 48)) bs)
 
+-- one digit more
 pub digit-more : (text : List ℕ) (i acc : ℕ) → i < length text → is_digit (get_or text i 0) ≡ true
     → decimal_from (acc * 10 + (get_or text i 0 - 48)) (drop (i + 1) text) ≡ decimal_from acc (drop i text)
 unfolding decimal_from
 digit-more text i acc h d = rw (add-one, drop-cons text i 0, d) refl
 
+-- what is no digit ends it without one
 pub digit-stop : (text : List ℕ) (i acc : ℕ) → i < length text → is_digit (get_or text i 0) ≡ false
     → decimal_from acc (drop i text) ≡ None
 unfolding decimal_from
 digit-stop text i acc h d = rw (drop-cons text i 0, d) refl
 
+-- the end of the text
 pub digit-end : (text : List ℕ) (i acc : ℕ) → length text ≤ i → decimal_from acc (drop i text) ≡ Some acc
 unfolding decimal_from
 digit-end text i acc h = rw (drop_of_length-le text h) refl

@@ -31,6 +31,7 @@ at-part : (columns : Columns) (ps : List (List ℕ)) (i : ℕ) (p : List ℕ) �
 unfolding each_dependency
 at-part columns ps i p at = let below = at.0 in rw (add-one, drop-cons ps i p, sym at.1) refl
 
+-- one dependency more
 pub part-read : (columns : Columns) (ps : List (List ℕ)) (i : ℕ) (p : List ℕ) (front next : List Dep) (d : Dep)
     (all : Read) → IsPart ps i p
     → with_front front (each_dependency columns (drop i ps)) ≡ all → dependency columns p ≡ Ok d
@@ -40,12 +41,14 @@ part-read columns ps i p front next d all at said is n =
     rw n (sym (with_front-more front d (each_dependency columns (drop (i + 1) ps)))
     ∙ (rw (at-part columns ps i p at, is) at said))
 
+-- a part that is none
 pub part-wrong : (columns : Columns) (ps : List (List ℕ)) (i : ℕ) (p : List ℕ) (front : List Dep) (k : FaultKind)
     (all : Read) → IsPart ps i p
     → with_front front (each_dependency columns (drop i ps)) ≡ all → dependency columns p ≡ Err k
     → all ≡ Err k
 part-wrong columns ps i p front k all at said is = sym (rw (at-part columns ps i p at, is) at said)
 
+-- all parts were read
 pub parts-read : (columns : Columns) (ps : List (List ℕ)) (i : ℕ) (front : List Dep) (all : Read) → length ps ≤ i
     → with_front front (each_dependency columns (drop i ps)) ≡ all → all ≡ Ok front
 unfolding each_dependency

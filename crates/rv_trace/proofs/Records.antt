@@ -19,6 +19,7 @@ at-end true f p e = let q : ◌≡◌ {A = Read} (f, st.StartRecord, []) p = cc 
     (ap (λ (r : Read). r.1) (sym q), ap (λ (r : Read). r.2) (sym q))
 at-end false f p e = cc
 
+-- a record takes bytes
 pub takes-bytes : (cfg : Config) (s : State) (f : Fields) (g xs : List ℕ) (p : Read)
     → next_record cfg s f g xs ≡ Some p → Shorter xs p
 unfolding next_record
@@ -65,10 +66,12 @@ enough cfg (suc n) (suc m) s xs h k =
       | inr z ↦ rw (z.1, z.2) (nothing-left cfg n ∙ sym (nothing-left cfg m))
     ])
 
+-- no record is left
 pub rest-none : (s : State) (xs : List ℕ) → next_record default_config s [] [] xs ≡ None → rest_of s xs ≡ []
 unfolding rest_of records_from
 rest-none s xs e = rw (add-one, e) refl
 
+-- one record, and the rest
 pub rest-some : (s : State) (xs : List ℕ) (p : Read) → next_record default_config s [] [] xs ≡ Some p
     → rest_of s xs ≡ p.0 ∷ rest_of p.1 p.2
 unfolding rest_of records_from

@@ -18,6 +18,7 @@ unfolding rest_of
 strip-rest None = refl
 strip-rest (Some xs) = refl
 
+-- what a new reader has left
 pub new-left : {R : Type 0} (rem : R → Option (List ℕ)) (r : Reader R) (k : Option (List ℕ))
     → reader_state r ≡ st.StartRecord → source_of rem r ≡ option_map strip_bom k
     → option_map (rest_of (reader_state r)) (source_of rem r) ≡ option_map text_records k
@@ -44,6 +45,7 @@ end-known a b None new f r = tt
 end-known a b (Some xs) None f r = absurd r
 end-known a b (Some xs) (Some ys) f r = rest-none a xs (none _ _ _ _ r)
 
+-- a record that was read is the next
 pub row-taken : {R : Type 0} (rem : R → Option (List ℕ)) (a b : Reader R) (row : Row)
     → reader_config a ≡ default_config → ReadRecord rem a b true (fields_of row)
     → TakesRow (option_map (rest_of (reader_state a)) (source_of rem a))
@@ -53,6 +55,7 @@ row-taken rem a b row c r =
     rw known (take-known (reader_state a) (reader_state b) (source_of rem a) (pending_of (rem b.rdr) b) row
     (rw c at r.0))
 
+-- where none was read there is none
 pub no-row : {R : Type 0} (rem : R → Option (List ℕ)) (a b : Reader R) (f : Fields)
     → reader_config a ≡ default_config → ReadRecord rem a b false f
     → NoRow (option_map (rest_of (reader_state a)) (source_of rem a))

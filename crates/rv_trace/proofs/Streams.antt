@@ -34,6 +34,7 @@ rows-none : (rs : List Fields) (n : ℕ) → rs ≡ [] → rows_say n rs ≡ who
 unfolding rows_say
 rows-none rs n e = rw e refl
 
+-- the header was read
 pub header-taken : (old new : Option (List Fields)) (row : Row) → TakesRow old new row
     → is_header (fields_of row) ≡ true
     → GoesOn (option_map records_say old) (option_map (rows_say 1) new)
@@ -41,6 +42,7 @@ header-taken None new row t h = tt
 header-taken (Some rs) None row t h = t
 header-taken (Some rs) (Some ts) row t h = header-goes rs ts (fields_of row) t h
 
+-- the first record is no header
 pub header-other : (old new : Option (List Fields)) (row : Row) → TakesRow old new row
     → is_header (fields_of row) ≡ false
     → IsFaultOf (option_map records_say old) (fault_at fault.Header 0)
@@ -48,11 +50,13 @@ header-other None new row t h = inl refl
 header-other (Some rs) None row t h = absurd t
 header-other (Some rs) (Some ts) row t h = inl (refl, header-wrong rs ts (fields_of row) t h)
 
+-- there is no record
 pub no-header : (old : Option (List Fields)) → NoRow old
     → IsFaultOf (option_map records_say old) (fault_at fault.Header 0)
 no-header None t = inl refl
 no-header (Some rs) t = inl (refl, header-none rs t)
 
+-- a row too many
 pub row-long : (old new : Option (List Fields)) (row : Row) (n : ℕ) → TakesRow old new row → 65536 < n
     → IsFaultOf (option_map (rows_say n) old) (fault_at fault.TooLong n)
 row-long None new row n t h = inl refl
@@ -61,6 +65,7 @@ row-long (Some rs) (Some ts) row n t h =
     let long : nat_lt 65536 n ≡ true = grind arith in
     inl (refl, row-goes rs ts (fields_of row) n t ∙ rw long refl)
 
+-- a row is an event
 pub row-event : (old new : Option (List Fields)) (row : Row) (n m : ℕ) (e : Event) → TakesRow old new row
     → n ≤ 65536 → m ≡ n + 1 → event_of (fields_of row) ≡ Ok e
     → TakesEvent (option_map (rows_say n) old) (option_map (rows_say m) new) e
@@ -70,6 +75,7 @@ row-event (Some rs) (Some ts) row n m e t h k s =
     let short : nat_lt 65536 n ≡ false = grind arith in
     rw k (row-goes rs ts (fields_of row) n t ∙ rw (short, s) refl)
 
+-- a row has a fault
 pub row-fault : (old new : Option (List Fields)) (row : Row) (n : ℕ) (k : FaultKind) → TakesRow old new row
     → n ≤ 65536 → event_of (fields_of row) ≡ Err k → is_of_text k ≡ true
     → IsFaultOf (option_map (rows_say n) old) (fault_at k n)
@@ -79,6 +85,7 @@ row-fault (Some rs) (Some ts) row n k t h s own =
     let short : nat_lt 65536 n ≡ false = grind arith in
     inl (own, row-goes rs ts (fields_of row) n t ∙ rw (short, s) refl)
 
+-- the source has ended
 pub row-none : (old : Option (List Fields)) (n : ℕ) → NoRow old → IsWhole (option_map (rows_say n) old)
 row-none None n t = tt
 row-none (Some rs) n t = rows-none rs n t

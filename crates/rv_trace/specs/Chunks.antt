@@ -8,9 +8,9 @@ use Rattle.rv_trace.specs.Faults.{IsOutside, is_of_text}
 use Rattle.rv_trace.specs.Source.{Stream, source_says}
 use Rattle.rv_trace.specs.Trace.{TraceLeft}
 
--- Chunks: their source's number; the number of the next chunk; how many events the chunks given have; what is still
--- given, where the reader tells its bytes; whether the end has come; the fault that is repeated; and whether the last
--- read failed since the reader underneath refused.
+-- Chunks: their source's number; the number of the next chunk; how many events the chunks given
+-- have; what is still given, where the reader tells its bytes; whether the end has come; the fault
+-- that is repeated; and whether the last read failed since the reader underneath refused.
 pub record ChunksLeft : Type 0 where
   pub source : ℕ
   pub number : ℕ
@@ -61,7 +61,8 @@ TakesEvents None new es = ⊤
 TakesEvents (Some s) None es = ⊥
 TakesEvents (Some s) (Some t) es = s ≡ record { events = es ++ t.events; end = t.end }
 
--- a fault is the one that a known stream ends in before its eighth event, or one of reading or memory
+-- a fault is the one that a known stream ends in before its eighth event, or one of reading or
+-- memory
 abbrev pub IsFaultWithin : Option Stream → TraceFault → Type 0
 IsFaultWithin None f = (is_of_text f.kind ≡ true) ⊎ IsOutside f.kind
 IsFaultWithin (Some s) f =

@@ -39,7 +39,7 @@ is_of_text fault.NoMemory = false
 abbrev pub IsOutside : FaultKind → Type 0
 IsOutside k = (k ≡ fault.Read) ⊎ (k ≡ fault.NoMemory)
 
--- a fault of the text, or want of memory
+-- a fault of the text, or out of memory
 abbrev pub IsOfTextOrMemory : FaultKind → Type 0
 IsOfTextOrMemory k = (is_of_text k ≡ true) ⊎ (k ≡ fault.NoMemory)
 

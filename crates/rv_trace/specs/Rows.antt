@@ -8,8 +8,9 @@ use Rattle.csv.specs.declared.reader.Trim.TheVariants as trim
 use Rattle.rv_trace.specs.Row.{Fields}
 use Rattle.rv_trace.specs.Source.{rest_of}
 
--- The records that are left, where they are known; whether it has stopped; whether the CSV reader failed, for want of
--- bytes or of memory; whether the reader underneath refused its last read; and the record that was read last.
+-- The records that are left, where they are known; whether it has stopped; whether the CSV reader
+-- failed, for want of bytes or of memory; whether the reader underneath refused its last read; and
+-- the record that was read last.
 pub record RowsLeft : Type 0 where
   pub left : Option (List Fields)
   pub stopped : Bool

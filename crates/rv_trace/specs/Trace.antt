@@ -10,9 +10,9 @@ use Rattle.rv_trace.specs.Row.{Fields}
 use Rattle.rv_trace.specs.Rows.{RowsLeft}
 use Rattle.rv_trace.specs.Source.{Stream, fails_at, records_say, rows_say, source_says, whole}
 
--- A trace: its source's number; how many events it has given; what it still gives, where the reader tells its bytes;
--- whether it has come to the end; the fault that it repeats; and whether its last read failed since the reader
--- underneath refused.
+-- A trace: its source's number; how many events it has given; what it still gives, where the reader
+-- tells its bytes; whether it has come to the end; the fault that it repeats; and whether its last
+-- read failed since the reader underneath refused.
 pub record TraceLeft : Type 0 where
   pub source : ℕ
   pub given : ℕ

@@ -18,7 +18,8 @@ use std::marker::Model;
 /// How many events a chunk has, but for the last.
 const FULL: usize = 8;
 
-/// The events of a source in chunks: chunk k has the events from 8k on, and each chunk but the last has eight.
+/// The events of a source in chunks: chunk k has the events from 8k on, and each chunk but the last
+/// has eight.
 ///
 /// Contracts see what is left to give, as of a [`Trace`](crate::Trace).
 #[derive(Drop)]
@@ -96,7 +97,8 @@ fn take_events<R: Read>(alloc: Global, trace: &mut Trace<R>) -> Result<Vec<Event
 }
 
 impl<R: Read> Chunks<R> {
-    /// The chunks of what `reader` gives, as those of the source of that number. It reads nothing and takes no memory.
+    /// The chunks of what `reader` gives, as those of the source of that number. It reads nothing
+    /// and takes no memory.
     pub fn new(alloc: Global, reader: R, source: u8) -> Chunks<R>
         requires { source < 8 }
         ensures { result ≡ fresh_chunks source (R.remaining reader) }
@@ -113,9 +115,10 @@ impl<R: Read> Chunks<R> {
     /// The next chunk, and `None` from the end on.
     ///
     /// # Errors
-    /// A fault inside the chunk is answered in its place, and the rows before it in that chunk are not given. It is the
-    /// fault that the source's text ends in, with its row; or `Read`, exactly where the reader underneath refused a read;
-    /// or `NoMemory`. Each call after a fault answers the same fault, and reads nothing.
+    /// A fault inside the chunk is answered in its place, and the rows before it in that chunk are
+    /// not given. It is the fault that the source's text ends in, with its row; or `Read`, exactly
+    /// where the reader underneath refused a read; or `NoMemory`. Each call after a fault answers
+    /// the same fault, and reads nothing.
     pub fn next_chunk(&mut self) -> Result<Option<Chunk>, TraceFault>
         ensures events { IfGiven result
             (λ c. TakesEvents self.old.stream self.new.stream c.events) }

@@ -1,4 +1,5 @@
-//! A reader that may take no more than so many bytes and calls, and that has ended once and for all.
+//! A reader that may take no more than so many bytes and calls, and that has ended once and for
+//! all.
 ghost use Rattle.std.specs.Prelude.{◌≡◌, ◌+◌, ◌≤◌, ◌<◌, ◌⊎◌, ◌^◌, ◌-◌, min, IfOk, IsErr, is_err, length, true, false};
 ghost use Rattle.std.specs.Io.{ReadsAtMost};
 ghost use Rattle.std.specs.Io.KnownBytes.{ReadConsumes};
@@ -10,9 +11,9 @@ use std::io::Read;
 /// How many bytes, and how many calls, a source may take before each further read is refused.
 pub const LIMIT: u64 = 67_108_864;
 
-/// A reader that counts the bytes and the calls, and refuses each read from the limit on. So a source that never ends
-/// is left in the end. Once a read gave nothing, the reader underneath is not asked again: a terminal, or a file that
-/// grows, may have more after its end.
+/// A reader that counts the bytes and the calls, and refuses each read from the limit on. So a
+/// source that never ends is left in the end. Once a read gave nothing, the reader underneath is
+/// not asked again: a terminal, or a file that grows, may have more after its end.
 #[derive(Drop)]
 pub struct Counted<R> {
     inner: R,

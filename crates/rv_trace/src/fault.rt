@@ -37,7 +37,8 @@ pub enum FaultKind {
     /// There are more than 65,536 data rows.
     #[error("there are more than 65536 rows")]
     TooLong,
-    /// The records could not be told apart. It never comes, since records of any length and of any bytes are taken.
+    /// The records could not be told apart. It never comes, since records of any length and of any
+    /// bytes are taken.
     #[error("the records could not be told apart")]
     Csv,
     /// The reader failed, or the source is too long.

@@ -1,14 +1,16 @@
 //! The rows of a CSV text as events, one at a time ([`Trace`]) or eight to a chunk ([`Chunks`]).
 //!
 //! - [`fault`]: what is wrong with a source, and in which row.
-//! - `number`, `operation`, `dependency`, `row`: what one record says: an event, or its first fault from the left.
+//! - `number`, `operation`, `dependency`, `row`: what one record says: an event, or its first fault
+//!   from the left.
 //! - `counted`, `rows`: the records of a reader that may take no more than so many bytes and calls.
 //! - [`trace`], [`chunks`]: the events of a source, and the same in chunks.
-//! - `specs/`: the grammar of a row by cases, and what the bytes of a source say as a whole: its events in order, and
-//!   how it ends.
+//! - `specs/`: the grammar of a row by cases, and what the bytes of a source say as a whole: its
+//!   events in order, and how it ends.
 //!
-//! It stands on `rv_event` and `rv_chunk`, and on the kit's `csv` and `thiserror`. Its one contract to all others: what is
-//! given is what the grammar makes of the records of the source, in order, up to its first fault.
+//! It stands on `rv_event` and `rv_chunk`, and on the kit's `csv` and `thiserror`. Its one contract
+//! to all others: what is given is what the grammar makes of the records of the source, in order,
+//! up to its first fault.
 #![tactic(auto)]
 
 mod chunks;

@@ -27,8 +27,9 @@ pub fn field_of(row: &ByteRecord, i: usize) -> &[u8]
 /// What a record says: its event, or its first fault from the left.
 ///
 /// # Errors
-/// The first check that fails, in the order: the number of fields, `hart`, `seq`, `op`, `word`, `read`, `wrote`, `ann`,
-/// the number of dependencies, each dependency. `NoMemory` where the list of dependencies could not be had.
+/// The first check that fails, in the order: the number of fields, `hart`, `seq`, `op`, `word`,
+/// `read`, `wrote`, `ann`, the number of dependencies, each dependency. `NoMemory` where the list
+/// of dependencies could not be had.
 #[inline(always)]
 #[tactic(auto, unfolding(crate::specs::Row::event_of, crate::specs::Row::eight))]
 pub fn event_of_row(alloc: Global, row: &ByteRecord) -> Result<Event, FaultKind>

@@ -59,8 +59,8 @@ impl<R: Read> Rows<R> {
     /// Reads the next record. `false` where there is none.
     ///
     /// # Errors
-    /// `Read` where the reader underneath refused its last read, else `NoMemory`. Either way the CSV reader has failed in
-    /// this call, and no record comes after it.
+    /// `Read` where the reader underneath refused its last read, else `NoMemory`. Either way the
+    /// CSV reader has failed in this call, and no record comes after it.
     pub fn next_row(&mut self) -> Result<bool, FaultKind>
         requires { self.old.stopped ≡ false }
         ensures found { IfOk result

@@ -36,8 +36,9 @@ enum Stage {
 
 /// The events of a source, read row by row.
 ///
-/// Contracts see what it has left to give (`TraceLeft` of `specs/Trace.antt`). Its `stream` is the events, and the end,
-/// that the rest of the source's bytes say; it is `None` where the reader does not tell its bytes, as a file does not.
+/// Contracts see what it has left to give (`TraceLeft` of `specs/Trace.antt`). Its `stream` is the
+/// events, and the end, that the rest of the source's bytes say; it is `None` where the reader does
+/// not tell its bytes, as a file does not.
 #[derive(Drop)]
 pub struct Trace<R: Read> {
     alloc: Global,
@@ -148,7 +149,8 @@ fn take_row<R: Read>(
 }
 
 impl<R: Read> Trace<R> {
-    /// The events of what `reader` gives, as those of the source of that number. It reads nothing and takes no memory.
+    /// The events of what `reader` gives, as those of the source of that number. It reads nothing
+    /// and takes no memory.
     pub fn new(alloc: Global, reader: R, source: u8) -> Trace<R>
         requires { source < 8 }
         ensures { result ≡ fresh_trace source (R.remaining reader) }
@@ -172,8 +174,9 @@ impl<R: Read> Trace<R> {
     /// The next event, and `None` from the end on.
     ///
     /// # Errors
-    /// The fault that the source's text ends in, with its row; or `Read`, exactly where the reader underneath refused a
-    /// read; or `NoMemory`. Each call after a fault answers the same fault, and reads nothing.
+    /// The fault that the source's text ends in, with its row; or `Read`, exactly where the reader
+    /// underneath refused a read; or `NoMemory`. Each call after a fault answers the same fault,
+    /// and reads nothing.
     #[inline(always)]
     pub fn next_event(&mut self) -> Result<Option<Event>, TraceFault>
         ensures event { IfGiven result (TakesEvent self.old.stream self.new.stream) }

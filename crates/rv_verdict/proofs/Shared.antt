@@ -1,4 +1,5 @@
--- What a `&` to a note shows: a copy of what the note owns. V is what the cell holds. Assumes `Logic`.
+-- What a `&` to a note shows: a copy of what the note owns. V is what the cell holds. Assumes
+-- `Logic`.
 use Rattle.std.proofs.Common.{ℕ, List, [], ◌∷◌, ◌++◌, ap, ◌∙◌}
 use seplogic.Ra.Ura.{Ura}
 use mir.Val.{Val, vstruct, of_list}
@@ -25,6 +26,7 @@ NoteOf V = note.the_row V
 abbrev pub values : (V : RattleType) → (NoteOf V).Denot → List Val
 values V known = token ∷ []
 
+-- a note tells what the cell holds
 pub note_tells : (V : RattleType) → Tells (NoteOf V) (Is (NoteOf V)) (values V)
 note_tells V known found is = is.0.1.0 ∙ ap (λ inner. vstruct (of_list (inner ++ [])) ∷ []) is.0.1.1.0.1.0
 

@@ -23,12 +23,15 @@ use Rattle.rv_versions.specs.VersionLinks.{IsOfVersions}
 use Rattle.rv_versions.specs.declared.reservation.Reservation.{Reservation}
 use Rattle.rv_versions.proofs.Paired.{one_partner, is_new, in_new, none_after, grown, partner_of, pair_of_partner}
 
+-- a store is a memory operation
 pub store-memory : (a : Event) → IsStore a → IsMemory a
 store-memory a s = grind arith
 
+-- and so is a load
 pub load-memory : (a : Event) → IsLoad a → IsMemory a
 load-memory a s = grind arith
 
+-- and an SC
 pub sc-memory : (a : Event) → a.op ≡ Sc → IsMemory a
 sc-memory a e = ap is_memory e
 
@@ -73,6 +76,7 @@ module _ (model : MemoryModel) (log : List Event) (e : Event) (reserved : Option
       (lr : Event) × IsPartner log e lr × (lr.word ≡ r.word) × (lr.read ≡ r.version)
   reserved_is r some = subst (IsReserved log e) some is
 
+  -- the LR that is paired with the event is what is reserved
   pub reserved_of : (lr : Event) → IsPair new lr e →
       (r : Reservation) × (reserved ≡ Some r) × (lr.word ≡ r.word) × (lr.read ≡ r.version)
   reserved_of lr p = go reserved refl is
@@ -86,6 +90,7 @@ module _ (model : MemoryModel) (log : List Event) (e : Event) (reserved : Option
 
   -- ---- writers
 
+  -- an old store that wrote a version in the new log wrote it in the old
   pub writer_old : (w v : ℕ) (a : Event) → Contains log a → writer new w v ≡ Some a → writer log w v ≡ Some a
   writer_old w v a c h =
       let f = writer-is new w v a h in
@@ -98,6 +103,7 @@ module _ (model : MemoryModel) (log : List Event) (e : Event) (reserved : Option
       subst (λ n. writer new w n ≡ Some a) (sym f.version) (subst (λ n. writer new n a.wrote ≡ Some a) (sym f.word)
       (known'.written a (in_new log e known sound a f.of_log) f.store))
 
+  -- the event is the writer of what it writes
   pub writer_own : (w v : ℕ) → IsStore e → w ≡ e.word → v ≡ e.wrote → writer new w v ≡ Some e
   writer_own w v s p q =
       subst (λ n. writer new w n ≡ Some e) (sym q) (subst (λ n. writer new n e.wrote ≡ Some e) (sym p)
@@ -111,6 +117,7 @@ module _ (model : MemoryModel) (log : List Event) (e : Event) (reserved : Option
   abbrev pub Out : Reason → Event → Type 0
   Out reason b = HasReason model new reason e b
 
+  -- why a link into the event is one
   pub warrant_before : (l : Link) → BeforeLink log e reserved l → Warrant log Into e l
   warrant_before l (by_coherence p) = record {
     other = p.next;
@@ -198,6 +205,7 @@ module _ (model : MemoryModel) (log : List Event) (e : Event) (reserved : Option
     same = same;
   }
 
+  -- and one out of it
   pub warrant_after : (l : Link) → AfterLink log e reserved l → Warrant log Out e l
   warrant_after l (to_coherence p) = record {
     other = p.next;
@@ -278,6 +286,7 @@ module _ (model : MemoryModel) (log : List Event) (e : Event) (reserved : Option
         same = p.same;
       }
 
+  -- a link into the event is an edge
   pub edge_before : (l : Link) → BeforeLink log e reserved l → IsEdge model new l.id l.reason e.id
   edge_before l b =
       let w = warrant_before l b in
@@ -285,6 +294,7 @@ module _ (model : MemoryModel) (log : List Event) (e : Event) (reserved : Option
       (edge_of model new known' w.reason w.other e (in_new log e known sound w.other w.of_log)
       (Contains-push log e) w.other_memory w.own_memory w.why)
 
+  -- and so is one out of it
   pub edge_after : (l : Link) → AfterLink log e reserved l → IsEdge model new e.id l.reason l.id
   edge_after l b =
       let w = warrant_after l b in
@@ -292,8 +302,10 @@ module _ (model : MemoryModel) (log : List Event) (e : Event) (reserved : Option
       (edge_of model new known' w.reason e w.other (Contains-push log e)
       (in_new log e known sound w.other w.of_log) w.own_memory w.other_memory w.why)
 
+  -- its reason is no rule
   pub reason_of : (Why : Reason → Event → Type 0) (l : Link) → Warrant log Why e l → IsOfVersions l.reason
   reason_of Why l w = subst (λ (k : Link). IsOfVersions k.reason) (sym w.same) w.of_versions
 
+  -- it names another event
   pub other_of : (Why : Reason → Event → Type 0) (l : Link) → Warrant log Why e l → l.id ≢ e.id
   other_of Why l w = subst (λ (k : Link). k.id ≢ e.id) (sym w.same) (is_new log e known sound w.other w.of_log)

@@ -6,6 +6,7 @@ use Rattle.rv_versions.specs.Indexes.{beside}
 use Rattle.rv_versions.specs.declared.reservation.Reservation.{Reservation}
 use Rattle.rv_versions.proofs.Members.{Contains-none}
 
+-- one event more beside its reservation
 pub beside-push : (log : List Event) (rs : List (Option Reservation)) (e : Event) (r : Option Reservation) →
     length log ≡ length rs → beside (log ++ e ∷ []) (rs ++ r ∷ []) ≡ beside log rs ++ (e, r) ∷ []
 beside-push [] [] e r same = refl

@@ -9,6 +9,7 @@ use Rattle.rv_cover.specs.Thinned.{IsNextLower, IsNextHigher}
 use Rattle.rv_versions.specs.Lookups.{IsForeign}
 use Rattle.rv_versions.proofs.Members.{Contains-none}
 
+-- the event that fits best
 pub record Best (Fits : Event → Type 0) (Least : Event → Event → Type 0) (log : List Event) : Type 0 where
   pub event : Event
   pub of_log : Contains log event
@@ -21,6 +22,7 @@ module _ (Fits : Event → Type 0) (Least : Event → Event → Type 0) (decide 
   same_least : (a : Event) → Least a a
   same_least a = elim (total a a) [ inl l ↦ l | inr l ↦ l ]
 
+  -- one fits best, or none fits
   pub best_or_none : (log : List Event) → Best Fits Least log ⊎ ((a : Event) → Contains log a → Fits a → ⊥)
   best_or_none [] = inr (λ a c. absurd (Contains-none a c))
   best_or_none (x ∷ log) = go (decide x) (best_or_none log)
@@ -104,6 +106,7 @@ cases_below m n = elim (cases_lt m n) [ inl l ↦ inl l | inr h ↦ inr (λ l. o
 upward : (a b : Event) → (a.wrote ≤ b.wrote) ⊎ (b.wrote ≤ a.wrote)
 upward a b = elim (cases_lt a.wrote b.wrote) [ inl l ↦ inl (omega arith) | inr h ↦ inr h ]
 
+-- the store of the next lower version, or none is lower
 pub lower_or_none :
     (log : List Event) (w v : ℕ) →
     ((s : Event) × IsNextLower log w v s) ⊎ ((a : Event) → Contains log a → IsStore a → a.word ≡ w → v ≤ a.wrote)
@@ -126,6 +129,7 @@ lower_or_none log w v = elim (best_or_none (λ a. At w a × (a.wrote < v)) (λ a
       ])
     ]
 
+-- the store of the next higher version, or none is higher
 pub higher_or_none :
     (log : List Event) (w v : ℕ) →
     ((t : Event) × IsNextHigher log w v t) ⊎ ((a : Event) → Contains log a → IsStore a → a.word ≡ w → a.wrote ≤ v)
@@ -158,6 +162,7 @@ pub record NearestForeign (log : List Event) (w v hart : ℕ) (t : Event) : Type
 abbrev Foreign : ℕ → ℕ → ℕ → Event → Type 0
 Foreign w v hart a = At w a × ((a.id.hart ≢ hart) × (v < a.wrote))
 
+-- another hart's store of the next higher version, or none is higher
 pub foreign_or_none :
     (log : List Event) (w v hart : ℕ) →
     ((t : Event) × NearestForeign log w v hart t) ⊎ ((a : Event) → IsForeign log w hart a → a.wrote ≤ v)

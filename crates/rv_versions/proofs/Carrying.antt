@@ -141,6 +141,7 @@ module _ (model : MemoryModel) (log : List Event) (e : Event) (reserved : Option
           })
         ]
 
+    -- each edge into the event is linked or split
     pub carried_before : (reason : Reason) (a : Event) → IsOfVersions reason → Contains log a →
         HasReason model new reason a e → Carried reason a e a
     carried_before (Preserved k) a of c h = absurd (of k refl)
@@ -269,6 +270,7 @@ module _ (model : MemoryModel) (log : List Event) (e : Event) (reserved : Option
                   inl (names links t.id b.id AtomicOut (ap (λ (x : Event). x.id) same) (listed t n.1))
             ]
 
+    -- and each edge out of it
     pub carried_after : (reason : Reason) (b : Event) → IsOfVersions reason → Contains log b →
         HasReason model new reason e b → Carried reason e b b
     carried_after (Preserved k) b of c h = absurd (of k refl)

@@ -31,12 +31,14 @@ pub record FoundStore (log : List Event) (x : Access) : Type 0 where
   pub is_store : IsStore store
   pub same : x ≡ store_access store
 
+-- an access is a load's
 pub record FoundLoad (log : List Event) (x : Access) : Type 0 where
   pub load : Event
   pub of_log : Contains log load
   pub is_load : IsLoad load
   pub same : x ≡ load_access load
 
+-- an access is a pair's
 pub record FoundPair (log : List Event) (x : Access) : Type 0 where
   pub sc : Event
   pub lr : Event
@@ -52,15 +54,18 @@ if-some true y x e = (refl, sym (same_Some y x e))
 if-some false y x e = absurd (none-some x e)
 
 module _ (log : List Event) (rs : List (Option Reservation)) (ix : Accesses) (known : AreIndexes log rs ix) where
+  -- the log is indexed
   pub indexed : Indexed log
   indexed = indexed_from_events log known.well_formed
 
+  -- what the stores have is a store
   pub store_found : (x : Access) → Contains ix.stores x → FoundStore log x
   store_found x c =
       let h = (known.stores x).0 c in
       let g = if-some (is_store h.0.op) (store_access h.0) x h.2 in
       record { store = h.0; of_log = h.1; is_store = g.0; same = g.1 }
 
+  -- and each store is there
   pub store_listed : (a : Event) → Contains log a → IsStore a → Contains ix.stores (store_access a)
   store_listed a c s = (known.stores (store_access a)).1 (
     a,
@@ -69,15 +74,18 @@ module _ (log : List Event) (rs : List (Option Reservation)) (ix : Accesses) (kn
         (store_access a)) None) s,
   )
 
+  -- what the loads have is a load
   pub load_found : (x : Access) → Contains ix.loads x → FoundLoad log x
   load_found x c =
       let h = (known.loads x).0 c in
       let g = if-some (is_load h.0.op) (load_access h.0) x h.2 in
       record { load = h.0; of_log = h.1; is_load = g.0; same = g.1 }
 
+  -- and each load is there
   pub load_listed : (a : Event) → Contains log a → IsLoad a → Contains ix.loads (load_access a)
   load_listed a c s = (known.loads (load_access a)).1 (a, c, ap (λ (b : Bool). cond b (Some (load_access a)) None) s)
 
+  -- what the pairs have is a pair
   pub pair_found : (x : Access) → Contains ix.pairs x → FoundPair log x
   pair_found x c = let h = (known.pairs x).0 c in go h.0.0 h.0.1 h.1 h.2
     where
@@ -94,6 +102,7 @@ module _ (log : List Event) (rs : List (Option Reservation)) (ix : Accesses) (kn
             same = sym (same_Some (access r.word r.version s.id) x e) ∙ sym (same_access h.2 h.3 s.id);
           }
 
+  -- and each pair is there
   pub pair_listed : (s lr : Event) → Contains log s → IsPair log lr s → Contains ix.pairs (access lr.word lr.read s.id)
   pair_listed s lr c p = let b = beside_of log rs known.as_long s c in go b.0 b.1
     where
@@ -108,6 +117,7 @@ module _ (log : List Event) (rs : List (Option Reservation)) (ix : Accesses) (kn
 
   -- ---- the writer of a version
 
+  -- the access of a version is its writer's
   pub writer_found : (w v : ℕ) (x : Access) → IsOf ix.stores w x → x.version ≡ v →
       Some (id_of x) ≡ option_map (λ (e : Event). e.id) (writer log w v)
   writer_found w v x of at =
@@ -118,6 +128,7 @@ module _ (log : List Event) (rs : List (Option Reservation)) (ix : Accesses) (kn
       (λ n. writer log n f.store.wrote ≡ Some f.store) word (indexed.written f.store f.of_log f.is_store)) in
       ap (λ (y : Access). Some (id_of y)) f.same ∙ sym (ap (option_map (λ (e : Event). e.id)) own)
 
+  -- where there is none the version has no writer
   pub no_writer : (w v : ℕ) → ((x : Access) → IsOf ix.stores w x → x.version ≡ v → ⊥) →
       None ≡ option_map (λ (e : Event). e.id) (writer log w v)
   no_writer w v none = go (writer log w v) refl

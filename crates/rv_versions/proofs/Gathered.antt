@@ -15,6 +15,7 @@ use Rattle.rv_versions.specs.declared.reservation.Reservation.{Reservation}
 abbrev pub joined : (a b c d e : List Link) → List Link
 joined a b c d e = a ++ (b ++ (c ++ (d ++ e)))
 
+-- five lists behind the given one
 pub joined_behind :
     (l0 l1 l2 l3 l4 l5 a b c d e : List Link) → l1 ≡ l0 ++ a → l2 ≡ l1 ++ b → l3 ≡ l2 ++ c → l4 ≡ l3 ++ d →
     l5 ≡ l4 ++ e →
@@ -67,10 +68,12 @@ module _ (log : List Event) (e : Event) (reserved : Option Reservation) (l0 l1 l
     abbrev pub before : List Link
     before = joined c.others r.others f.others i.others o.others
 
+    -- the links are behind the given ones
     pub are_behind : l5 ≡ l0 ++ before
     are_behind = joined_behind l0 l1 l2 l3 l4 l5 c.others r.others f.others i.others o.others c.behind r.behind f.behind
         i.behind o.behind
 
+    -- they are the links into the event
     pub are_before : AreBefore log e reserved before
     are_before = record {
       only = λ l. in_one c.others r.others f.others i.others o.others l (BeforeLink log e reserved l)
@@ -99,6 +102,7 @@ module _ (log : List Event) (e : Event) (reserved : Option Reservation) (l0 l1 l
     all_after = joined_behind l0 l1 l2 l3 l4 l5 c.others r.others f.others i.others o.others c.behind r.behind f.behind
         i.behind o.behind ∙ ap (λ (ls : List Link). ls ++ after) none
 
+    -- and those out of it
     pub are_after : AreAfter log e reserved l5
     are_after l = subst (λ (ls : List Link). Contains ls l ↔ AfterLink log e reserved l) (sym all_after) (to, from)
       where

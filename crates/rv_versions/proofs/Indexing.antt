@@ -25,6 +25,7 @@ use Rattle.rv_versions.proofs.Paired.{is_new, reservation_grows, reservation_set
 use Rattle.rv_versions.proofs.Members.{Contains-none}
 
 module _ {X : Type 0} (post : X → Option Access) (items : List X) (i : X) (xs ys : List Access) where
+  -- an index with one item more
   pub index_push : IsIndex post items xs → IsInserted xs (post i) ys → IsIndex post (items ++ i ∷ []) ys
   index_push is put x = (to, from)
     where
@@ -40,6 +41,7 @@ module _ {X : Type 0} (post : X → Option Access) (items : List X) (i : X) (xs 
         | inr same ↦ (put x).1 (inr (ap post same ∙ e))
       ]
 
+  -- and with one less
   pub index_pop : IsIndex post (items ++ i ∷ []) xs → IsRemoved xs (post i) ys → ((j : X) (x : Access) →
       Contains items j → post j ≡ Some x → post i ≢ Some x) → IsIndex post items ys
   index_pop is taken apart x = (to, from)
@@ -56,6 +58,7 @@ module _ {X : Type 0} (post : X → Option Access) (items : List X) (i : X) (xs 
       from : (j : X) × Contains items j × (post j ≡ Some x) → Contains ys x
       from (j, c, e) = (taken x).1 ((is x).1 (j, Contains-append_left items (i ∷ []) j c, e), apart j x c e)
 
+-- an index with the same accesses
 pub index_same : {X : Type 0} (post : X → Option Access) (items : List X) (xs ys : List Access) →
     IsIndex post items xs → IsSame xs ys → IsIndex post items ys
 index_same post items xs ys is same x = (λ c. (is x).0 ((same x).0 c), λ h. (same x).1 ((is x).1 h))
@@ -68,6 +71,7 @@ store_id e x h = go (is_store e.op) h
     go true q = ap id_of (sym (same_Some (access e.word e.wrote e.id) x q))
     go false q = absurd (none-some x q)
 
+-- a load's access names it
 pub load_id : (e : Event) (x : Access) → load_of e ≡ Some x → id_of x ≡ e.id
 load_id e x h = go (is_load e.op) h
   where
@@ -75,15 +79,18 @@ load_id e x h = go (is_load e.op) h
     go true q = ap id_of (sym (same_Some (access e.word e.read e.id) x q))
     go false q = absurd (none-some x q)
 
+-- and so does a pair's
 pub pair_id : (e : Event) (r : Option Reservation) (x : Access) → pair_of e r ≡ Some x → id_of x ≡ e.id
 pair_id e None x h = absurd (none-some x h)
 pair_id e (Some r) x h = ap id_of (sym (same_Some (access r.word r.version e.id) x h))
 
 -- ---- logs without a fault
 
+-- no events are well formed
 pub well_formed-nil : WellFormedEvents []
 well_formed-nil before after e is = absurd (omega (arith, ap length is, length-append before (e ∷ after)))
 
+-- they stay so with one that has no fault
 pub well_formed-push : (log : List Event) (e : Event) → WellFormedEvents log → event_fault log e ≡ None →
     WellFormedEvents (log ++ e ∷ [])
 well_formed-push log e ok none before after y is = elim (split_push log e before after y is) [
@@ -92,12 +99,14 @@ well_formed-push log e ok none before after y is = elim (split_push log e before
   | inr s ↦ ok before s.0 y s.1
 ]
 
+-- and so is their beginning
 pub well_formed-front : (log more : List Event) → WellFormedEvents (log ++ more) → WellFormedEvents log
 well_formed-front log more ok before after e is =
     ok before (after ++ more) e (ap (λ (l : List Event). l ++ more) is ∙ append_assoc before (e ∷ after) more)
 
 -- ---- all together
 
+-- no events have no accesses
 pub indexes-nil : AreIndexes [] [] (record { stores = []; loads = []; pairs = [] })
 indexes-nil = record {
   well_formed = well_formed-nil;
@@ -116,6 +125,7 @@ module _ (log : List Event) (rs : List (Option Reservation)) (ix : Accesses) (e 
   fresh : (a : Event) → Contains log a → a.id ≢ e.id
   fresh = is_new log e old (sound_of log e sound)
 
+  -- a new event has no access yet
   pub absent : AreAbsent ix (postings_of e r)
   absent = record {
     stores = λ x p c. let h = (known.stores x).0 c in fresh h.0 h.1 (sym (store_id h.0 x h.2) ∙ store_id e x p);
@@ -124,6 +134,7 @@ module _ (log : List Event) (rs : List (Option Reservation)) (ix : Accesses) (e 
         (pair_id h.0.0 h.0.1 x h.2) ∙ pair_id e r x p);
   }
 
+  -- its accesses are put in
   pub indexes_push : (new : Accesses) → IsReserved log e r → AreInserted ix (postings_of e r) new →
       AreIndexes (log ++ e ∷ []) (rs ++ r ∷ []) new
   indexes_push new is put = record {
@@ -148,6 +159,7 @@ module _ (log : List Event) (rs : List (Option Reservation)) (ix : Accesses) (e 
       pushed : beside (log ++ e ∷ []) (rs ++ r ∷ []) ≡ beside log rs ++ (e, r) ∷ []
       pushed = beside-push log rs e r known.as_long
 
+  -- the same accesses are indexes still
   pub indexes_same : (new : Accesses) → AreSame ix (postings_of e r) new → AreIndexes log rs new
   indexes_same new same = record {
     well_formed = known.well_formed;
@@ -178,6 +190,7 @@ module _ (log : List Event) (rs : List (Option Reservation)) (ix new : Accesses)
   cut : beside (log ++ e ∷ []) (rs ++ r ∷ []) ≡ beside log rs ++ (e, r) ∷ []
   cut = beside-push log rs e r lengths
 
+  -- the last event's accesses are taken out
   pub indexes_pop : AreIndexes log rs new
   indexes_pop = record {
     well_formed = front;

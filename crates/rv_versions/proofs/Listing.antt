@@ -47,6 +47,7 @@ extended_push old new k P is here only = record {
   );
 }
 
+-- lists extended by links that are the same
 pub extended_same : (old new : List Link) (P Q : Link → Type 0) → ((l : Link) → P l ↔ Q l) → IsExtended old new P →
     IsExtended old new Q
 extended_same old new P Q same h = record {
@@ -61,9 +62,11 @@ module _ (Pass : Id → Type 0) (reason : Reason) where
   abbrev pub Linked : List Id → Link → Type 0
   Linked ids l = (i : Id) × Contains ids i × Pass i × (l ≡ link i reason)
 
+  -- before the first event
   pub linked_none : (old : List Link) → IsExtended old old (Linked [])
   linked_none old = extended_none old (Linked []) (λ l p. Contains-none p.0 p.1)
 
+  -- one link more
   pub linked_more : (old mid new : List Link) (seen : List Id) (i : Id) → IsExtended old mid (Linked seen) →
       Pass i → new ≡ mid ++ link i reason ∷ [] → IsExtended old new (Linked (seen ++ i ∷ []))
   linked_more old mid new seen i h pass is = record {
@@ -86,6 +89,7 @@ module _ (Pass : Id → Type 0) (reason : Reason) where
             sym e) (Contains-push h.others (link i reason))
       ]
 
+  -- an event that is passed
   pub linked_past : (old mid : List Link) (seen : List Id) (i : Id) → IsExtended old mid (Linked seen) → (Pass i →
       ⊥) → IsExtended old mid (Linked (seen ++ i ∷ []))
   linked_past old mid seen i h fails = extended_same old mid (Linked seen) (Linked (seen ++ i ∷ [])) (λ l.
@@ -103,6 +107,7 @@ module _ (Pass : Id → Type 0) (reason : Reason) where
 -- ---- the nearest stores, which are one each
 
 module _ (log : List Event) (known : Indexed log) where
+  -- one store is of the next lower version
   pub one_lower : (w v : ℕ) (s t : Event) → IsNextLower log w v s → IsNextLower log w v t → s ≡ t
   one_lower w v s t p q =
       let a : s.wrote ≤ t.wrote = q.highest s p.of_log p.store p.same p.below in
@@ -118,6 +123,7 @@ module _ (log : List Event) (known : Indexed log) where
   named_by : (x : Access) (s : Event) → x ≡ access s.word s.wrote s.id → id_of x ≡ s.id
   named_by x s e = ap id_of e
 
+  -- the link by coherence into the event
   pub coherence_before_of :
       (e : Event) (old new : List Link) (x : Access) (v : ℕ) → IsStore e → v ≡ e.wrote →
       IsLowerStore log e.word v (Some x) →
@@ -137,6 +143,7 @@ module _ (log : List Event) (known : Indexed log) where
       (one_lower e.word e.wrote p.next found.0 p.is_next found.1) ∙
       ap (λ (i : Id). link i Coherence) (sym (named_by x found.0 found.2)))
 
+  -- and the one out of it
   pub coherence_after_of :
       (e : Event) (old new : List Link) (x : Access) → IsStore e → IsHigherStore log e.word e.wrote (Some x) →
       new ≡ old ++ link (id_of x) Coherence ∷ [] → IsExtended old new (CoherenceAfter log e)
@@ -153,6 +160,7 @@ module _ (log : List Event) (known : Indexed log) where
       (one_higher e.word e.wrote p.next found.0 p.is_next found.1) ∙
       ap (λ (i : Id). link i Coherence) (sym (named_by x found.0 found.2)))
 
+  -- the link by from-read out of the event
   pub from_read_after_of :
       (e : Event) (old new : List Link) (x : Access) → IsLoad e → IsHigherStore log e.word e.read (Some x) →
       new ≡ old ++ link (id_of x) FromRead ∷ [] → IsExtended old new (FromReadAfter log e)
@@ -169,6 +177,7 @@ module _ (log : List Event) (known : Indexed log) where
       (one_higher e.word e.read p.next found.0 p.is_next found.1) ∙
       ap (λ (i : Id). link i FromRead) (sym (named_by x found.0 found.2)))
 
+  -- the link by atomic-out out of the event
   pub atomic_out_after_of :
       (e : Event) (reserved : Option Reservation) (r : Reservation) (old new : List Link) (x : Access) →
       reserved ≡ Some r → IsForeignHigher log r.word r.version e.id.hart (Some x) →
@@ -204,24 +213,28 @@ module _ (log : List Event) (known : Indexed log) where
 -- ---- none was found
 
 module _ (log : List Event) (e : Event) (old : List Link) where
+  -- no store is lower
   pub no_coherence_before : IsLowerStore log e.word e.wrote None → IsExtended old old (CoherenceBefore log e)
   no_coherence_before none = extended_none old (CoherenceBefore log e) (λ l p.
       let high : e.wrote ≤ p.next.wrote = none p.next p.is_next.of_log p.is_next.store p.is_next.same in
       let low : p.next.wrote < e.wrote = p.is_next.below in
       omega arith)
 
+  -- no store is higher
   pub no_coherence_after : IsHigherStore log e.word e.wrote None → IsExtended old old (CoherenceAfter log e)
   no_coherence_after none = extended_none old (CoherenceAfter log e) (λ l p.
       let low : p.next.wrote ≤ e.wrote = none p.next p.is_next.of_log p.is_next.store p.is_next.same in
       let high : e.wrote < p.next.wrote = p.is_next.above in
       omega arith)
 
+  -- no store is higher than what was returned
   pub no_from_read_after : IsHigherStore log e.word e.read None → IsExtended old old (FromReadAfter log e)
   no_from_read_after none = extended_none old (FromReadAfter log e) (λ l p.
       let low : p.next.wrote ≤ e.read = none p.next p.is_next.of_log p.is_next.store p.is_next.same in
       let high : e.read < p.next.wrote = p.is_next.above in
       omega arith)
 
+  -- no other hart's store is higher
   pub no_atomic_out_after : (reserved : Option Reservation) (r : Reservation) → reserved ≡ Some r →
       IsForeignHigher log r.word r.version e.id.hart None → IsExtended old old (AtomicOutAfter log e reserved)
   no_atomic_out_after reserved r some none = extended_none old (AtomicOutAfter log e reserved) (λ l p.
@@ -309,6 +322,7 @@ module _ (log : List Event) (e : Event) where
 -- ---- from which version on loads are uncovered
 
 module _ (log : List Event) (e : Event) where
+  -- without a lower store every load is uncovered
   pub uncovered_none : (w : ℕ) → w ≡ e.wrote → IsLowerStore log e.word w None → (v : ℕ) → (0 ≤ v) ↔ IsUncovered log e v
   uncovered_none w eq none v = (
     λ l s next. let n : w ≤ s.wrote = none s next.of_log next.store next.same in let
@@ -316,6 +330,7 @@ module _ (log : List Event) (e : Event) where
     λ u. omega arith,
   )
 
+  -- with one, those from its version on
   pub uncovered_some : Indexed log → (w : ℕ) (x : Access) → w ≡ e.wrote → IsLowerStore log e.word w (Some x) →
       (v : ℕ) → (x.version ≤ v) ↔ IsUncovered log e v
   uncovered_some known w x eq found v =
@@ -332,6 +347,7 @@ module _ (log : List Event) (e : Event) (old new : List Link) where
   all : Id → Type 0
   all i = Unit {0}
 
+  -- the links by reads-from out of the event
   pub reads_from_after_of : (ids : List Id) (w : ℕ) → IsStore e → w ≡ e.wrote → ((i : Id) →
       Contains ids i ↔ IsLoadBetween log e.word w (w + 1) i) →
       IsExtended old new (λ l. (i : Id) × Contains ids i × (l ≡ link i ReadsFrom)) →
@@ -373,6 +389,7 @@ module _ (log : List Event) (e : Event) (old new : List Link) where
             p.same,
           )
 
+  -- the links by atomic-in out of the event
   pub atomic_in_after_of : (ids : List Id) (w : ℕ) → IsStore e → w ≡ e.wrote → ((i : Id) →
       Contains ids i ↔ IsPairBetween log e.word w (w + 1) i) →
       IsExtended old new (λ l. (i : Id) × Contains ids i × (l ≡ link i AtomicIn)) →
@@ -459,6 +476,7 @@ module _ (log : List Event) (e : Event) (old new : List Link) where
             p.same,
           )
 
+  -- the links by atomic-out into the event
   pub atomic_outs_before_of :
       (ids : List Id) (low w : ℕ) → IsStore e → w ≡ e.wrote →
       ((version hart : ℕ) → version < low → hart ≢ e.id.hart → IsParted log e.word version e.wrote hart) →
@@ -505,6 +523,7 @@ module _ (log : List Event) (e : Event) (old new : List Link) where
     ];
   }
 
+-- a fact that follows, where there is no error
 pub on_ok : {X E : Type 0} (P Q : Type 0) → (P → Q) → (r : Result X E) → OnOk r P → OnOk r Q
 on_ok P Q f (Ok x) h = f h
 on_ok P Q f (Err e) h = tt

@@ -24,6 +24,7 @@ module _ (log : List Event) (rs : List (Option Reservation)) (ix : Accesses) (kn
   of_word : (w : ℕ) (a : Event) → Contains log a → IsStore a → a.word ≡ w → IsOf ix.stores w (store_access a)
   of_word w a c s e = record { known = store_listed log rs ix known a c s; same = e }
 
+  -- what the stores say of lower versions
   pub lower_store_of : (w v : ℕ) (o : Option Access) → IsLower ix.stores w v o → IsLowerStore log w v o
   lower_store_of w v None h = λ a c s e. h (store_access a) (of_word w a c s e)
   lower_store_of w v (Some x) h =
@@ -62,6 +63,7 @@ module _ (log : List Event) (rs : List (Option Reservation)) (ix : Accesses) (kn
         f.same,
       )
 
+  -- of higher ones
   pub higher_store_of : (w v m : ℕ) (o : Option Access) → m ≡ v → IsFirstFrom ix.stores w (m + 1) o →
       IsHigherStore log w v o
   higher_store_of w v m o same h = higher w v o (subst (λ (n : ℕ). IsFirstFrom ix.stores w (n + 1) o) same h)
@@ -90,6 +92,7 @@ module _ (log : List Event) (rs : List (Option Reservation)) (ix : Accesses) (kn
             (omega arith) g.other_hart in omega arith,
       )
 
+  -- of other harts' higher ones
   pub foreign_higher_of : (w v m hart : ℕ) (o : Option Access) → m ≡ v → IsForeignFrom ix.stores w (m + 1) hart o →
       IsForeignHigher log w v hart o
   foreign_higher_of w v m hart o same h =
@@ -121,6 +124,7 @@ module _ (log : List Event) (rs : List (Option Reservation)) (ix : Accesses) (kn
         (load_listed log rs ix known b.load b.of_log b.is_load));
   }
 
+  -- what the loads say of versions
   pub loads_of : (w from to : ℕ) (ids : List Id) → ((i : Id) → Contains ids i ↔ IsBetween ix.loads w from to i) →
       (i : Id) → Contains ids i ↔ IsLoadBetween log w from to i
   loads_of w from to ids h i =
@@ -153,6 +157,7 @@ module _ (log : List Event) (rs : List (Option Reservation)) (ix : Accesses) (kn
         (pair_listed log rs ix known b.sc b.lr b.of_log b.pair));
   }
 
+  -- what the pairs say of versions
   pub pairs_of : (w from to : ℕ) (ids : List Id) → ((i : Id) → Contains ids i ↔ IsBetween ix.pairs w from to i) →
       (i : Id) → Contains ids i ↔ IsPairBetween log w from to i
   pairs_of w from to ids h i =
@@ -182,6 +187,7 @@ module _ (log : List Event) (rs : List (Option Reservation)) (ix : Accesses) (kn
         known = subst (Contains ix.pairs) same h.0.known;
       })
 
+  -- whether a pair is lower
   pub pair_below_of :
       (w to : ℕ) (o : Option Access) → IsLower ix.pairs w to o →
       (is_some o ≡ true) ↔ ((i : Id) × IsPairBetween log w 0 to i)
@@ -196,6 +202,7 @@ pub record Passed (log : List Event) (w v hart bound : ℕ) : Type 0 where
   pub none : (a : Event) → IsForeign log w hart a → bound ≤ a.wrote → a.wrote < v → ⊥
 
 module _ (log : List Event) (known : Indexed log) (w v hart : ℕ) where
+  -- before the first store is passed
   pub passed_none : Passed log w v hart v
   passed_none = record { at_most = omega arith; none = λ a f high low. omega arith }
 
@@ -219,6 +226,7 @@ module _ (log : List Event) (known : Indexed log) (w v hart : ℕ) where
         ];
       }
 
+  -- another hart's store was found
   pub foreign_found : (bound : ℕ) (x : Access) → Passed log w v hart bound → IsLowerStore log w bound (Some x) →
       x.hart ≢ hart → IsForeignLower log w v hart (Some x)
   foreign_found bound x p (s, next, same) other =
@@ -240,6 +248,7 @@ module _ (log : List Event) (known : Indexed log) (w v hart : ℕ) where
         ],
       )
 
+  -- or there is none
   pub none_foreign : (bound : ℕ) → Passed log w v hart bound → IsLowerStore log w bound None →
       IsForeignLower log w v hart None
   none_foreign bound p h = λ a f. elim (cases_lt a.wrote v) [
@@ -247,6 +256,7 @@ module _ (log : List Event) (known : Indexed log) (w v hart : ℕ) where
     | inr high ↦ high
   ]
 
+-- a fact that follows of a value, where there is no error
 pub if_ok : {X E : Type 0} (P Q : X → Type 0) → ((x : X) → P x → Q x) → (r : Result X E) → IfOk r P → IfOk r Q
 if_ok P Q f (Ok x) h = f x h
 if_ok P Q f (Err e) h = tt

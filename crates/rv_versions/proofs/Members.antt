@@ -5,9 +5,11 @@ use Rattle.std.specs.List.{flat_map}
 use Rattle.std.proofs.lemmas.List.Elements.{Contains-append_left, Contains-append_right, Contains-append_cases}
 use Rattle.rv_event.proofs.Names.{Contains-cons, Contains-here, Contains-there}
 
+-- the empty list contains nothing
 pub Contains-none : {X : Type 0} (x : X) → Contains [] x → ⊥
 Contains-none x (k, l, e) = omega arith
 
+-- what a mapped list contains comes from an element
 pub Contains-map : {X Y : Type 0} (f : X → Y) (xs : List X) (y : Y) → Contains (map f xs) y →
     (x : X) × Contains xs x × (f x ≡ y)
 Contains-map f [] y c = absurd (Contains-none y c)
@@ -18,6 +20,7 @@ Contains-map {X} {Y} f (z ∷ xs) y c = go (Contains-cons (f z) (map f xs) y c) 
     go (inl e) again = (z, Contains-here z xs z refl, e)
     go (inr d) again = let a = again d in (a.0, Contains-there z xs a.0 a.1, a.2)
 
+-- and each element is mapped
 pub Contains-mapped : {X Y : Type 0} (f : X → Y) (xs : List X) (x : X) → Contains xs x → Contains (map f xs) (f x)
 Contains-mapped f [] x c = absurd (Contains-none x c)
 Contains-mapped {X} {Y} f (z ∷ xs) x c = go (Contains-cons z xs x c) (Contains-mapped f xs x)
@@ -38,6 +41,7 @@ Contains-flat {X} {A} f d (x ∷ xs) a c = go (Contains-append_cases (f x) (flat
     go (inl here) again = (0, zero-lt-suc (length xs), here)
     go (inr there) again = let r = again there in (suc r.0, suc-le-suc r.1, r.2)
 
+-- what one of the lists contains they contain together
 pub Contains-in_flat : {X A : Type 0} (f : X → List A) (d : X) (xs : List X) (a : A) (k : ℕ) → k < length xs →
     Contains (f (get_or xs k d)) a → Contains (flat_map f xs) a
 Contains-in_flat f d [] a k l c = absurd (omega arith)

@@ -70,6 +70,7 @@ module _ (log : List Event) (e : Event) (reserved : Option Reservation) (known :
   none_over a s ca cs (by_atomic_out sc lr p same) store word over under = let r : FromRead ≡ AtomicOut = same_reason
       _ _ _ _ same in cc
 
+  -- links go to the nearest versions
   pub nearest : (before after : List Link) → AreBefore log e reserved before → AreAfter log e reserved after →
       IsNearest log e before after
   nearest before after b a = record {

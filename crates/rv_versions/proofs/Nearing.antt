@@ -20,6 +20,7 @@ same_version log known a b ca cb sa sb w v =
 same_or : (m n : ℕ) → m ≤ n → (m ≡ n) ⊎ (m < n)
 same_or m n l = elim (cases_lt m n) [ inl low ↦ inr low | inr high ↦ inl (omega arith) ]
 
+-- two ids are equal or not
 pub same_id_or : (i j : Id) → (i ≡ j) ⊎ (i ≢ j)
 same_id_or i j = go (cases_eq i.hart j.hart) (cases_eq i.seq j.seq)
   where
@@ -29,6 +30,7 @@ same_id_or i j = go (cases_eq i.hart j.hart) (cases_eq i.seq j.seq)
     go (inl p) (inr q) = inr (λ e. q (ap (λ (x : Id). x.seq) e))
 
 module _ (log : List Event) (e : Event) (known : Indexed log) where
+  -- coherence into the event goes by the next lower store
   pub coherence_into : (s a : Event) → IsNextLower log e.word e.wrote s → Contains log a → IsCoherence a e →
       (a ≡ s) ⊎ (IsCoherence a s × IsCoherence s e)
   coherence_into s a n ca h =
@@ -47,6 +49,7 @@ module _ (log : List Event) (e : Event) (known : Indexed log) where
         )
       ]
 
+  -- out of it by the next higher one
   pub coherence_out : (t b : Event) → IsNextHigher log e.word e.wrote t → Contains log b → IsCoherence e b →
       (b ≡ t) ⊎ (IsCoherence e t × IsCoherence t b)
   coherence_out t b n cb h =
@@ -60,6 +63,7 @@ module _ (log : List Event) (e : Event) (known : Indexed log) where
         )
       ]
 
+  -- from-read out of it likewise
   pub from_read_out : (t b : Event) → e.id ≢ t.id → IsNextHigher log e.word e.read t → Contains log b →
       IsFromRead e b → (b ≡ t) ⊎ (IsFromRead e t × IsCoherence t b)
   from_read_out t b other n cb h =
@@ -72,6 +76,7 @@ module _ (log : List Event) (e : Event) (known : Indexed log) where
         )
       ]
 
+  -- from-read into it by the next lower store
   pub from_read_into : (s a : Event) → IsNextLower log e.word e.wrote s → Contains log a → IsFromRead a e →
       (s.wrote ≤ a.read) ⊎ ((a.id ≡ s.id) ⊎ (IsFromRead a s × IsCoherence s e))
   from_read_into s a n ca h = elim (cases_lt a.read s.wrote) [

@@ -69,6 +69,7 @@ module _ (model : MemoryModel) (log : List Event) (e : Event) (reserved : Option
       )
   own_of AtomicOut h = absurd (h.other_hart refl)
 
+  -- when the event has an edge to itself
   pub own_edge : ReturnsOwn e reserved ↔ ((r : Reason) × IsEdge model new e.id r e.id)
   own_edge = (to, from)
     where

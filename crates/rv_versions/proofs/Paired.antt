@@ -38,6 +38,7 @@ not_earlier log a b sc cb p q low =
     IsFalse (is_exclusive m.op)) log b p.paired.none_between cb between in
     false≢true (sym none ∙ ap is_exclusive q.paired.is_lr)
 
+-- an SC has one partner
 pub one_partner : (log : List Event) → Indexed log → (a b sc : Event) → IsPair log a sc → IsPair log b sc → a ≡ b
 one_partner log known a b sc p q = same_event log known a b p.of_log q.of_log same
   where
@@ -61,6 +62,7 @@ module _ (log : List Event) (e : Event) (known : Indexed log) (sound : Sound log
   abbrev new : List Event
   new = log ++ e ∷ []
 
+  -- no old event has the new id
   pub is_new : (a : Event) → Contains log a → a.id ≢ e.id
   is_new a c same =
       let low : a.id.seq < length (of_hart a.id.hart log) = known.below a c in
@@ -69,6 +71,7 @@ module _ (log : List Event) (e : Event) (known : Indexed log) (sound : Sound log
       (of_hart i.hart log)) same low in
       omega arith
 
+  -- an old event is one of the new log
   pub in_new : (a : Event) → Contains log a → Contains new a
   in_new a c = Contains-append_left log (e ∷ []) a c
 
@@ -81,6 +84,7 @@ module _ (log : List Event) (e : Event) (known : Indexed log) (sound : Sound log
       let low' : b.id.seq < length (of_hart e.id.hart log) = rw earlier.hart low in
       omega arith
 
+  -- a pair of old events was one before
   pub settled : (lr sc : Event) → Paired new lr sc → Paired log lr sc
   settled lr sc p = record {
     is_lr = p.is_lr;
@@ -90,9 +94,11 @@ module _ (log : List Event) (e : Event) (known : Indexed log) (sound : Sound log
         (λ m c. All-contains (λ m. Between lr m sc → IsFalse (is_exclusive m.op)) new m p.none_between (in_new m c));
   }
 
+  -- a pair stays one
   pub grown : (lr sc : Event) → Contains log sc → Paired log lr sc → Paired new lr sc
   grown lr sc c p = Paired-grows Rvwmo log new (grows-push log e) known (indexed-push log e known sound) lr sc c p
 
+  -- an LR's pair stays one
   pub pair_grows : (lr sc : Event) → Contains log sc → IsPair log lr sc → IsPair new lr sc
   pair_grows lr sc c p = record { of_log = in_new lr p.of_log; paired = grown lr sc c p.paired }
 
@@ -112,19 +118,23 @@ module _ (log : List Event) (e : Event) (known : Indexed log) (sound : Sound log
         absurd (omega arith)
   ]
 
+  -- the event's partner is its pair
   pub pair_of_partner : (lr : Event) → IsPartner log e lr → IsPair new lr e
   pair_of_partner lr p = record { of_log = in_new lr p.of_log; paired = p.paired }
 
+  -- a reservation stays
   pub reservation_grows : (sc : Event) (r : Option Reservation) → Contains log sc → IsReservation log sc r →
       IsReservation new sc r
   reservation_grows sc (Some r) c h = (h.0, pair_grows h.0 sc c h.1, h.2, h.3)
   reservation_grows sc None c h = λ lr p. h lr (pair_settled lr sc c p)
 
+  -- and was one before
   pub reservation_settled : (sc : Event) (r : Option Reservation) → Contains log sc → IsReservation new sc r →
       IsReservation log sc r
   reservation_settled sc (Some r) c h = (h.0, pair_settled h.0 sc c h.1, h.2, h.3)
   reservation_settled sc None c h = λ lr p. h lr (pair_grows lr sc c p)
 
+  -- the event's own
   pub reservation_new : (r : Option Reservation) → IsReserved log e r → IsReservation new e r
   reservation_new (Some r) h = (h.0, pair_of_partner h.0 h.1, h.2, h.3)
   reservation_new None h = λ lr p. h lr (partner_of lr p)

@@ -38,6 +38,7 @@ flat_same : (these : Accesses → List Access) → these no_accesses ≡ [] → 
 flat_same these none [] = ap (λ (xs : List Access). xs ++ []) none
 flat_same these none (w ∷ words) = ap (λ (xs : List Access). these w ++ xs) (flat_same these none words)
 
+-- a word more without accesses
 pub together-more : (words words' : List Accesses) → words' ≡ words ++ no_accesses ∷ [] →
     together words' ≡ together words
 together-more words words' more = ap together more ∙ (λ i. record {
@@ -64,6 +65,7 @@ module _ (place_of place_of' : ℕ → Option ℕ) (words words' : List Accesses
         (w : Accesses). Contains w.pairs x) (still words k) c));
   })
 
+  -- and more of them
   pub padded : ((word : ℕ) → place_of' word ≡ place_of word) → AreInPlace place_of' words'
   padded same = moved
       (record {
@@ -74,6 +76,7 @@ module _ (place_of place_of' : ℕ → Option ℕ) (words words' : List Accesses
       })
       (λ word k e. same word ∙ e)
 
+  -- a word that has a number now
   pub numbered :
       (new : ℕ) → place_of new ≡ None → place_of' new ≡ Some (length words) →
       ((word : ℕ) → new ≢ word → place_of' word ≡ place_of word) → AreInPlace place_of' words'
@@ -247,6 +250,7 @@ module _ (place_of : ℕ → Option ℕ) (words : List Accesses) (numbers : AreN
 abbrev pub AreFrom : Accesses → Postings → Accesses → Type 0
 AreFrom old p new = ByEach (λ xs o ys. (x : Access) → Contains ys x → Contains xs x ⊎ (o ≡ Some x)) old p new
 
+-- accesses that were put in
 pub from_inserted : (old new : Accesses) (p : Postings) → AreInserted old p new → AreFrom old p new
 from_inserted old new p put = record {
   stores = λ x. (put.stores x).0;
@@ -254,6 +258,7 @@ from_inserted old new p put = record {
   pairs = λ x. (put.pairs x).0;
 }
 
+-- that were taken out
 pub from_removed : (old new : Accesses) (p : Postings) → AreRemoved old p new → AreFrom old p new
 from_removed old new p taken = record {
   stores = λ x c. inl ((taken.stores x).0 c).0;
@@ -261,6 +266,7 @@ from_removed old new p taken = record {
   pairs = λ x c. inl ((taken.pairs x).0 c).0;
 }
 
+-- that are the same
 pub from_same : (old new : Accesses) (p : Postings) → AreSame old p new → AreFrom old p new
 from_same old new p same = record {
   stores = λ x c. inl ((same.stores x).0 c);
@@ -269,6 +275,7 @@ from_same old new p same = record {
 }
 
 module _ (place_of : ℕ → Option ℕ) (words : List Accesses) (in_place : AreInPlace place_of words) (word : ℕ) where
+  -- those at the word's place are its own
   pub are_to_word : (k : ℕ) → place_of word ≡ Some k → AreThoseTo (together words) word (get_or words k no_accesses)
   are_to_word k p = record {
     stores = all_of place_of words in_place.numbers (λ w. w.stores) in_place.stores word k p;
@@ -276,6 +283,7 @@ module _ (place_of : ℕ → Option ℕ) (words : List Accesses) (in_place : Are
     pairs = all_of place_of words in_place.numbers (λ w. w.pairs) in_place.pairs word k p;
   }
 
+  -- a word without a place has none
   pub none_to_word : place_of word ≡ None → AreThoseTo (together words) word no_accesses
   none_to_word p = record {
     stores = none_to place_of words in_place.numbers (λ w. w.stores) in_place.stores word p;
@@ -283,6 +291,7 @@ module _ (place_of : ℕ → Option ℕ) (words : List Accesses) (in_place : Are
     pairs = none_to place_of words in_place.numbers (λ w. w.pairs) in_place.pairs word p;
   }
 
+  -- nothing is taken out of it
   pub none_removed : (p : Postings) → ArePostingsTo word p → place_of word ≡ None →
       AreRemoved (together words) p (together words)
   none_removed p to none = record {
@@ -313,6 +322,7 @@ module _ (place_of : ℕ → Option ℕ) (words : List Accesses) (in_place : Are
         place_of x.word ≡ Some k
     place o same x e = ap place_of (same x e) ∙ number
 
+    -- each access stays at its word's place
     pub still_in_place : AreFrom old p w → AreInPlace place_of (set words k w)
     still_in_place from = record {
       numbers = record {
@@ -327,6 +337,7 @@ module _ (place_of : ℕ → Option ℕ) (words : List Accesses) (in_place : Are
           (place p.pair to.pair) from.pairs;
     }
 
+    -- what was put in at a place was put in
     pub are_inserted : AreInserted old p w → AreInserted (together words) p (together (set words k w))
     are_inserted put = record {
       stores = inserted_at place_of words in_place.numbers (λ v. v.stores) in_place.stores k p.store w fits
@@ -337,6 +348,7 @@ module _ (place_of : ℕ → Option ℕ) (words : List Accesses) (in_place : Are
           (place p.pair to.pair) put.pairs;
     }
 
+    -- what was taken out there was taken out
     pub are_removed : AreRemoved old p w → AreRemoved (together words) p (together (set words k w))
     are_removed taken = record {
       stores = removed_at place_of words in_place.numbers (λ v. v.stores) in_place.stores k p.store w fits
@@ -347,6 +359,7 @@ module _ (place_of : ℕ → Option ℕ) (words : List Accesses) (in_place : Are
           (place p.pair to.pair) taken.pairs;
     }
 
+    -- and what is the same is
     pub are_same : AreSame old p w → AreSame (together words) p (together (set words k w))
     are_same same = record {
       stores = put_none _ _ (inserted_at place_of words in_place.numbers (λ v. v.stores) in_place.stores k None w fits
@@ -370,6 +383,7 @@ module _ (accesses : List Access) (word from to : ℕ) where
   of_between : (i : Id) (b : IsBetween accesses word from to i) → IsOf accesses word (access word b.version i)
   of_between i b = record { known = b.known; same = refl }
 
+  -- the events of a part of the accesses
   pub ids_of : (list part : List Access) → AreAllOf accesses word list →
       ((x : Access) → Contains part x ↔ (Contains list x × (from ≤ x.version) × (x.version < to))) → (i : Id) →
       Contains (map id_of part) i ↔ IsBetween accesses word from to i

@@ -12,14 +12,17 @@ use Rattle.rv_versions.specs.declared.accesses.Accesses.{Accesses}
 use Rattle.rv_versions.specs.declared.accesses.Postings.{Postings}
 use Rattle.rv_versions.specs.declared.reservation.Reservation.{Reservation}
 
+-- what an error says
 pub failed : {X E : Type 0} (r : Result X E) (P : Type 0) → is_err r ≡ true → OnErr r P → P
 failed (Ok x) P e h = absurd (false≢true e)
 failed (Err x) P e h = h
 
+-- what its absence says
 pub went : {X E : Type 0} (r : Result X E) (P : Type 0) → is_err r ≡ false → OnOk r P → P
 went (Ok x) P e h = h
 went (Err x) P e h = absurd (false≢true (sym e))
 
+-- a list has what it has
 pub same_itself : (xs ys : List Access) → ys ≡ xs → IsSame xs ys
 same_itself xs ys e x = (
   λ c. subst (λ (zs : List Access). Contains zs x) e c,
@@ -39,6 +42,7 @@ same_again xs ys zs o absent put taken x = (to, from)
     from : Contains xs x → Contains zs x
     from c = (taken x).1 ((put x).1 (inl c), λ e. absent x e c)
 
+-- a fact where there is an error
 pub on_err : {X E : Type 0} (r : Result X E) (P : Type 0) → P → OnErr r P
 on_err (Ok x) P h = tt
 on_err (Err x) P h = h
@@ -52,6 +56,7 @@ put_none xs ys put x = (
   λ c. (put x).1 (inl c),
 )
 
+-- nothing was put in
 pub none_put : (xs ys : List Access) → IsSame xs ys → IsInserted xs None ys
 none_put xs ys same x = (
   λ c. inl ((same x).0 c),
@@ -81,6 +86,7 @@ then_taken xs ys zs o same taken x = (
 
 -- ---- stores, loads and pairs
 
+-- nothing changed
 pub all_same : (old new : Accesses) (p : Postings) → new ≡ old → AreSame old p new
 all_same old new p e = record {
   stores = same_itself _ _ (ap (λ (a : Accesses). a.stores) e);
@@ -91,6 +97,7 @@ all_same old new p e = record {
 -- the event's own accesses went in, and then what its LR returned
 module _ (e : Event) (r : Reservation) (old mid : Accesses) (put : AreInserted old (own_postings e) mid)
     (absent : AreAbsent old (postings_of e (Some r))) where
+  -- the pair is not there yet
   pub absent_pair : AreAbsent mid (pair_postings e.id r)
   absent_pair = record {
     stores = λ x q. absurd (none-some x q);
@@ -98,6 +105,7 @@ module _ (e : Event) (r : Reservation) (old mid : Accesses) (put : AreInserted o
     pairs = λ x q c. absent.pairs x q ((put_none old.pairs mid.pairs put.pairs x).0 c);
   }
 
+  -- an event's accesses and its pair
   pub both_inserted : (new : Accesses) → AreInserted mid (pair_postings e.id r) new →
       AreInserted old (postings_of e (Some r)) new
   both_inserted new more = record {
@@ -122,6 +130,7 @@ module _ (e : Event) (r : Reservation) (old mid : Accesses) (put : AreInserted o
         (put_then old.pairs mid.pairs back.pairs None put.pairs same.pairs) taken.pairs;
   }
 
+-- likewise taken out
 pub both_removed :
     (e : Event) (r : Reservation) (old mid new : Accesses) → AreRemoved old (own_postings e) mid →
     AreRemoved mid (pair_postings e.id r) new → AreRemoved old (postings_of e (Some r)) new

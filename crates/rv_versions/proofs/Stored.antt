@@ -11,6 +11,7 @@ use Rattle.rv_versions.specs.declared.accesses.Accesses.{Accesses}
 use Rattle.rv_versions.specs.declared.reservation.Reservation.{Reservation}
 use Rattle.rv_versions.proofs.Indexing.{indexes_push, indexes_pop}
 
+-- indexes of equal logs
 pub indexes_are :
     (log log' : List Event) (rs rs' : List (Option Reservation)) (ix : Accesses) → log ≡ log' → rs ≡ rs' →
     AreIndexes log rs ix → AreIndexes log' rs' ix
@@ -21,6 +22,7 @@ events-push : (xs ys : List Entry) (x : Entry) (e : Event) → ys ≡ xs ++ x �
 events-push xs ys x e is same = ap events is ∙ map-append (λ (y : Entry). y.event) xs (x ∷ []) ∙
     ap (λ (a : Event). events xs ++ a ∷ []) same
 
+-- the log and its indexes with one entry more
 pub pushed :
     (xs ys : List Entry) (rs qs : List (Option Reservation)) (ix new : Accesses) (x : Entry) (e : Event)
     (r : Option Reservation) →
@@ -32,6 +34,7 @@ pushed xs ys rs qs ix new x e r known sound is put entries same reserved =
     (sym reserved)
     (indexes_push (events xs) rs ix e r known sound new is put)
 
+-- and with one less
 pub popped :
     (xs ys : List Entry) (rs qs : List (Option Reservation)) (ix new : Accesses) (x : Entry)
     (r : Option Reservation) →

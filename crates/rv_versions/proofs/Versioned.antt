@@ -63,6 +63,7 @@ all_pairs_insert {X} R xs n y le pairs before behind i j d low high = elim (case
 
 -- ---- what was put in and taken out
 
+-- the access was put in at a place
 pub was_inserted : (xs : List Access) (n : ℕ) (a : Access) → IsInserted xs (Some a) (insert xs n a)
 was_inserted xs n a x = (to, from)
   where
@@ -102,6 +103,7 @@ module _ (xs : List Access) (ordered : AreByVersion xs) where
     | inr high ↦ (ordered j i d (omega arith) li).1 (sym same)
   ]
 
+  -- and the order stays
   pub ordered_inserted :
       (a : Access) (n : ℕ) → n ≤ length xs → (Contains xs a → ⊥) →
       IsStart xs (a.version + 1) n →
@@ -116,6 +118,7 @@ module _ (xs : List Access) (ordered : AreByVersion xs) where
         λ e. absent (subst (Contains xs) (sym e) (Contains-get_or xs k d l)),
       ))
 
+  -- the access at a place was taken out
   pub was_removed :
       (a : Access) (n : ℕ) → n < length xs → HoldsAt (λ x. x ≡ a) xs n → IsRemoved xs (Some a) (remove xs n)
   was_removed a n l at x = (to, from)
@@ -200,6 +203,7 @@ start_past ys xs v n same ordered size b some is low = subst (λ (zs : List Acce
   λ k d from upto. absurd (omega arith),
 )
 
+-- no accesses begin anywhere
 pub start_empty : (ys xs : List Access) (v n : ℕ) → ys ≡ xs → n ≡ length ys → length ys ≤ 0 → IsStart xs v n
 start_empty ys xs v n same size none = subst (λ (zs : List Access). IsStart zs v n) same (
   λ k d from upto. absurd (omega arith),
@@ -233,11 +237,13 @@ module _ (xs accesses : List Access) (word : ℕ) (all : AreAllOf accesses word 
   high_at : (x : Access) (k : ℕ) → HoldsAt (λ y. y ≡ x) xs k → n ≤ k → k < length xs → v ≤ x.version
   high_at x k p h l = subst (λ (y : Access). v ≤ y.version) (p x) (part.1 k x h l)
 
+  -- none is lower
   pub lower_none : n ≡ 0 → IsLower accesses word v None
   lower_none nil x of =
       let c = at_from_Contains xs x ((all x).1 of) in
       high_at x c.0 c.2 (omega arith) c.1
 
+  -- the one before the place is the highest below
   pub lower_some : AreByVersion xs → (k : ℕ) (a : Access) → k + 1 ≡ n → n ≤ length xs → a ≡ get_or xs k a →
       IsLower accesses word v (Some a)
   lower_some ordered k a is le e =
@@ -252,12 +258,14 @@ module _ (xs accesses : List Access) (word : ℕ) (all : AreAllOf accesses word 
             ],
       )
 
+  -- none is from the version on
   pub first_none : length xs ≤ n → IsFirstFrom accesses word v None
   first_none le x of =
       let c = at_from_Contains xs x ((all x).1 of) in
       let l = c.1 in
       low_at x c.0 c.2 (omega arith)
 
+  -- the one at the place is the first
   pub first_some : AreByVersion xs → (a : Access) → n < length xs → a ≡ get_or xs n a →
       IsFirstFrom accesses word v (Some a)
   first_some ordered a l e =
@@ -277,6 +285,7 @@ module _ (xs accesses : List Access) (word : ℕ) (all : AreAllOf accesses word 
         k < end → x.hart ≡ hart
     own_at x k end own p h l = subst (λ (y : Access). y.hart ≡ hart) (p x) (own k x h l)
 
+    -- no other hart's is
     pub foreign_none : (end : ℕ) → length xs ≤ end → AllWithin (λ y. y.hart ≡ hart) xs n end →
         IsForeignFrom accesses word v hart None
     foreign_none end le own x of high =
@@ -287,6 +296,7 @@ module _ (xs accesses : List Access) (word : ℕ) (all : AreAllOf accesses word 
           | inr above ↦ own_at x c.0 end own c.2 above (omega arith)
         ]
 
+    -- the first of another hart
     pub foreign_some :
         AreByVersion xs → (k : ℕ) (a : Access) → n ≤ k → k < length xs → a ≡ get_or xs k a →
         AllWithin (λ y. y.hart ≡ hart) xs n k →
@@ -315,6 +325,7 @@ first_last xs accesses word all k a l e = ((all a).0 (k, l, sym e), omega arith,
 
 -- ---- a part of the list
 
+-- those of the versions between
 pub is_between :
     (xs : List Access) (from to start end : ℕ) → start ≤ end → end ≤ length xs →
     IsStart xs to end →

@@ -42,7 +42,8 @@ pub record ReadsFromBefore (log : List Event) (e : Event) (l : Link) : Type 0 wh
 abbrev pub IsUncovered : List Event → Event → ℕ → Type 0
 IsUncovered log e version = (s : Event) → IsNextLower log e.word e.wrote s → s.wrote ≤ version
 
--- the loads of a lower version, but for those that returned less than the store of the next lower version wrote
+-- the loads of a lower version, but for those that returned less than the store of the next lower
+-- version wrote
 pub record FromReadBefore (log : List Event) (e : Event) (l : Link) : Type 0 where
   pub store : IsStore e
   pub load : Event
@@ -77,7 +78,8 @@ pub record IsParted (log : List Event) (word version wrote hart : ℕ) : Type 0 
   pub above : version < store.wrote
   pub below : store.wrote < wrote
 
--- behind the old links stand all but such as a store of another hart than the SC's parts from the new event
+-- behind the old links stand all but such as a store of another hart than the SC's parts from the
+-- new event
 pub record AtomicOutsBefore (log : List Event) (e : Event) (old new : List Link) : Type 0 where
   pub others : List Link
   pub behind : new ≡ old ++ others

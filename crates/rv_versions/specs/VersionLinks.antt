@@ -14,7 +14,8 @@ use Rattle.rv_cover.specs.Thinned.{Names, IsNearest}
 abbrev pub IsOfVersions : Reason → Type 0
 IsOfVersions reason = (k : ℕ) → reason ≢ Preserved k
 
--- Each link is an edge to another event, and no rule. Each edge of such a reason is linked, or another event splits it.
+-- Each link is an edge to another event, and no rule. Each edge of such a reason is linked, or
+-- another event splits it.
 pub record AreVersionLinks (model : MemoryModel) (log : List Event) (e : Event)
     (before after : List Link) : Type 0 where
   pub edges_before : (l : Link) → Contains before l → IsEdge model (log ++ e ∷ []) l.id l.reason e.id

@@ -35,7 +35,8 @@ impl Access {
     }
 }
 
-/// Under which accesses an event is found: as a store, as a load, and as an SC that is paired with an LR.
+/// Under which accesses an event is found: as a store, as a load, and as an SC that is paired with
+/// an LR.
 #[derive(Clone, Copy, Debug)]
 pub struct Postings {
     /// A store stands under the version that it wrote.
@@ -48,7 +49,8 @@ pub struct Postings {
 
 /// The accesses to one word.
 ///
-/// What is found in them is told of a log and a word: it holds wherever they are the log's accesses to the word.
+/// What is found in them is told of a log and a word: it holds wherever they are the log's accesses
+/// to the word.
 #[derive(Drop)]
 pub struct Accesses {
     /// Stores, under the versions that they wrote.

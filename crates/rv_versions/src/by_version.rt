@@ -1,7 +1,8 @@
 //! The accesses to one word, in the order of their versions.
 //!
-//! Where events come in commit order, an access goes to the end, and what is asked is nearly always answered by the
-//! last accesses. So each function looks at these first, and searches only where they do not answer.
+//! Where events come in commit order, an access goes to the end, and what is asked is nearly always
+//! answered by the last accesses. So each function looks at these first, and searches only where
+//! they do not answer.
 ghost use Rattle.std.specs.Prelude.{ℕ, ◌≡◌, ◌+◌, ◌<◌, ◌≤◌, ◌↔◌, [], List, length, Contains, Some, OnOk};
 ghost use Rattle.std.specs.Prelude.{OnErr, IfSome, MatchOption};
 ghost use Rattle.std.specs.List.{HoldsAt, AllWithin};
@@ -14,11 +15,11 @@ use rv_event::NoMemory;
 use std::alloc::Global;
 use std::marker::Model;
 
-/// The accesses to one word, in the order of their versions. Those of one version stand in the order in which they
-/// came.
+/// The accesses to one word, in the order of their versions. Those of one version stand in the
+/// order in which they came.
 ///
-/// Contracts see the list. Its type keeps the order, and that no access stands in it twice. That it has the accesses of
-/// one word is a premise of each answer.
+/// Contracts see the list. Its type keeps the order, and that no access stands in it twice. That it
+/// has the accesses of one word is a premise of each answer.
 #[derive(Drop)]
 pub struct ByVersion {
     accesses: Vec<Access>,
@@ -48,7 +49,8 @@ impl ByVersion {
 
     /// Puts the access in, where there is one. It is not there yet.
     ///
-    /// It costs a step where no version is higher, and else a search and the moving of what stands behind it.
+    /// It costs a step where no version is higher, and else a search and the moving of what stands
+    /// behind it.
     ///
     /// # Errors
     /// `NoMemory`; the accesses are then as they were.
@@ -65,7 +67,8 @@ impl ByVersion {
 
     /// Takes the access out, where there is one and it is there. It takes no memory.
     ///
-    /// It costs a step for each of its version that came later, and the moving of what stands behind it.
+    /// It costs a step for each of its version that came later, and the moving of what stands
+    /// behind it.
     pub fn remove_posting(&mut self, posting: Option<Access>)
         ensures { IsRemoved self.old posting self.new }
     {

@@ -51,7 +51,8 @@ fn pair_postings(sc: Id, reservation: Reservation) -> Postings
 
 /// The stores, the loads and the pairs of a log.
 ///
-/// Each word has a number, and under that number its accesses. Contracts see those of all words together.
+/// Each word has a number, and under that number its accesses. Contracts see those of all words
+/// together.
 #[derive(Drop)]
 pub struct Indexes {
     alloc: Global,
@@ -123,8 +124,9 @@ impl Indexes {
 
     /// Puts an event in, with what its LR returned.
     ///
-    /// It costs a look-up of its word, and one of its LR's. For each list that it joins it costs a step where the word
-    /// has no higher version there; else a search, and the moving of what stands behind it.
+    /// It costs a look-up of its word, and one of its LR's. For each list that it joins it costs a
+    /// step where the word has no higher version there; else a search, and the moving of what
+    /// stands behind it.
     ///
     /// # Errors
     /// `NoMemory`; the accesses are then as they were.
@@ -148,8 +150,8 @@ impl Indexes {
 
     /// Takes an event out, with what its LR returned. It takes no memory.
     ///
-    /// It costs the look-ups of an insertion. For each list that it leaves it costs a step for each access of its
-    /// version that came later, and the moving of what stands behind it.
+    /// It costs the look-ups of an insertion. For each list that it leaves it costs a step for each
+    /// access of its version that came later, and the moving of what stands behind it.
     pub fn remove(&mut self, event: &Event, reserved: Option<Reservation>)
         ensures { AreRemoved self.old (postings_of event.now reserved) self.new }
     {
@@ -160,7 +162,8 @@ impl Indexes {
         self.remove_from(reservation.word, pair_postings(event.id, reservation));
     }
 
-    /// Puts the postings in, all of which are of the word. Where there are none, it takes no memory.
+    /// Puts the postings in, all of which are of the word. Where there are none, it takes no
+    /// memory.
     ///
     /// # Errors
     /// `NoMemory`; the accesses are then as they were.

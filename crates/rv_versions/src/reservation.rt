@@ -2,7 +2,8 @@
 
 /// The word that an LR loaded, and the version that it returned.
 ///
-/// It is handed in with the SC that is paired with the LR (Unprivileged ISA, section 14.1, "Memory Model Primitives").
+/// It is handed in with the SC that is paired with the LR (Unprivileged ISA, section 14.1, "Memory
+/// Model Primitives").
 #[derive(Clone, Copy, PartialEq, Eq, Debug)]
 pub struct Reservation {
     /// The number of the aligned word.

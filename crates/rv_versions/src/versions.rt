@@ -26,7 +26,8 @@ use rv_event::{Entry, Event, Id, Link, NoMemory};
 use std::alloc::Global;
 use std::marker::Model;
 
-/// Links from other events to a new one and back, for each reason but the rules of preserved program order.
+/// Links from other events to a new one and back, for each reason but the rules of preserved
+/// program order.
 #[derive(Drop, Debug)]
 pub struct VersionLinks {
     /// Links from other events to it, behind those that were given.
@@ -37,8 +38,8 @@ pub struct VersionLinks {
 
 /// A log whose stores, loads and pairs are found by word and version.
 ///
-/// Contracts see it as the list of its events. Its type keeps that each event has no fault over those before it, and
-/// that the indexes have the log's stores, loads and pairs, and nothing else.
+/// Contracts see it as the list of its events. Its type keeps that each event has no fault over
+/// those before it, and that the indexes have the log's stores, loads and pairs, and nothing else.
 #[derive(Drop)]
 pub struct Versions {
     alloc: Global,
@@ -81,19 +82,22 @@ impl Versions {
         self.entries.as_slice()
     }
 
-    /// The links of the event, which has no fault over the log, with what its LR returned. Those into it are added
-    /// behind the given ones.
+    /// The links of the event, which has no fault over the log, with what its LR returned. Those
+    /// into it are added behind the given ones.
     ///
-    /// Each link is an edge between the event and another one, for one of the reasons that look at versions: coherence,
-    /// reads-from, from-read, atomic-in and atomic-out (Unprivileged ISA, section 14.1, "Memory Model Axioms"). Each
-    /// edge for such a reason is linked, or another event splits it.
+    /// Each link is an edge between the event and another one, for one of the reasons that look at
+    /// versions: coherence, reads-from, from-read, atomic-in and atomic-out (Unprivileged ISA,
+    /// section 14.1, "Memory Model Axioms"). Each edge for such a reason is linked, or another
+    /// event splits it.
     ///
-    /// It costs a look-up of its word, and two of its LR's where that is another one. Where the event comes in commit
-    /// order, a few steps answer each question then; else it searches the accesses to the word, in logarithmic time. It
-    /// takes a step more for each link, and for atomic-out for each store that it passes on the way to another hart's.
+    /// It costs a look-up of its word, and two of its LR's where that is another one. Where the
+    /// event comes in commit order, a few steps answer each question then; else it searches the
+    /// accesses to the word, in logarithmic time. It takes a step more for each link, and for
+    /// atomic-out for each store that it passes on the way to another hart's.
     ///
     /// # Errors
-    /// `NoMemory` where a list could not be had or grow; nothing changes, but the given links are gone.
+    /// `NoMemory` where a list could not be had or grow; nothing changes, but the given links are
+    /// gone.
     pub fn around(
         &self,
         event: &Event,
@@ -114,8 +118,8 @@ impl Versions {
         })
     }
 
-    /// Whether an edge leads from the event to itself: where an AMO returned what it writes, or an SC's LR returned
-    /// what the SC writes. No rule holds of an event and itself.
+    /// Whether an edge leads from the event to itself: where an AMO returned what it writes, or an
+    /// SC's LR returned what the SC writes. No rule holds of an event and itself.
     ///
     /// It takes no memory and constant time.
     pub fn has_own_edge(&self, event: &Event, reserved: Option<Reservation>) -> bool
@@ -132,8 +136,8 @@ impl Versions {
 
     /// The store that wrote this version of the word. Version 0, the initial value, has none.
     ///
-    /// It takes no memory. It costs a look-up of the word, and a few steps for its highest version, or else a search
-    /// among its stores.
+    /// It takes no memory. It costs a look-up of the word, and a few steps for its highest version,
+    /// or else a search among its stores.
     pub fn writer(&self, word: u32, version: u32) -> Option<Id>
         ensures { result ≡ option_map (λ w. w.id) (writer self.now word version) }
     {
@@ -147,8 +151,8 @@ impl Versions {
         self.indexes.of_word(word)
     }
 
-    /// The accesses of the log to the word of the event's LR, where those to the event's own word are at hand. Mostly
-    /// it is the same word, and then it costs no look-up.
+    /// The accesses of the log to the word of the event's LR, where those to the event's own word
+    /// are at hand. Mostly it is the same word, and then it costs no look-up.
     fn of_reserved<'a>(
         &'a self,
         accesses: &'a Accesses,
@@ -167,9 +171,9 @@ impl Versions {
 
     /// Adds the event, which has no fault over the log, with what its LR returned.
     ///
-    /// It costs a look-up of its word, one of its LR's, and at most three insertions, of a few steps each where no
-    /// version of the word is higher. Else each costs a search among the word's accesses, and the moving of those of a
-    /// higher version.
+    /// It costs a look-up of its word, one of its LR's, and at most three insertions, of a few
+    /// steps each where no version of the word is higher. Else each costs a search among the word's
+    /// accesses, and the moving of those of a higher version.
     ///
     /// # Errors
     /// `NoMemory` where the event could not be kept; the log stays as it is.

@@ -10,9 +10,9 @@ use Rattle.rv_run.specs.Sources.{IsFaultAmong}
 use Rattle.rv_run.specs.declared.fault.RunFault.TheVariants as fault
 use Rattle.rv_run.specs.Ranges.{IsOutOfRange}
 use Rattle.rv_run.specs.declared.running.Settings.{Settings}
-use Rattle.rv_words.specs.Answers.{AnswersTo}
-use Rattle.rv_words.specs.Asked.{IsInRange}
-use Rattle.rv_words.specs.declared.request.Asked.{Asked}
+use Rattle.rv_cli.specs.Answers.{AnswersTo}
+use Rattle.rv_cli.specs.Asked.{IsInRange}
+use Rattle.rv_cli.specs.declared.request.Asked.{Asked}
 use Rattle.rvmon.specs.Starting.{IsUnopened, IsUnopenedFile, EndsAsked, EndsBy, sources_of}
 use Rattle.rvmon.specs.declared.ending.Ending.{Ending}
 use Rattle.rvmon.specs.declared.ending.Ending.TheVariants.{Ran, Failed, Words, NotText, NotOpened}
@@ -43,6 +43,7 @@ unknown n = replicate n None
 no_memory_in_range : fault.NoMemory ≢ fault.Settings
 no_memory_in_range same = cc
 
+-- a file that did not open is an ending of what was asked
 pub ends_unopened : (asked : Asked) (e : Ending) → IsUnopened (map string_bytes asked.files.items) e → EndsAsked asked e
 ends_unopened asked (Ran o) h = absurd h
 ends_unopened asked (Failed f) h = (
@@ -55,6 +56,7 @@ ends_unopened asked (Words f) h = absurd h
 ends_unopened asked NotText h = absurd h
 ends_unopened asked (NotOpened name) h = h
 
+-- an ending of what was asked is one of the words
 pub ends_asked : (texts : List Text) (asked : Asked) (e : Ending) → AnswersTo texts (Ok asked) → EndsAsked asked e →
     EndsBy texts e asked.json
 ends_asked texts asked (Ran o) said h = (asked, said, refl, h)

@@ -9,7 +9,7 @@ use Rattle.rv_report.specs.declared.outcome.Outcome.TheVariants as outcome
 use Rattle.rv_run.specs.declared.fault.RunFault.TheVariants as fault
 use Rattle.rv_trace.specs.declared.fault.FaultKind.{FaultKind}
 use Rattle.rv_trace.specs.declared.fault.FaultKind.TheVariants as kind
-use Rattle.rv_words.specs.declared.request.WordsFault.TheVariants as words
+use Rattle.rv_cli.specs.declared.request.WordsFault.TheVariants as words
 use Rattle.rvmon.specs.declared.ending.Ending.{Ending}
 use Rattle.rvmon.specs.declared.ending.Ending.TheVariants.{Ran, Failed, Words, NotText, NotOpened}
 
@@ -40,9 +40,10 @@ abbrev pub printed : Bool → Outcome → List ℕ
 printed false o = report_text o
 printed true o = json_text o ⋯ line_feed
 
--- Where the sources were judged: the whole report and the status of the outcome, or status 3. Else nothing stands on
--- standard output, and the status says whether the input was wrong (2) or something failed (3). What is said where the
--- parser refuses the words, or is asked for help, is the parser's; help that cannot be written is status 3.
+-- Where the sources were judged: the whole report and the status of the outcome, or status 3. Else
+-- nothing stands on standard output, and the status says whether the input was wrong (2) or
+-- something failed (3). What is said where the parser refuses the words, or is asked for help, is
+-- the parser's; help that cannot be written is status 3.
 abbrev pub IsSettled : Ending → Bool → Option (List ℕ) → Option (List ℕ) → ℕ → Type 0
 IsSettled (Ran o) json old new status = ((status ≡ status_of o) × Appends old new (printed json o)) ⊎ (status ≡ 3)
 IsSettled (Failed (fault.Trace source f)) json old new status = (status ≡ status_of_kind f.kind) × (new ≡ old)

@@ -5,9 +5,9 @@ use Rattle.clap.specs.Words.{Text}
 use Rattle.rv_trace.specs.Source.{Stream}
 use Rattle.rv_run.specs.Sources.{IsTrueOf, IsFaultAmong}
 use Rattle.rv_run.specs.declared.fault.RunFault.TheVariants as fault
-use Rattle.rv_words.specs.Answers.{AnswersTo}
-use Rattle.rv_words.specs.declared.request.Asked.{Asked}
-use Rattle.rv_words.specs.declared.request.WordsFault.TheVariants as words
+use Rattle.rv_cli.specs.Answers.{AnswersTo}
+use Rattle.rv_cli.specs.declared.request.Asked.{Asked}
+use Rattle.rv_cli.specs.declared.request.WordsFault.TheVariants as words
 use Rattle.rvmon.specs.declared.ending.Ending.{Ending}
 use Rattle.rvmon.specs.declared.ending.Ending.TheVariants.{Ran, Failed, Words, NotText, NotOpened}
 
@@ -40,8 +40,8 @@ abbrev pub sources_of : {X : Type 0} → List X → ℕ
 sources_of [] = 1
 sources_of (x ∷ xs) = suc (length xs)
 
--- the ending of a request: a file does not open, the sources have no outcome, or this is theirs; its numbers are never
--- out of range
+-- the ending of a request: a file does not open, the sources have no outcome, or this is theirs;
+-- its numbers are never out of range
 abbrev pub EndsAsked : Asked → Ending → Type 0
 EndsAsked asked (Ran o) =
     (streams : List (Option Stream)) × (length streams ≡ sources_of asked.files.items) × IsTrueOf asked.model streams o

@@ -4,10 +4,10 @@ ghost use Rattle.std.specs.Io.KnownBytes.{Appends};
 ghost use Rattle.rvmon.specs.Endings.{IsSettled, printed, status_of, status_of_kind};
 
 use clap::Error as ParseError;
+use rv_cli::WordsFault;
 use rv_report::{Outcome, ReportFault, report, report_json_line};
 use rv_run::RunFault;
 use rv_trace::{FaultKind, TraceFault};
-use rv_words::WordsFault;
 use std::alloc::Global;
 use std::io::Write;
 
@@ -37,9 +37,11 @@ const WRONG_INPUT: u8 = 2;
 /// Reading, writing or memory failed.
 const FAILED: u8 = 3;
 
-/// Writes the report or the help to `out`, or a line on what went wrong to `errors`, and gives the exit status.
+/// Writes the report or the help to `out`, or a line on what went wrong to `errors`, and gives the
+/// exit status.
 ///
-/// A failed write to `errors` changes nothing of the status. A report that cannot be written is told to `errors`.
+/// A failed write to `errors` changes nothing of the status. A report that cannot be written is
+/// told to `errors`.
 pub fn settle<O: Write, E: Write>(
     alloc: Global,
     out: &mut O,

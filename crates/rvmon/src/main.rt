@@ -5,14 +5,14 @@
 //! - [`ending`]: what is printed, and the exit status.
 //! - `specs/`: which ending comes of what, and what each ending prints.
 //!
-//! It stands on `rv_words` for its words, on `rv_pipe` for sources that may be silent, on `rv_run` for the
-//! judgement, on `rv_report` for the reports, on the crates whose types these name, and on the kit's `clap` and
-//! `either`. Its one contract: each ending is of the step that it names, and a report is that of an outcome of the
-//! sources.
+//! It stands on `rv_cli` for its words, on `rv_pipe` for sources that may be silent, on `rv_run`
+//! for the judgement, on `rv_report` for the reports, on the crates whose types these name, and on
+//! the kit's `clap` and `either`. Its one contract: each ending is of the step that it names, and a
+//! report is that of an outcome of the sources.
 #![tactic(auto)]
 
 ghost use Rattle.clap.specs.Walk.{texts};
-ghost use Rattle.rv_words.specs.Asked.{IsInRange};
+ghost use Rattle.rv_cli.specs.Asked.{IsInRange};
 ghost use Rattle.rvmon.specs.Starting.{EndsAsked, EndsBy, IsEnd};
 
 mod ending;
@@ -23,17 +23,18 @@ mod words;
 
 use ending::{Ending, settle};
 use opening::{Opened, first_unopened, open_all};
+use rv_cli::{Asked, asked};
 use rv_pipe::Bell;
 use rv_run::{RunFault, Settings, run_with_bell};
-use rv_words::{Asked, asked};
 use std::io;
 use std::process::ExitCode;
 use std::sync::{Arc, Wait};
 use std::thread::Threads;
 use words::{texts_of, words_of};
 
-/// What comes of a request. The sources are judged in threads of the second handle. A source that may be silent is read
-/// in a thread that is left behind where the others decide, and so it ends with the program.
+/// What comes of a request. The sources are judged in threads of the second handle. A source that
+/// may be silent is read in a thread that is left behind where the others decide, and so it ends
+/// with the program.
 fn answer<RT: Threads + Wait + Sync + Copy + Send + 'static>(
     rt: &HostRuntime,
     threads: &RT,

@@ -52,8 +52,8 @@ impl<RT: Wait + Copy> Opened<RT> {
     }
 }
 
-/// Reads the file of this name in a thread that nobody waits for. It is opened there too, since a FIFO opens only once
-/// its writer has come.
+/// Reads the file of this name in a thread that nobody waits for. It is opened there too, since a
+/// FIFO opens only once its writer has come.
 fn pump_file<RT: Threads + Wait + Copy + Send + 'static>(
     rt: HostRuntime,
     threads: &RT,
@@ -82,7 +82,8 @@ fn pump_stdin<RT: Threads + Wait + Copy + Send + 'static>(
     Ok(())
 }
 
-/// The source of this number, read by a thread of its own: the file of the name, or standard input where there is none.
+/// The source of this number, read by a thread of its own: the file of the name, or standard input
+/// where there is none.
 fn piped<RT: Threads + Wait + Copy + Send + 'static>(
     rt: &HostRuntime,
     threads: &RT,
@@ -129,7 +130,8 @@ fn not_opened(rt: &HostRuntime, name: &String) -> Ending
     }
 }
 
-/// The source of this number, of the file of this name. A file whose bytes are all there is read where it is used.
+/// The source of this number, of the file of this name. A file whose bytes are all there is read
+/// where it is used.
 fn open<RT: Threads + Wait + Copy + Send + 'static>(
     rt: &HostRuntime,
     threads: &RT,
@@ -157,7 +159,8 @@ fn open<RT: Threads + Wait + Copy + Send + 'static>(
     }
 }
 
-/// The files, in order; standard input where there is none. Nobody waits for a file that is not there yet.
+/// The files, in order; standard input where there is none. Nobody waits for a file that is not
+/// there yet.
 pub fn open_all<RT: Threads + Wait + Copy + Send + 'static>(
     rt: &HostRuntime,
     threads: &RT,

@@ -1,9 +1,9 @@
 //! What is printed, and with which status.
 use crate::ending::{Ending, settle};
+use rv_cli::{WordsFault, asked};
 use rv_event::MemoryModel;
 use rv_run::{RunFault, Settings, run};
 use rv_trace::{FaultKind, TraceFault};
-use rv_words::{WordsFault, asked};
 use std::alloc::Global;
 use std::io;
 use std::io::Write;
@@ -116,7 +116,8 @@ fn outcomes_are_reported_as_json(rt: HostRuntime) {
         ),
         (
             STALE_LOAD,
-            "{\"after\":1,\"certificate\":{\"stale\":{\"load\":\"h0:1\",\"store\":\"h0:0\"}},\"event\":\"h0:1\",\"outcome\":\"forbidden\"}\n",
+            "{\"after\":1,\"certificate\":{\"stale\":{\"load\":\"h0:1\",\"store\":\"h0:0\"}},\
+             \"event\":\"h0:1\",\"outcome\":\"forbidden\"}\n",
             1,
         ),
         (

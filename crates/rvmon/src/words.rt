@@ -4,7 +4,7 @@ ghost use Rattle.clap.specs.Walk.{texts};
 ghost use Rattle.rvmon.specs.Starting.{IsWordless};
 
 use crate::ending::Ending;
-use rv_words::WordsFault;
+use rv_cli::WordsFault;
 use std::env;
 use std::io::ErrorKind;
 

@@ -85,8 +85,8 @@ fn trace_of(rt: &impl Abort, alloc: Global) -> String {
 /// How many reads the header takes, as the CSV reader looks for a byte order mark first.
 const HEADER_READS: u64 = 2;
 
-/// Feeds the source to a carrier through a gate that is told after so many reads, and is stopped after so many. It is
-/// left with so many events, after a read for each.
+/// Feeds the source to a carrier through a gate that is told after so many reads, and is stopped
+/// after so many. It is left with so many events, after a read for each.
 fn leave<RT: Wait + Abort, C: Carrier + Drop>(
     rt: &RT,
     alloc: Global,

@@ -14,7 +14,8 @@ use std::{io, thread};
 /// How many turns a reader waits for the other.
 const TURNS: u64 = 100_000_000;
 
-/// A source of a header and rows, a byte a call, whose first read waits until the other's has begun.
+/// A source of a header and rows, a byte a call, whose first read waits until the other's has
+/// begun.
 #[derive(Drop)]
 struct Meeting<'a> {
     header: &'static [u8],

@@ -1,4 +1,4 @@
-//! Worked traces, a source for each hart, and what reads them.
+//! LitmusTest traces, a source for each hart, and what reads them.
 use rv_event::{Entry, MemoryModel};
 use rv_run::{Outcome, RunFault, Settings, run, run_over};
 use rv_slots::LockedSlots;
@@ -20,7 +20,7 @@ pub(super) enum Class {
 }
 
 /// The rows of two harts, and the class of their outcome under RVWMO.
-pub(super) struct Worked {
+pub(super) struct LitmusTest {
     pub name: &'static str,
     pub harts: [&'static str; 2],
     pub class: Class,
@@ -38,19 +38,19 @@ pub(super) const FENCED_STORE_BUFFERING: [&str; 2] = [
     "1,0,S,1,,1,,\n1,1,F,,,,rw-rw,\n1,2,L,0,0,,,\n",
 ];
 
-/// The worked traces.
-const WORKED: &[Worked] = &[
-    Worked {
+/// The litmus tests.
+const TESTS: &[LitmusTest] = &[
+    LitmusTest {
         name: "store buffering",
         harts: STORE_BUFFERING,
         class: Class::Allowed,
     },
-    Worked {
+    LitmusTest {
         name: "store buffering with fences",
         harts: FENCED_STORE_BUFFERING,
         class: Class::Forbidden,
     },
-    Worked {
+    LitmusTest {
         name: "store buffering with FENCE.TSO",
         harts: [
             "0,0,S,0,,1,,\n0,1,FT,,,,,\n0,2,L,1,0,,,\n",
@@ -58,7 +58,7 @@ const WORKED: &[Worked] = &[
         ],
         class: Class::Allowed,
     },
-    Worked {
+    LitmusTest {
         name: "message passing with a fence and an address",
         harts: [
             "0,0,S,0,,1,,\n0,1,F,,,,w-w,\n0,2,S,1,,1,,\n",
@@ -66,7 +66,7 @@ const WORKED: &[Worked] = &[
         ],
         class: Class::Forbidden,
     },
-    Worked {
+    LitmusTest {
         name: "message passing with a fence alone",
         harts: [
             "0,0,S,0,,1,,\n0,1,F,,,,w-w,\n0,2,S,1,,1,,\n",
@@ -74,7 +74,7 @@ const WORKED: &[Worked] = &[
         ],
         class: Class::Allowed,
     },
-    Worked {
+    LitmusTest {
         name: "load buffering",
         harts: [
             "0,0,L,0,1,,,\n0,1,S,1,,1,,\n",
@@ -82,12 +82,12 @@ const WORKED: &[Worked] = &[
         ],
         class: Class::Allowed,
     },
-    Worked {
+    LitmusTest {
         name: "the loads of load buffering alone",
         harts: ["0,0,L,0,1,,,\n", "1,0,L,1,1,,,\n"],
         class: Class::Allowed,
     },
-    Worked {
+    LitmusTest {
         name: "load buffering with data",
         harts: [
             "0,0,L,0,1,,,\n0,1,S,1,,1,,d0\n",
@@ -95,22 +95,22 @@ const WORKED: &[Worked] = &[
         ],
         class: Class::Forbidden,
     },
-    Worked {
+    LitmusTest {
         name: "loads of one word in the wrong order",
         harts: ["0,0,S,0,,1,,\n", "1,0,L,0,1,,,\n1,1,L,0,0,,,\n"],
         class: Class::Forbidden,
     },
-    Worked {
+    LitmusTest {
         name: "a stale load",
         harts: ["0,0,S,0,,1,,\n0,1,L,0,0,,,\n", ""],
         class: Class::Forbidden,
     },
-    Worked {
+    LitmusTest {
         name: "a store between a pair",
         harts: ["0,0,LR,0,0,,,\n0,1,SC,0,,2,,\n", "1,0,S,0,,1,,\n"],
         class: Class::Forbidden,
     },
-    Worked {
+    LitmusTest {
         name: "a pair over two words",
         harts: [
             "0,0,S,0,,1,,\n0,1,LR,0,1,,,\n0,2,SC,1,,1,,\n",
@@ -118,17 +118,17 @@ const WORKED: &[Worked] = &[
         ],
         class: Class::Forbidden,
     },
-    Worked {
+    LitmusTest {
         name: "a store between an AMO's halves",
         harts: ["0,0,AMO,0,0,2,,\n", "1,0,S,0,,1,,\n"],
         class: Class::Forbidden,
     },
-    Worked {
+    LitmusTest {
         name: "an AMO that reads its own version",
         harts: ["0,0,AMO,0,1,1,,\n", ""],
         class: Class::Forbidden,
     },
-    Worked {
+    LitmusTest {
         name: "forwarding",
         harts: [
             "0,0,S,0,,1,,\n0,1,L,0,1,,,\n0,2,L,1,0,,,a1\n",
@@ -136,7 +136,7 @@ const WORKED: &[Worked] = &[
         ],
         class: Class::Allowed,
     },
-    Worked {
+    LitmusTest {
         name: "no forwarding from an SC",
         harts: [
             "0,0,LR,0,0,,,\n0,1,SC,0,,1,,\n0,2,L,0,1,,,\n0,3,L,1,0,,,a2\n",
@@ -144,7 +144,7 @@ const WORKED: &[Worked] = &[
         ],
         class: Class::Forbidden,
     },
-    Worked {
+    LitmusTest {
         name: "no forwarding from an AMO",
         harts: [
             "0,0,AMO,0,0,1,,\n0,1,L,0,1,,,\n0,2,L,1,0,,,a1\n",
@@ -152,7 +152,7 @@ const WORKED: &[Worked] = &[
         ],
         class: Class::Forbidden,
     },
-    Worked {
+    LitmusTest {
         name: "a load of what depends on a load",
         harts: [
             "0,0,L,0,1,,,\n0,1,S,1,,1,,d0\n0,2,L,1,1,,,\n0,3,S,2,,1,,d2\n",
@@ -160,7 +160,7 @@ const WORKED: &[Worked] = &[
         ],
         class: Class::Forbidden,
     },
-    Worked {
+    LitmusTest {
         name: "a store after a dependent address",
         harts: [
             "0,0,L,0,1,,,\n0,1,L,2,0,,,a0\n0,2,S,1,,1,,\n",
@@ -168,7 +168,7 @@ const WORKED: &[Worked] = &[
         ],
         class: Class::Forbidden,
     },
-    Worked {
+    LitmusTest {
         name: "a store after a branch",
         harts: [
             "0,0,L,0,1,,,\n0,1,BR,,,,,c0\n0,2,S,1,,1,,\n",
@@ -176,7 +176,7 @@ const WORKED: &[Worked] = &[
         ],
         class: Class::Forbidden,
     },
-    Worked {
+    LitmusTest {
         name: "release and acquire",
         harts: [
             "0,0,S,0,,1,,\n0,1,AMO,1,0,1,R,\n",
@@ -184,7 +184,7 @@ const WORKED: &[Worked] = &[
         ],
         class: Class::Forbidden,
     },
-    Worked {
+    LitmusTest {
         name: "an SC without reservation",
         harts: [
             "0,0,LR,0,0,,,\n0,1,SF,0,,,,\n0,2,SC,0,,1,,\n",
@@ -192,16 +192,17 @@ const WORKED: &[Worked] = &[
         ],
         class: Class::Malformed,
     },
-    Worked {
+    LitmusTest {
         name: "a version that is taken",
         harts: ["0,0,S,0,,3,,\n", "1,0,S,0,,3,,\n"],
         class: Class::Malformed,
     },
 ];
 
-/// The worked traces. What they are is told to no proof, as a table of this size is dear in each function that names it.
-pub(super) fn worked_traces() -> &'static [Worked] {
-    WORKED
+/// The litmus tests. What they are is told to no proof, as a table of this size is dear in each
+/// function that names it.
+pub(super) fn litmus_tests() -> &'static [LitmusTest] {
+    TESTS
 }
 
 /// The class of the outcome.

@@ -1,7 +1,7 @@
 //! Whole runs in threads.
 use super::rows::{
-    Class, FENCED_STORE_BUFFERING, HEADER, STORE_BUFFERING, Worked, class_of, read_rows, run_rows,
-    run_rows_locked, worked_traces,
+    Class, FENCED_STORE_BUFFERING, HEADER, LitmusTest, STORE_BUFFERING, class_of, litmus_tests,
+    read_rows, run_rows, run_rows_locked,
 };
 use rv_cert::check;
 use rv_event::{Fault, Id, MemoryModel};
@@ -26,24 +26,24 @@ fn replayed_class(rt: &impl Abort, alloc: Global, harts: &[&str]) -> Class {
     class
 }
 
-/// Wants an outcome of the class that is worked out.
-fn assert_class(rt: &impl Abort, worked: &Worked, ran: &Result<Outcome, RunFault>) {
+/// Wants an outcome of the class that the test says.
+fn assert_class(rt: &impl Abort, test: &LitmusTest, ran: &Result<Outcome, RunFault>) {
     match ran {
-        Ok(outcome) => assert!(rt; class_of(outcome) == worked.class, "{}", worked.name),
-        Err(fault) => panic!(rt; "{}: {fault}", worked.name),
+        Ok(outcome) => assert!(rt; class_of(outcome) == test.class, "{}", test.name),
+        Err(fault) => panic!(rt; "{}: {fault}", test.name),
     }
 }
 
 #[test]
 fn same_class(rt: HostRuntime) {
-    for worked in worked_traces() {
-        assert!(rt; replayed_class(&rt, rt.alloc(), &worked.harts) == worked.class);
+    for test in litmus_tests() {
+        assert!(rt; replayed_class(&rt, rt.alloc(), &test.harts) == test.class);
         for (workers, slots) in [(1, 2), (8, 16), (24, 16)] {
-            let table = run_rows(&rt, rt.alloc(), &worked.harts, workers, slots);
-            assert_class(&rt, worked, &table);
+            let table = run_rows(&rt, rt.alloc(), &test.harts, workers, slots);
+            assert_class(&rt, test, &table);
             drop(table);
-            let locked = run_rows_locked(&rt, rt.alloc(), &worked.harts, workers, slots);
-            assert_class(&rt, worked, &locked);
+            let locked = run_rows_locked(&rt, rt.alloc(), &test.harts, workers, slots);
+            assert_class(&rt, test, &locked);
             drop(locked);
         }
     }
@@ -51,10 +51,10 @@ fn same_class(rt: HostRuntime) {
 
 #[test]
 fn ample_memory(rt: HostRuntime) {
-    for worked in worked_traces() {
+    for test in litmus_tests() {
         for _ in 0..3 {
-            let ran = run_rows(&rt, rt.alloc(), &worked.harts, 4, 8);
-            assert!(rt; ran.is_ok(), "{}", worked.name);
+            let ran = run_rows(&rt, rt.alloc(), &test.harts, 4, 8);
+            assert!(rt; ran.is_ok(), "{}", test.name);
             drop(ran);
         }
     }

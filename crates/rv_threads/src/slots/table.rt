@@ -1,4 +1,4 @@
-//! Worked rows of the table, two threads at one slot, and a carrier over a table.
+//! LitmusTest rows of the table, two threads at one slot, and a carrier over a table.
 ghost use Rattle.std.specs.Prelude.{◌≡◌, ◌<◌, ℕ, All};
 
 use rv_chunk::{Chunk, pack};
@@ -22,8 +22,8 @@ fn open(rt: &impl Abort, alloc: Global, count: usize) -> (Slots, Vec<Seat>)
     }
 }
 
-/// The seat of this number, where those of higher numbers may be let go. The seats that are left are those of lower
-/// numbers, in order.
+/// The seat of this number, where those of higher numbers may be let go. The seats that are left
+/// are those of lower numbers, in order.
 fn take_seat(rt: &impl Abort, slots: &Slots, seats: &mut Vec<Seat>, number: usize) -> Seat
     requires { All (λ s. s.place.table_id ≡ slots.now.table.shared.table_id) seats.old.items }
     ensures seat { result.place.table_id ≡ slots.now.table.shared.table_id }

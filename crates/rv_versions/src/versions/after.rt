@@ -11,8 +11,8 @@ use crate::reservation::Reservation;
 use rv_event::{Event, Link, NoMemory, Reason};
 
 impl Versions {
-    /// All links out of the event. The accesses to the event's word are given; so they are to each function here that
-    /// takes accesses.
+    /// All links out of the event. The accesses to the event's word are given; so they are to each
+    /// function here that takes accesses.
     ///
     /// # Errors
     /// `NoMemory` where the list could not be had; so it is of each function here.
@@ -114,7 +114,8 @@ impl Versions {
         append_links(links, scs, Reason::AtomicIn)
     }
 
-    /// Adds the link to the other harts' store of the lowest version above what the event's LR returned.
+    /// Adds the link to the other harts' store of the lowest version above what the event's LR
+    /// returned.
     fn atomic_out_after(
         &self,
         accesses: &Accesses,

@@ -14,8 +14,8 @@ use crate::reservation::Reservation;
 use rv_event::{Event, Link, NoMemory, Reason};
 
 impl Versions {
-    /// Adds all links into the event, behind those that are there. The accesses to the event's word are given; so they
-    /// are to each function here that takes accesses.
+    /// Adds all links into the event, behind those that are there. The accesses to the event's word
+    /// are given; so they are to each function here that takes accesses.
     ///
     /// # Errors
     /// `NoMemory` where the list could not grow; so it is of each function here.
@@ -39,8 +39,8 @@ impl Versions {
         Ok(links)
     }
 
-    /// Adds the link from the store of the next lower version, and says that version. Where there is no such store, it
-    /// says version 0.
+    /// Adds the link from the store of the next lower version, and says that version. Where there
+    /// is no such store, it says version 0.
     fn coherence_before(
         &self,
         accesses: &Accesses,
@@ -89,8 +89,8 @@ impl Versions {
         Ok(())
     }
 
-    /// Adds the links from the loads of a lower version, but for those that another store stands between. The version
-    /// of the store of the next lower version is given.
+    /// Adds the links from the loads of a lower version, but for those that another store stands
+    /// between. The version of the store of the next lower version is given.
     fn from_read_before(
         &self,
         accesses: &Accesses,
@@ -136,8 +136,8 @@ impl Versions {
         Ok(())
     }
 
-    /// Adds the links from the SCs of other harts whose LRs returned a lower version, but for those that a store of
-    /// another hart stands between.
+    /// Adds the links from the SCs of other harts whose LRs returned a lower version, but for those
+    /// that a store of another hart stands between.
     fn atomic_out_before(
         &self,
         accesses: &Accesses,
@@ -148,7 +148,10 @@ impl Versions {
         ensures { OnOk result
             (AtomicOutsBefore self.now event.now links.old.items links.new.items) }
     {
-        if !event.is_store() || !accesses.has_pair_below(event.wrote) {
+        if !event.is_store() {
+            return Ok(());
+        }
+        if !accesses.has_pair_below(event.wrote) {
             return Ok(());
         }
         let low = self.unparted_from(accesses, event);
@@ -156,8 +159,9 @@ impl Versions {
         append_foreign(links, scs, event.id.hart, Reason::AtomicOut)
     }
 
-    /// A version below which each SC of another hart than the event's is parted from the event: a store of another hart
-    /// than the SC's stands between what the SC's LR returned and what the event writes.
+    /// A version below which each SC of another hart than the event's is parted from the event: a
+    /// store of another hart than the SC's stands between what the SC's LR returned and what the
+    /// event writes.
     fn unparted_from(&self, accesses: &Accesses, event: &Event) -> u32
         requires { AreOfWord self.now event.now.word accesses.now }
         ensures at_most { result ≤ event.now.wrote }

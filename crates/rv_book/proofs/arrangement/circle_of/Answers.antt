@@ -4,7 +4,7 @@ use Rattle.rv_edges.specs.Kept.{grown}
 use Rattle.rv_cert.specs.Certificates.{IsClosedWalk}
 use Rattle.rv_event.specs.declared.memory_model.MemoryModel.{MemoryModel}
 use Rattle.rv_book.specs.Arranged.{EachLeads, at}
-use Rattle.rv_book.proofs.Placing.{own_circle, leads_log}
+use Rattle.rv_book.proofs.CallValues.{own_circle, leads_log}
 use Rattle.rv_book.proofs.arrangement.circle_of.Goals as goal
 
 pub close-requires-clause-leads : goal.close-requires-clause-leads

@@ -2,7 +2,7 @@ use Rattle.std.proofs.Common.{arith, ◌∙◌, subst}
 use Rattle.std.proofs.lemmas.List.{take_all}
 use Rattle.rv_event.specs.Log.{events}
 use Rattle.rv_cert.specs.Certificates.{IsWalk}
-use Rattle.rv_book.proofs.Walking.{walk_step, closed_walk, end-past}
+use Rattle.rv_book.proofs.IdWalks.{walk_step, closed_walk, end-past}
 use Rattle.rv_book.proofs.closing.close.Goals as goal
 
 pub reason_of-reason-requires : goal.reason_of-reason-requires

@@ -1,4 +1,4 @@
-use Rattle.rv_book.proofs.Continuing.{continues}
+use Rattle.rv_book.proofs.SourcePrefixes.{continues}
 use Rattle.rv_book.proofs.laws.chunks_continue.Goals as goal
 
 pub returns : goal.returns

@@ -3,7 +3,7 @@ use Rattle.std.proofs.lemmas.List.{take_more}
 use Rattle.std.proofs.lemmas.List.Elements.{Contains-get_or}
 use Rattle.rv_event.specs.declared.reason.Link.{Link}
 use Rattle.rv_event.specs.declared.reason.Reason.TheVariants.{Preserved}
-use Rattle.rv_book.proofs.Noding.{nodes_more}
+use Rattle.rv_book.proofs.NodeLists.{nodes_more}
 use Rattle.rv_book.proofs.nodes.find_nodes.Goals as goal
 
 pub node_of-requires-clause-has : goal.node_of-requires-clause-has

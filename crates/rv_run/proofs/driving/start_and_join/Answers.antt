@@ -4,8 +4,8 @@ use Rattle.rv_trace.specs.Source.{source_says}
 use Rattle.rv_run.specs.Feeds.{IsFedOf}
 use Rattle.rv_run.proofs.driving.start_and_join.Goals as goal
 
--- What a joined thread gave keeps the promise of its handle, which was made of its reader, or of the carrier and the
--- cell.
+-- What a joined thread gave keeps the promise of its handle, which was made of its reader, or of
+-- the carrier and the cell.
 pub returns-clause-fed : goal.returns-clause-fed
 returns-clause-fed g c = (
   omega (arith, c.in_ok-fed.ensures.len, c.in_ok-feeders.ensures.len, c.in_ok-fed.fed.ok.0, c.args.readers.ok.0),

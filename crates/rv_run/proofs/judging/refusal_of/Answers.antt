@@ -1,7 +1,7 @@
 use Rattle.std.proofs.Common.{◌≡◌, ap, sym, ◌∙◌, rules}
 use Rattle.rv_cert.specs.Verdicts.{model_of}
 use Rattle.rv_run.specs.Comparisons.{IsBegun}
-use Rattle.rv_run.proofs.Refused.{forbidden-agrees, malformed-agrees}
+use Rattle.rv_run.proofs.RefusalOutcomes.{forbidden-agrees, malformed-agrees}
 use Rattle.rv_run.proofs.judging.refusal_of.Goals.{in-Forbidden, in-Malformed}
 use Rattle.rv_run.proofs.judging.refusal_of.Goals as goal
 

@@ -1,4 +1,4 @@
-use Rattle.rv_run.proofs.Exact.{exactly_allowed}
+use Rattle.rv_run.proofs.InconsistentRefusals.{exactly_allowed}
 use Rattle.rv_run.proofs.laws.allowed_where_consistent.Goals as goal
 
 pub returns : goal.returns

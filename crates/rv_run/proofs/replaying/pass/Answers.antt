@@ -2,7 +2,8 @@ use Rattle.std.proofs.Common.{List, length, refl, ap, sym, ◌∙◌, arith}
 use Rattle.std.proofs.lemmas.Bool.{false≢true}
 use Rattle.rv_event.specs.declared.event.Entry.{Entry}
 use Rattle.rv_book.specs.Counts.{operations_of, waiting_of}
-use Rattle.rv_run.proofs.Passing.{replaying-begin, replaying-turn, replaying-refused, replaying-end}
+use Rattle.rv_run.proofs.Passes.{replaying-begin, replaying-turn}
+use Rattle.rv_run.proofs.Passes.{replaying-malformed, replaying-forbidden, replaying-end}
 use Rattle.rv_run.proofs.replaying.pass.Goals as goal
 
 pub loop-entry-init : goal.loop-entry-init
@@ -11,22 +12,26 @@ loop-entry-init c =
     c.model-model.ensures.lawful
 
 pub unreachable-requires : goal.unreachable-requires
-unreachable-requires c = absurd (false≢true
-    (sym c.loop-entry.invariant.going ∙ (rw c.in-Stopped.is at c.offer.ensures).0))
+unreachable-requires c =
+    absurd (false≢true (sym c.loop-entry.invariant.going ∙ c.offer.ensures.stopped.0 c.in-Stopped.is))
 
 pub returns-in-Malformed : goal.returns-in-Malformed
 returns-in-Malformed c =
-    replaying-refused c.args.book.now.model c.args.entries.now c.loop-entry.entry-index c.loop-entry.book
-    c.offer.new.self c.entry-item.result c.offer.result
-    c.in-Malformed.verdict c.from.result c.loop-entry.invariant (omega arith) c.entry-item.is c.offer.ensures
-    c.in-Malformed.is c.from.ensures
+    replaying-malformed c.args.book.now.model c.args.entries.now c.loop-entry.entry-index c.loop-entry.book
+    c.entry-item.result c.in-Malformed.malformed c.loop-entry.invariant (omega arith) c.entry-item.is
+    (rw c.in-Malformed.is at c.offer.ensures.malformed)
+
+pub returns-in-Forbidden : goal.returns-in-Forbidden
+returns-in-Forbidden c =
+    replaying-forbidden c.args.book.now.model c.args.entries.now c.loop-entry.entry-index c.loop-entry.book
+    c.entry-item.result c.in-Forbidden.forbidden c.loop-entry.invariant (omega arith) c.entry-item.is
+    (rw c.in-Forbidden.is at c.offer.ensures.forbidden)
 
 pub loop-entry-preserved : goal.loop-entry-preserved
 loop-entry-preserved c =
-    let told = rw c.in-Accepted.is at c.offer.ensures in
     replaying-turn c.args.book.now.model c.args.entries.now c.loop-entry.entry-index c.loop-entry.book c.offer.new.self
     c.entry-item.result c.loop-entry.invariant (omega arith)
-    c.entry-item.is told.1 told.2
+    c.entry-item.is (rw c.in-Accepted.is at c.offer.ensures.accepted)
 
 pub returns : goal.returns
 returns c =

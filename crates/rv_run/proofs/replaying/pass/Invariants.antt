@@ -1,4 +1,4 @@
-use Rattle.rv_run.proofs.Passing.{IsReplaying}
+use Rattle.rv_run.proofs.Passes.{IsReplaying}
 use Rattle.rv_run.proofs.replaying.pass.Given as goal
 
 abbrev pub invariant-loop-entry : goal.invariant-loop-entry

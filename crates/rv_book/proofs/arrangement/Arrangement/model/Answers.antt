@@ -3,7 +3,7 @@ use Rattle.std.proofs.Common.{subst}
 use Rattle.rv_event.specs.Orders.{Lawful}
 use Rattle.rv_edges.specs.Kept.{happened}
 use Rattle.rv_book.specs.Arranged.{Arranged, order_of}
-use Rattle.rv_book.proofs.Forward.{lawful}
+use Rattle.rv_book.proofs.ForwardOrders.{lawful}
 use Rattle.rv_book.proofs.arrangement.Arrangement.model.Goals as goal
 
 pub returns-clause-lawful : goal.returns-clause-lawful

@@ -3,7 +3,7 @@ use Rattle.std.proofs.Common.{◌≡◌, ◌<◌, ℕ, List, IfOk, length, map, 
 use Rattle.std.proofs.lemmas.List.{get_or_default}
 use Rattle.rv_event.specs.declared.event.Id.{Id}
 use Rattle.rv_book.specs.Arranged.{Arranged, at, order_of}
-use Rattle.rv_book.proofs.Ordering.{order_is}
+use Rattle.rv_book.proofs.RankOrders.{order_is}
 use Rattle.rv_book.proofs.arrangement.Arrangement.order.Goals as goal
 
 pub ids_at-requires : goal.ids_at-requires

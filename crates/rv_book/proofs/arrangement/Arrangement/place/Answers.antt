@@ -1,225 +1,91 @@
-use Rattle.std.proofs.Common.{◌≡◌, ℕ, List, [], ◌∷◌, ◌++◌, length, map, sym, ap, ◌∙◌, subst, Contains}
-use Rattle.rv_event.specs.Edges.{IsStale}
+use Rattle.std.proofs.Common.{◌≡◌, List, [], ◌∷◌, ◌++◌, length, sym, ap, ◌∙◌, subst}
 use Rattle.rv_event.specs.declared.event.Id.{Id}
-use Rattle.rv_event.specs.declared.reason.Link.{Link}
-use Rattle.rv_edges.specs.Kept.{Past, Kept, grown}
-use Rattle.rv_edges.specs.Histories.{kept_of, Joined, HasOwnEdge}
-use Rattle.rv_rank.specs.Graph.{IsGrown, IsCircle}
-use Rattle.rv_book.specs.Arranged.{Arranged, IsArranged, EachLeads, at}
-use Rattle.rv_event.specs.declared.memory_model.MemoryModel.{MemoryModel}
+use Rattle.rv_edges.specs.Kept.{Past, Kept}
+use Rattle.rv_edges.specs.Histories.{kept_of}
+use Rattle.rv_book.specs.Adding.{IsFit}
+use Rattle.rv_book.specs.Arranged.{Arranged, IsArranged}
 use Rattle.rv_book.specs.Nodes.{AreNodes, HasNode}
-use Rattle.rv_book.proofs.Placing.{nodes_low, nodes_at, leads_at, once_at, low_at}
-use Rattle.rv_book.proofs.Grown.{before_node, after_node, arranged_node}
-use Rattle.rv_book.proofs.Circling.{path_low, leads, once}
+use Rattle.rv_book.proofs.CallValues.{nodes_low, circle_between, grown_between, circle_at, ShowsCircle}
+use Rattle.rv_book.proofs.GrownHistories.{before_node, after_node, arranged_node}
+use Rattle.rv_book.proofs.Circles.{circle_shown}
 use Rattle.rv_book.proofs.arrangement.Arrangement.place.Goals as goal
 
-pub find_nodes-requires-clause-has : goal.find_nodes-requires-clause-has
-find_nodes-requires-clause-has c l q =
-    let v : Arranged = record {
-      model = c.self.inside.history.model;
-      history = c.self.inside.history.kept;
-      edges = c.self.inside.ranks.edges;
-      ranks = c.self.inside.ranks.ranks;
-      ids = c.self.inside.ids.items;
-    } in
-    let k : Kept = kept_of c.args.event.now c.args.around.now in
-    let joined : Joined v.model v.history k = subst (λ (w : Arranged). Joined w.model w.history k) (sym c.self.view_is)
-    (record { sound = c.requires.sound; linked = c.requires.linked }) in
-    let none_own : HasOwnEdge v.model v.history k.event → ⊥ =
-    subst (λ (w : Arranged). HasOwnEdge w.model w.history k.event → ⊥)
-    (sym c.self.view_is) c.requires.none_own in
-    let not_stale : (s : Id) → IsStale (grown v.history k.event) k.event.id s → ⊥ =
-    subst (λ (w : Arranged). (s : Id) → IsStale (grown w.history k.event) k.event.id s → ⊥)
-    (sym c.self.view_is) c.requires.not_stale in
-    subst (λ (ids : List Id). HasNode ids l.id) (sym (c.as_slice.ensures.value ∙ c.in_ok-reserve.ensures.items))
-    (before_node v c.self.invariant k joined none_own not_stale l
-    (subst (λ (ls : List Link). Contains ls l) c.as_slice-2.ensures q))
+pub find_ends-requires-clause-before : goal.find_ends-requires-clause-before
+find_ends-requires-clause-before c l listed =
+    let k = kept_of c.args.event.now c.args.around.now in
+    let fit = subst (λ (w : Arranged). IsFit w k) (sym c.self.view_is) c.requires.fit in
+    subst (λ (ids : List Id). HasNode ids l.id) (sym (c.as_slice-ids.ensures.value ∙ c.in_ok-reserve.ensures.items))
+    (before_node _ c.self.invariant k fit l listed)
 
-pub find_nodes-requires-2-clause-has : goal.find_nodes-requires-2-clause-has
-find_nodes-requires-2-clause-has c l q =
-    let v : Arranged = record {
-      model = c.self.inside.history.model;
-      history = c.self.inside.history.kept;
-      edges = c.self.inside.ranks.edges;
-      ranks = c.self.inside.ranks.ranks;
-      ids = c.self.inside.ids.items;
-    } in
-    let k : Kept = kept_of c.args.event.now c.args.around.now in
-    let joined : Joined v.model v.history k = subst (λ (w : Arranged). Joined w.model w.history k) (sym c.self.view_is)
-    (record { sound = c.requires.sound; linked = c.requires.linked }) in
-    let none_own : HasOwnEdge v.model v.history k.event → ⊥ =
-    subst (λ (w : Arranged). HasOwnEdge w.model w.history k.event → ⊥)
-    (sym c.self.view_is) c.requires.none_own in
-    let not_stale : (s : Id) → IsStale (grown v.history k.event) k.event.id s → ⊥ =
-    subst (λ (w : Arranged). (s : Id) → IsStale (grown w.history k.event) k.event.id s → ⊥)
-    (sym c.self.view_is) c.requires.not_stale in
-    subst (λ (ids : List Id). HasNode ids l.id) (sym (c.as_slice-3.ensures.value ∙ c.in_ok-reserve.ensures.items))
-    (after_node v c.self.invariant k joined none_own not_stale l
-    (subst (λ (ls : List Link). Contains ls l) c.as_slice-4.ensures q))
+pub find_ends-requires-clause-after : goal.find_ends-requires-clause-after
+find_ends-requires-clause-after c l listed =
+    let k = kept_of c.args.event.now c.args.around.now in
+    let fit = subst (λ (w : Arranged). IsFit w k) (sym c.self.view_is) c.requires.fit in
+    subst (λ (ids : List Id). HasNode ids l.id) (sym (c.as_slice-ids.ensures.value ∙ c.in_ok-reserve.ensures.items))
+    (after_node _ c.self.invariant k fit l listed)
 
 pub place-requires-clause-preds : goal.place-requires-clause-preds
 place-requires-clause-preds c =
-    nodes_low c.as_slice.result.now c.as_slice-2.result.now c.find_nodes.new.nodes.items c.as_slice-5.result.now
-    c.self.inside.ranks.ranks c.in_ok-find_nodes.ensures c.as_slice-5.ensures.value
-    (ap length (c.as_slice.ensures.value ∙ c.in_ok-reserve.ensures.items) ∙ c.self.invariant.long)
+    nodes_low c.as_slice-ids.result.now c.args.around.now.before c.find_ends.new.preds.items
+    c.as_slice-preds.result.now c.self.inside.ranks.ranks c.in_ok-find_ends.ensures.before
+    c.as_slice-preds.ensures.value
+    (ap length (c.as_slice-ids.ensures.value ∙ c.in_ok-reserve.ensures.items) ∙ c.self.invariant.long)
 
 pub place-requires-clause-succs : goal.place-requires-clause-succs
 place-requires-clause-succs c =
-    nodes_low c.as_slice-3.result.now c.as_slice-4.result.now c.find_nodes-2.new.nodes.items c.as_slice-6.result.now
-    c.self.inside.ranks.ranks c.in_ok-find_nodes-2.ensures c.as_slice-6.ensures.value
-    (ap length (c.as_slice-3.ensures.value ∙ c.in_ok-reserve.ensures.items) ∙ c.self.invariant.long)
+    nodes_low c.as_slice-ids.result.now c.args.around.now.after c.find_ends.new.succs.items
+    c.as_slice-succs.result.now c.self.inside.ranks.ranks c.in_ok-find_ends.ensures.after
+    c.as_slice-succs.ensures.value
+    (ap length (c.as_slice-ids.ensures.value ∙ c.in_ok-reserve.ensures.items) ∙ c.self.invariant.long)
+
+-- the path that the order keeper found shows a circle over the event
+shown : (c : goal.After-circle_of-arg-in-Err-Circle-1) →
+    ShowsCircle c.pop-in-Err-Circle.new.self.model c.pop-in-Err-Circle.new.self.kept c.as_slice-names.result.now
+    c.as_slice-nodes.result.now c.args.event.now
+shown c =
+    let k = kept_of c.args.event.now c.args.around.now in
+    let fit = subst (λ (w : Arranged). IsFit w k) (sym c.self.view_is) c.requires.fit in
+    let ids = c.as_slice-ids.ensures.value ∙ c.in_ok-reserve.ensures.items in
+    let found = c.in_ok-find_ends.ensures in
+    let preds = c.find_ends.new.preds.items in
+    let succs = c.find_ends.new.succs.items in
+    let path = c.in-Err-Circle.path.items in
+    let pushed = c.in_ok-push.ensures.pushed in
+    circle_at _ _ _ _ _ _ path _ k.event
+    (c.pop-in-Err-Circle.ensures.model ∙ ap (λ (w : Past). w.model) pushed)
+    (c.pop-in-Err-Circle.ensures.popped c.self.inside.history.kept k (ap (λ (w : Past). w.kept) pushed))
+    (c.as_slice-names.ensures.value ∙ c.in_ok-reserve.ensures.items) c.as_slice-nodes.ensures.value
+    (circle_shown _ c.self.invariant k fit preds succs
+    (subst (λ (x : List Id). AreNodes x k.before preds) ids found.before)
+    (subst (λ (x : List Id). AreNodes x k.after succs) ids found.after) path
+    (circle_between _ preds _ succs _ path c.as_slice-preds.ensures.value c.as_slice-succs.ensures.value
+    (rw c.in-Err-Circle.field-0-is at c.in-Err-Circle.ensures.refused)))
 
 pub circle_of-requires-clause-low : goal.circle_of-requires-clause-low
-circle_of-requires-clause-low c =
-    let v : Arranged = record {
-      model = c.self.inside.history.model;
-      history = c.self.inside.history.kept;
-      edges = c.self.inside.ranks.edges;
-      ranks = c.self.inside.ranks.ranks;
-      ids = c.self.inside.ids.items;
-    } in
-    let k : Kept = kept_of c.args.event.now c.args.around.now in
-    let joined : Joined v.model v.history k = subst (λ (w : Arranged). Joined w.model w.history k) (sym c.self.view_is)
-    (record { sound = c.requires.sound; linked = c.requires.linked }) in
-    let none_own : HasOwnEdge v.model v.history k.event → ⊥ =
-    subst (λ (w : Arranged). HasOwnEdge w.model w.history k.event → ⊥)
-    (sym c.self.view_is) c.requires.none_own in
-    let not_stale : (s : Id) → IsStale (grown v.history k.event) k.event.id s → ⊥ =
-    subst (λ (w : Arranged). (s : Id) → IsStale (grown w.history k.event) k.event.id s → ⊥)
-    (sym c.self.view_is) c.requires.not_stale in
-    let ins : AreNodes v.ids k.before c.find_nodes.new.nodes.items =
-    nodes_at v.ids c.as_slice.result.now k.before c.as_slice-2.result.now c.find_nodes.new.nodes.items
-    (c.as_slice.ensures.value ∙ c.in_ok-reserve.ensures.items) c.as_slice-2.ensures
-    c.in_ok-find_nodes.ensures in
-    let outs : AreNodes v.ids k.after c.find_nodes-2.new.nodes.items =
-    nodes_at v.ids c.as_slice-3.result.now k.after c.as_slice-4.result.now c.find_nodes-2.new.nodes.items
-    (c.as_slice-3.ensures.value ∙ c.in_ok-reserve.ensures.items) c.as_slice-4.ensures
-    c.in_ok-find_nodes-2.ensures in
-    let circle : IsCircle v.edges c.find_nodes.new.nodes.items c.find_nodes-2.new.nodes.items c.in-Err-Circle.path.items
-    = subst (λ (x : List ℕ). IsCircle v.edges x c.find_nodes-2.new.nodes.items c.in-Err-Circle.path.items)
-    c.as_slice-5.ensures.value (subst
-    (λ (x : List ℕ). IsCircle v.edges c.as_slice-5.result.now x c.in-Err-Circle.path.items)
-    c.as_slice-6.ensures.value (rw c.in-Err-Circle.field-0-is at c.in-Err-Circle.ensures.refused)) in
-    let ids_are = c.as_slice-in-Err-Circle.ensures.value ∙ c.in_ok-reserve.ensures.items in
-    let path_is = c.as_slice-in-Err-Circle-2.ensures.value in
-    low_at v.ids c.as_slice-in-Err-Circle.result.now c.in-Err-Circle.path.items c.as_slice-in-Err-Circle-2.result.now
-    ids_are path_is (path_low v c.self.invariant k joined none_own not_stale c.find_nodes.new.nodes.items
-    c.find_nodes-2.new.nodes.items ins outs c.in-Err-Circle.path.items circle)
+circle_of-requires-clause-low c = (shown c).low
 
 pub circle_of-requires-clause-leads : goal.circle_of-requires-clause-leads
-circle_of-requires-clause-leads c =
-    let v : Arranged = record {
-      model = c.self.inside.history.model;
-      history = c.self.inside.history.kept;
-      edges = c.self.inside.ranks.edges;
-      ranks = c.self.inside.ranks.ranks;
-      ids = c.self.inside.ids.items;
-    } in
-    let k : Kept = kept_of c.args.event.now c.args.around.now in
-    let joined : Joined v.model v.history k = subst (λ (w : Arranged). Joined w.model w.history k) (sym c.self.view_is)
-    (record { sound = c.requires.sound; linked = c.requires.linked }) in
-    let none_own : HasOwnEdge v.model v.history k.event → ⊥ =
-    subst (λ (w : Arranged). HasOwnEdge w.model w.history k.event → ⊥)
-    (sym c.self.view_is) c.requires.none_own in
-    let not_stale : (s : Id) → IsStale (grown v.history k.event) k.event.id s → ⊥ =
-    subst (λ (w : Arranged). (s : Id) → IsStale (grown w.history k.event) k.event.id s → ⊥)
-    (sym c.self.view_is) c.requires.not_stale in
-    let ins : AreNodes v.ids k.before c.find_nodes.new.nodes.items =
-    nodes_at v.ids c.as_slice.result.now k.before c.as_slice-2.result.now c.find_nodes.new.nodes.items
-    (c.as_slice.ensures.value ∙ c.in_ok-reserve.ensures.items) c.as_slice-2.ensures
-    c.in_ok-find_nodes.ensures in
-    let outs : AreNodes v.ids k.after c.find_nodes-2.new.nodes.items =
-    nodes_at v.ids c.as_slice-3.result.now k.after c.as_slice-4.result.now c.find_nodes-2.new.nodes.items
-    (c.as_slice-3.ensures.value ∙ c.in_ok-reserve.ensures.items) c.as_slice-4.ensures
-    c.in_ok-find_nodes-2.ensures in
-    let circle : IsCircle v.edges c.find_nodes.new.nodes.items c.find_nodes-2.new.nodes.items c.in-Err-Circle.path.items
-    = subst (λ (x : List ℕ). IsCircle v.edges x c.find_nodes-2.new.nodes.items c.in-Err-Circle.path.items)
-    c.as_slice-5.ensures.value (subst
-    (λ (x : List ℕ). IsCircle v.edges c.as_slice-5.result.now x c.in-Err-Circle.path.items)
-    c.as_slice-6.ensures.value (rw c.in-Err-Circle.field-0-is at c.in-Err-Circle.ensures.refused)) in
-    let ids_are = c.as_slice-in-Err-Circle.ensures.value ∙ c.in_ok-reserve.ensures.items in
-    let path_is = c.as_slice-in-Err-Circle-2.ensures.value in
-    subst (λ (m : MemoryModel). EachLeads m (grown c.pop-in-Err-Circle.new.self.kept k.event)
-    (k.event.id ∷ map (at c.as_slice-in-Err-Circle.result.now) c.as_slice-in-Err-Circle-2.result.now))
-    (sym (c.pop-in-Err-Circle.ensures.model ∙ ap (λ (w : Past). w.model) c.in_ok-push.ensures.pushed))
-    (leads_at v.model v.history c.pop-in-Err-Circle.new.self.kept v.ids c.as_slice-in-Err-Circle.result.now
-    c.in-Err-Circle.path.items c.as_slice-in-Err-Circle-2.result.now k.event
-    (c.pop-in-Err-Circle.ensures.popped v.history k (ap (λ (w : Past). w.kept) c.in_ok-push.ensures.pushed)) ids_are
-    path_is (leads v c.self.invariant k joined none_own not_stale c.find_nodes.new.nodes.items
-    c.find_nodes-2.new.nodes.items ins outs c.in-Err-Circle.path.items circle))
+circle_of-requires-clause-leads c = (shown c).leads
 
 pub circle_of-requires-clause-once : goal.circle_of-requires-clause-once
-circle_of-requires-clause-once c =
-    let v : Arranged = record {
-      model = c.self.inside.history.model;
-      history = c.self.inside.history.kept;
-      edges = c.self.inside.ranks.edges;
-      ranks = c.self.inside.ranks.ranks;
-      ids = c.self.inside.ids.items;
-    } in
-    let k : Kept = kept_of c.args.event.now c.args.around.now in
-    let joined : Joined v.model v.history k = subst (λ (w : Arranged). Joined w.model w.history k) (sym c.self.view_is)
-    (record { sound = c.requires.sound; linked = c.requires.linked }) in
-    let none_own : HasOwnEdge v.model v.history k.event → ⊥ =
-    subst (λ (w : Arranged). HasOwnEdge w.model w.history k.event → ⊥)
-    (sym c.self.view_is) c.requires.none_own in
-    let not_stale : (s : Id) → IsStale (grown v.history k.event) k.event.id s → ⊥ =
-    subst (λ (w : Arranged). (s : Id) → IsStale (grown w.history k.event) k.event.id s → ⊥)
-    (sym c.self.view_is) c.requires.not_stale in
-    let ins : AreNodes v.ids k.before c.find_nodes.new.nodes.items =
-    nodes_at v.ids c.as_slice.result.now k.before c.as_slice-2.result.now c.find_nodes.new.nodes.items
-    (c.as_slice.ensures.value ∙ c.in_ok-reserve.ensures.items) c.as_slice-2.ensures
-    c.in_ok-find_nodes.ensures in
-    let outs : AreNodes v.ids k.after c.find_nodes-2.new.nodes.items =
-    nodes_at v.ids c.as_slice-3.result.now k.after c.as_slice-4.result.now c.find_nodes-2.new.nodes.items
-    (c.as_slice-3.ensures.value ∙ c.in_ok-reserve.ensures.items) c.as_slice-4.ensures
-    c.in_ok-find_nodes-2.ensures in
-    let circle : IsCircle v.edges c.find_nodes.new.nodes.items c.find_nodes-2.new.nodes.items c.in-Err-Circle.path.items
-    = subst (λ (x : List ℕ). IsCircle v.edges x c.find_nodes-2.new.nodes.items c.in-Err-Circle.path.items)
-    c.as_slice-5.ensures.value (subst
-    (λ (x : List ℕ). IsCircle v.edges c.as_slice-5.result.now x c.in-Err-Circle.path.items)
-    c.as_slice-6.ensures.value (rw c.in-Err-Circle.field-0-is at c.in-Err-Circle.ensures.refused)) in
-    let ids_are = c.as_slice-in-Err-Circle.ensures.value ∙ c.in_ok-reserve.ensures.items in
-    let path_is = c.as_slice-in-Err-Circle-2.ensures.value in
-    once_at v.ids c.as_slice-in-Err-Circle.result.now c.in-Err-Circle.path.items c.as_slice-in-Err-Circle-2.result.now
-    k.event.id ids_are path_is (once v c.self.invariant k joined none_own not_stale c.find_nodes.new.nodes.items
-    c.find_nodes-2.new.nodes.items ins outs c.in-Err-Circle.path.items circle)
+circle_of-requires-clause-once c = (shown c).once
 
 pub invariant_of-self-in-Ok : goal.invariant_of-self-in-Ok
 invariant_of-self-in-Ok c =
-    let v : Arranged = record {
-      model = c.self.inside.history.model;
-      history = c.self.inside.history.kept;
-      edges = c.self.inside.ranks.edges;
-      ranks = c.self.inside.ranks.ranks;
-      ids = c.self.inside.ids.items;
-    } in
-    let k : Kept = kept_of c.args.event.now c.args.around.now in
-    let joined : Joined v.model v.history k = subst (λ (w : Arranged). Joined w.model w.history k) (sym c.self.view_is)
-    (record { sound = c.requires.sound; linked = c.requires.linked }) in
-    let none_own : HasOwnEdge v.model v.history k.event → ⊥ =
-    subst (λ (w : Arranged). HasOwnEdge w.model w.history k.event → ⊥)
-    (sym c.self.view_is) c.requires.none_own in
-    let not_stale : (s : Id) → IsStale (grown v.history k.event) k.event.id s → ⊥ =
-    subst (λ (w : Arranged). (s : Id) → IsStale (grown w.history k.event) k.event.id s → ⊥)
-    (sym c.self.view_is) c.requires.not_stale in
-    let ins : AreNodes v.ids k.before c.find_nodes.new.nodes.items =
-    nodes_at v.ids c.as_slice.result.now k.before c.as_slice-2.result.now c.find_nodes.new.nodes.items
-    (c.as_slice.ensures.value ∙ c.in_ok-reserve.ensures.items) c.as_slice-2.ensures
-    c.in_ok-find_nodes.ensures in
-    let outs : AreNodes v.ids k.after c.find_nodes-2.new.nodes.items =
-    nodes_at v.ids c.as_slice-3.result.now k.after c.as_slice-4.result.now c.find_nodes-2.new.nodes.items
-    (c.as_slice-3.ensures.value ∙ c.in_ok-reserve.ensures.items) c.as_slice-4.ensures
-    c.in_ok-find_nodes-2.ensures in
-    let g : IsGrown v.edges c.place.new.self.edges c.find_nodes.new.nodes.items c.find_nodes-2.new.nodes.items =
-    subst (λ (x : List ℕ). IsGrown v.edges c.place.new.self.edges x c.find_nodes-2.new.nodes.items)
-    c.as_slice-5.ensures.value (subst
-    (λ (x : List ℕ). IsGrown v.edges c.place.new.self.edges c.as_slice-5.result.now x)
-    c.as_slice-6.ensures.value c.in-Ok.ensures.placed.grown) in
-    let whole = arranged_node v c.self.invariant k joined none_own not_stale c.find_nodes.new.nodes.items
-    c.find_nodes-2.new.nodes.items ins outs c.requires.memory c.place.new.self.edges c.place.new.self.ranks g
-    c.in-Ok.ensures.placed.ordered in
-    let ids : c.push-in-Ok.new.self.items ≡ v.ids ++ k.event.id ∷ [] =
+    let k = kept_of c.args.event.now c.args.around.now in
+    let fit = subst (λ (w : Arranged). IsFit w k) (sym c.self.view_is) c.requires.fit in
+    let is = c.as_slice-ids.ensures.value ∙ c.in_ok-reserve.ensures.items in
+    let found = c.in_ok-find_ends.ensures in
+    let preds = c.find_ends.new.preds.items in
+    let succs = c.find_ends.new.succs.items in
+    let placed = c.in-Ok.ensures.placed in
+    let whole = arranged_node _ c.self.invariant k fit preds succs
+    (subst (λ (x : List Id). AreNodes x k.before preds) is found.before)
+    (subst (λ (x : List Id). AreNodes x k.after succs) is found.after) c.requires.memory
+    c.place.new.self.edges c.place.new.self.ranks
+    (grown_between _ _ preds _ succs _ c.as_slice-preds.ensures.value c.as_slice-succs.ensures.value placed.grown)
+    placed.ordered in
+    let ids : c.push-in-Ok.new.self.items ≡ c.self.inside.ids.items ++ k.event.id ∷ [] =
     (rw c.unwrap.ensures at c.push-in-Ok.ensures.items) ∙
     ap (λ (x : List Id). x ++ k.event.id ∷ []) c.in_ok-reserve.ensures.items in
     subst (λ (h : Past). IsArranged (record {
@@ -230,8 +96,8 @@ invariant_of-self-in-Ok c =
       ids = c.push-in-Ok.new.self.items;
     })) (sym c.in_ok-push.ensures.pushed)
     (subst (λ (x : List Id). IsArranged (record {
-      model = v.model;
-      history = v.history ++ k ∷ [];
+      model = c.self.inside.history.model;
+      history = c.self.inside.history.kept ++ k ∷ [];
       edges = c.place.new.self.edges;
       ranks = c.place.new.self.ranks;
       ids = x;

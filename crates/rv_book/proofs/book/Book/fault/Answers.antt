@@ -6,7 +6,7 @@ use Rattle.rv_event.specs.declared.event.Event.{Event}
 use Rattle.rv_event.specs.declared.event.Entry.{Entry}
 use Rattle.rv_event.specs.declared.fault.Fault.{Fault}
 use Rattle.rv_book.specs.Booked.{Booked}
-use Rattle.rv_book.proofs.Booking.{first_of_faults, source_of_faults, deps_of_faults}
+use Rattle.rv_book.proofs.PushedEntries.{first_of_faults, source_of_faults, deps_of_faults}
 use Rattle.rv_book.proofs.book.Book.fault.Goals as goal
 
 pub returns-in-Some : goal.returns-in-Some

@@ -8,15 +8,14 @@ use Rattle.rv_event.specs.declared.event.Event.{Event}
 use Rattle.rv_event.specs.declared.event.Entry.{Entry}
 use Rattle.rv_cert.specs.Certificates.{Certifies}
 use Rattle.rv_cert.specs.declared.certificate.Certificate.{Certificate}
-use Rattle.rv_cert.specs.declared.verdict.Verdict.TheVariants.{Forbidden}
 use Rattle.rv_edges.specs.Kept.{grown}
 use Rattle.rv_book.specs.Arranged.{IsOwn}
 use Rattle.rv_book.specs.Booked.{Booked, IsForbiddenOn}
 use Rattle.rv_book.specs.Tallied.{IsTallied}
 use Rattle.rv_cert.specs.Refusals.{Refusal}
 use Rattle.rv_event.specs.declared.memory_model.MemoryModel.{MemoryModel}
-use Rattle.rv_book.proofs.Booking.{event_sound, source_sound, hart_sound, room_in, room_of, events-push}
-use Rattle.rv_book.proofs.Booking.{booked_push, forbidden_of, booked_same, taken_of}
+use Rattle.rv_book.proofs.PushedEntries.{event_sound, source_sound, hart_sound, room_in, room_of, events-push}
+use Rattle.rv_book.proofs.PushedEntries.{booked_push, forbidden_of, booked_same, taken_of}
 use Rattle.rv_book.proofs.book.Book.judge.Goals as goal
 
 pub add-requires-clause-sound : goal.add-requires-clause-sound
@@ -65,12 +64,10 @@ returns-in-Taken-clause-judged c =
     let items : c.push.new.self.items ≡ c.self.inside.entries.items ++ c.args.entry.now ∷ [] =
     (rw c.unwrap.ensures at c.push.ensures.items) ∙
     ap (λ (l : List Entry). l ++ c.in_ok-copy.copy ∷ []) c.in_ok-reserve.ensures.items ∙
-    ap (λ (x : Entry). c.self.inside.entries.items ++ x ∷ []) c.in_ok-copy.ensures in (
-      ap (λ (b : Booked). b.stopped) c.self.view_is,
-      taken_of c.self.inside.entries.items c.push.new.self.items c.self.inside.arrangement c.add.new.self
-          c.self.inside.stopped c.args.self.now c.args.entry.now
-          c.self.view_is c.self.invariant.0 none grew.0 grew.1 c.model-model-2.ensures.lawful items,
-    )
+    ap (λ (x : Entry). c.self.inside.entries.items ++ x ∷ []) c.in_ok-copy.ensures in
+    taken_of c.self.inside.entries.items c.push.new.self.items c.self.inside.arrangement c.add.new.self
+    c.self.inside.stopped c.args.self.now c.args.entry.now
+    c.self.view_is c.self.invariant.0 none grew.0 grew.1 c.model-model-2.ensures.lawful items
 
 pub new-requires-in-Refused-clause-well_formed : goal.new-requires-in-Refused-clause-well_formed
 new-requires-in-Refused-clause-well_formed c =
@@ -115,6 +112,6 @@ returns-in_ok-evidence-in-Refused-clause-judged c =
     (subst (λ (x : Certificate). IsOwn c.args.entry.now.event x) cert told.2) in (
       booked_same c.self.inside.entries.items c.reserve.new.self.items c.self.inside.arrangement c.add.new.self
           c.self.inside.stopped c.in_ok-reserve.ensures.items told.0 ∙ c.self.view_is,
-      subst (λ (w : Booked). IsForbiddenOn w.model w.log c.args.entry.now (Forbidden c.new-in-Refused.result))
+      subst (λ (w : Booked). IsForbiddenOn w.model w.log c.args.entry.now c.new-in-Refused.result)
           c.self.view_is verdict,
     )

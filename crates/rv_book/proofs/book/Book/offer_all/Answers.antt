@@ -1,6 +1,6 @@
-use Rattle.std.proofs.Common.{length, ap, ◌∙◌, rules}
-use Rattle.rv_book.specs.Booked.{Booked}
-use Rattle.rv_book.proofs.Chunking.{within-begin, within-turn, within-stops, within-end, offer-halts}
+use Rattle.std.proofs.Common.{◌∷◌, [], length, ap, sym, subst, ◌∙◌, rules}
+use Rattle.rv_book.specs.Booked.{Booked, IsMalformedOn, IsForbiddenOn}
+use Rattle.rv_book.proofs.TakenEvents.{within-begin, within-turn, within-stops, within-end}
 use Rattle.rv_book.proofs.book.Book.offer_all.Goals as goal
 
 pub loop-event-init : goal.loop-event-init
@@ -16,42 +16,60 @@ unreachable-requires c = search rules
 
 pub returns-in-NoMemory : goal.returns-in-NoMemory
 returns-in-NoMemory c =
-    let told = rw c.in-NoMemory.is at c.offer.ensures in
+    let told = rw c.in-NoMemory.is at c.offer.ensures.unjudged in
     let steps = rw c.in-Some.is at c.next.ensures.steps in (
-      ap (λ (b : Booked). b.stopped) told.1 ∙ c.loop-event.invariant.0,
+      ap (λ (b : Booked). b.stopped) told ∙ c.loop-event.invariant.0,
       (
         length c.loop-event.yielded,
         c.in-Some.event,
         within-stops c.args.self.now c.loop-event.self c.offer.new.self c.args.source c.loop-event.yielded _ _
             c.args.events.items c.in-Some.event _
-            c.loop-event.invariant.1 steps.0 (ap (λ (b : Booked). b.model) told.1) (ap (λ (b : Booked). b.log) told.1),
+            c.loop-event.invariant.1 steps.0 (ap (λ (b : Booked). b.model) told) (ap (λ (b : Booked). b.log) told),
       ),
     )
 
 pub returns-in-Malformed : goal.returns-in-Malformed
 returns-in-Malformed c =
-    let told = offer-halts c.loop-event.self c.offer.new.self _ c.offer.result c.in-Malformed.verdict c.offer.ensures
-    c.in-Malformed.is in
+    let told = rw c.in-Malformed.is at c.offer.ensures.refused in
+    let refusal = rw c.in-Malformed.is at c.offer.ensures.malformed in
     let steps = rw c.in-Some.is at c.next.ensures.steps in (
-      told.stopped,
+      ap (λ (b : Booked). b.stopped) told,
       (
         length c.loop-event.yielded,
         c.in-Some.event,
         within-stops c.args.self.now c.loop-event.self c.offer.new.self c.args.source c.loop-event.yielded _ _
             c.args.events.items c.in-Some.event _
-            c.loop-event.invariant.1 steps.0 told.model told.log,
-        told.told,
+            c.loop-event.invariant.1 steps.0 (ap (λ (b : Booked). b.model) told) (ap (λ (b : Booked). b.log) told),
+        subst (λ (b : Booked). IsMalformedOn b.model b.log (record { source = c.args.source; event = c.in-Some.event })
+            c.in-Malformed.malformed) (sym told) refusal,
+      ),
+    )
+
+pub returns-in-Forbidden : goal.returns-in-Forbidden
+returns-in-Forbidden c =
+    let told = rw c.in-Forbidden.is at c.offer.ensures.refused in
+    let refusal = rw c.in-Forbidden.is at c.offer.ensures.forbidden in
+    let steps = rw c.in-Some.is at c.next.ensures.steps in (
+      ap (λ (b : Booked). b.stopped) told,
+      (
+        length c.loop-event.yielded,
+        c.in-Some.event,
+        within-stops c.args.self.now c.loop-event.self c.offer.new.self c.args.source c.loop-event.yielded _ _
+            c.args.events.items c.in-Some.event _
+            c.loop-event.invariant.1 steps.0 (ap (λ (b : Booked). b.model) told) (ap (λ (b : Booked). b.log) told),
+        subst (λ (b : Booked). IsForbiddenOn b.model b.log (record { source = c.args.source; event = c.in-Some.event })
+            c.in-Forbidden.forbidden) (sym told) refusal,
       ),
     )
 
 pub loop-event-preserved : goal.loop-event-preserved
 loop-event-preserved c =
-    let told = rw c.in-Accepted.is at c.offer.ensures in
+    let taken = rw c.in-Accepted.is at c.offer.ensures.accepted in
     let steps = rw c.in-Some.is at c.next.ensures.steps in (
-      told.1,
+      taken.stopped ∙ c.loop-event.invariant.0,
       within-turn c.args.self.now c.loop-event.self c.offer.new.self c.args.source c.loop-event.yielded _ _
           c.args.events.items c.in-Some.event _ _
-          c.loop-event.invariant.1 steps.0 steps.1 told.2,
+          c.loop-event.invariant.1 steps.0 steps.1 taken,
     )
 
 pub returns : goal.returns

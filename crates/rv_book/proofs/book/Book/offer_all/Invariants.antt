@@ -1,5 +1,5 @@
 use Rattle.std.proofs.Common.{IsFalse}
-use Rattle.rv_book.proofs.Chunking.{IsWithin}
+use Rattle.rv_book.proofs.TakenEvents.{IsWithin}
 use Rattle.rv_book.proofs.book.Book.offer_all.Given as goal
 
 abbrev pub invariant-loop-event : goal.invariant-loop-event

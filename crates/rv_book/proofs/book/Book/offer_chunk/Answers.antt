@@ -2,22 +2,18 @@ use Rattle.std.proofs.Common.{◌≡◌, ℕ, ◌-◌, ◌*◌, List, drop, ap, 
 use Rattle.rv_event.specs.declared.event.Event.{Event}
 use Rattle.rv_book.specs.Booked.{Booked}
 use Rattle.rv_book.specs.Chunked.{count_of_source, rest_of, first_of, IsTurn, IsOfferedAll}
-use Rattle.rv_book.proofs.Chunking.{counted, stops-first, answered-rest, turn-rest}
+use Rattle.rv_book.proofs.TakenEvents.{stops-first, answered-rest, turn-rest}
 use Rattle.rv_book.proofs.book.Book.offer_chunk.Goals as goal
 
 pub returns-then-count-first : goal.returns-then-count-first
 returns-then-count-first c =
-    let known = counted _ _ _ c.args.self.now c.args.chunk.now
-    (c.count_of_source-count.ensures c.self.inside.entries.items c.self.invariant.1)
-    (ap (λ (b : Booked). b.log) c.self.view_is) c.source.ensures in
+    let known = c.given_by-count.ensures ∙ ap (count_of_source c.args.self.now.log) c.source.ensures in
     let going = ap (λ (b : Booked). b.stopped) (sym c.self.view_is) ∙ c.if-self.false in
     (going, known, omega (arith, known, c.number.ensures, c.if-count-first.true), refl)
 
 pub returns-then-count-first-2 : goal.returns-then-count-first-2
 returns-then-count-first-2 c =
-    let known = counted _ _ _ c.args.self.now c.args.chunk.now
-    (c.count_of_source-count.ensures c.self.inside.entries.items c.self.invariant.1)
-    (ap (λ (b : Booked). b.log) c.self.view_is) c.source.ensures in
+    let known = c.given_by-count.ensures ∙ ap (count_of_source c.args.self.now.log) c.source.ensures in
     let going = ap (λ (b : Booked). b.stopped) (sym c.self.view_is) ∙ c.if-self.false in
     (going, omega (arith, known, c.number.ensures, c.count.ensures.events, c.if-count-first-2.true), refl)
 
@@ -25,15 +21,13 @@ pub returns-in-Ok : goal.returns-in-Ok
 returns-in-Ok c =
     let chunk = c.args.chunk.now in
     let count = count_of_source c.args.self.now.log chunk.source in
-    let known = counted _ _ _ c.args.self.now chunk
-    (c.count_of_source-count.ensures c.self.inside.entries.items c.self.invariant.1)
-    (ap (λ (b : Booked). b.log) c.self.view_is) c.source.ensures in
+    let known = c.given_by-count.ensures ∙ ap (count_of_source c.args.self.now.log) c.source.ensures in
     let going = ap (λ (b : Booked). b.stopped) (sym c.self.view_is) ∙ c.if-self.false in
     let turn : IsTurn count chunk = (
       omega (arith, known, c.number.ensures, c.if-count-first.false),
       omega (arith, known, c.number.ensures, c.count.ensures.events, c.if-count-first-2.false),
     ) in
-    let skipped : c.count_of_source-count.result - 8 * c.number.result ≡ count - first_of chunk =
+    let skipped : c.given_by-count.result - 8 * c.number.result ≡ count - first_of chunk =
     omega (arith, known, c.number.ensures) in
     let rest : c.drop-drain.new.self.0.items ≡ rest_of count chunk =
     c.drop-drain.ensures.items ∙ c.drain.ensures.kept ∙ ap (λ (n : ℕ). drop n c.in-Ok.events.items) skipped
@@ -48,9 +42,7 @@ pub returns-in-Err : goal.returns-in-Err
 returns-in-Err c =
     let chunk = c.args.chunk.now in
     let count = count_of_source c.args.self.now.log chunk.source in
-    let known = counted _ _ _ c.args.self.now chunk
-    (c.count_of_source-count.ensures c.self.inside.entries.items c.self.invariant.1)
-    (ap (λ (b : Booked). b.log) c.self.view_is) c.source.ensures in
+    let known = c.given_by-count.ensures ∙ ap (count_of_source c.args.self.now.log) c.source.ensures in
     let going = ap (λ (b : Booked). b.stopped) (sym c.self.view_is) ∙ c.if-self.false in
     let turn : IsTurn count chunk = (
       omega (arith, known, c.number.ensures, c.if-count-first.false),

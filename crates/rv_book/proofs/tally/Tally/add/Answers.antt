@@ -3,7 +3,7 @@ use Rattle.std.proofs.Common.{rules, ◌≡◌, ℕ, ◌+◌, ◌<◌, ◌≤◌
 use Rattle.std.proofs.Common.{arith, sym, ◌∙◌}
 use Rattle.std.proofs.lemmas.List.Sums.{count_by-le-length}
 use Rattle.rv_event.specs.declared.event.Entry.{Entry}
-use Rattle.rv_book.proofs.Tallying.{tallied_push, one_more}
+use Rattle.rv_book.proofs.Tallies.{tallied_push, one_more}
 use Rattle.rv_book.proofs.tally.Tally.add.Goals as goal
 
 pub returns : goal.returns

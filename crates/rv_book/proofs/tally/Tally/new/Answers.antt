@@ -1,6 +1,6 @@
 -- Nothing is counted of nothing.
 use Rattle.std.proofs.Common.{ℕ, List, Option, None, replicate}
-use Rattle.rv_book.proofs.Tallying.{even, tallied_none}
+use Rattle.rv_book.proofs.Tallies.{even, tallied_none}
 use Rattle.rv_book.proofs.tally.Tally.new.Goals as goal
 
 pub returns : goal.returns

@@ -1,6 +1,6 @@
 -- The hart's entries are all of one source.
 use Rattle.std.proofs.Common.{◌≡◌, ℕ, None, Option, sym, ◌∙◌}
-use Rattle.rv_book.proofs.Tallying.{none_fault, same_fault, other_fault}
+use Rattle.rv_book.proofs.Tallies.{none_fault, same_fault, other_fault}
 use Rattle.rv_book.proofs.tally.Tally.source_fault.Goals as goal
 
 pub returns-in_err-source : goal.returns-in_err-source

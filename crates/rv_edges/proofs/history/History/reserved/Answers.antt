@@ -22,12 +22,15 @@ returns-in_err-lr c =
     let none : IsPartner (hart_in c.args.self.now c.args.event.now.id.hart) c.args.event.now None =
     subst (λ (h : Hart). IsPartner h c.args.event.now None) is c.in_err-lr.ensures in
     subst (IsReserved (happened c.args.self.now.kept) c.args.event.now) (sym c.from_residual-in_err-lr.ensures)
-    (λ lr p. let q = partner_to c.args.self.now.model (happened c.args.self.now.kept) c.args.event.now c.hart.ensures.indexed c.requires lr p in none lr q.0 q.1)
+    (λ lr p. let q = partner_to c.args.self.now.model (happened c.args.self.now.kept) c.args.event.now
+    c.hart.ensures.indexed c.requires lr p in none lr q.0 q.1)
 
 pub returns-in_err-hart : goal.returns-in_err-hart
 returns-in_err-hart c =
     subst (IsReserved (happened c.args.self.now.kept) c.args.event.now) (sym c.from_residual.ensures)
-    (λ lr p. let q = partner_to c.args.self.now.model (happened c.args.self.now.kept) c.args.event.now c.hart.ensures.indexed c.requires lr p in Contains-none lr (subst (λ (es : List Event). Contains es lr) (c.in_err-hart.ensures.hart) q.0))
+    (λ lr p. let q = partner_to c.args.self.now.model (happened c.args.self.now.kept) c.args.event.now
+    c.hart.ensures.indexed c.requires lr p in Contains-none lr (subst (λ (es : List Event). Contains es lr)
+    (c.in_err-hart.ensures.hart) q.0))
 
 pub returns : goal.returns
 returns c =

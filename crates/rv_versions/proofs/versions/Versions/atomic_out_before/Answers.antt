@@ -4,8 +4,6 @@ use Rattle.rv_versions.specs.Accesses.{id_of}
 use Rattle.rv_versions.specs.Lookups.{IsPairBetween}
 use Rattle.rv_versions.proofs.Listing.{on_ok, atomic_outs_before_of, no_atomic_outs}
 use Rattle.rv_versions.proofs.versions.Versions.atomic_out_before.Goals as goal
-use Rattle.rv_versions.proofs.versions.Versions.atomic_out_before.Goals.{then-not-is_store-via-then-not-is_store}
-use Rattle.rv_versions.proofs.versions.Versions.atomic_out_before.Goals.{then-not-is_store-via-else-not-is_store+then-not-has_pair_below}
 
 pub returns : goal.returns
 returns c =
@@ -18,22 +16,23 @@ returns c =
 
 pub returns-then-not-is_store : goal.returns-then-not-is_store
 returns-then-not-is_store c =
+    no_atomic_outs c.args.self.now c.args.event.now c.args.links.now.items
+    (λ sc lr a. false≢true (sym c.if-not-is_store.true ∙ c.is_store.ensures.1 a.store))
+
+pub returns-then-not-has_pair_below : goal.returns-then-not-has_pair_below
+returns-then-not-has_pair_below c =
     let log = c.args.self.now in
     let e = c.args.event.now in
-    no_atomic_outs log e c.args.links.now.items (λ sc lr a. elim c.then-not-is_store.branch [
-      | then-not-is_store-via-then-not-is_store w ↦
-          false≢true (sym w.if-not-is_store.true ∙ c.is_store.ensures.1 a.store)
-      | then-not-is_store-via-else-not-is_store+then-not-has_pair_below w ↦
-          let pair : IsPairBetween log e.word 0 e.wrote sc.id = record {
-            sc = sc;
-            lr = lr;
-            of_log = a.of_log;
-            pair = a.pair;
-            same = a.word;
-            at_least = omega arith;
-            below = a.below;
-            named = refl;
-          } in
-          false≢true
-          (sym w.if-not-has_pair_below.true ∙ (w.has_pair_below.ensures log e.word c.requires).1 (sc.id, pair))
-    ])
+    no_atomic_outs log e c.args.links.now.items (λ sc lr a.
+    let pair : IsPairBetween log e.word 0 e.wrote sc.id = record {
+      sc = sc;
+      lr = lr;
+      of_log = a.of_log;
+      pair = a.pair;
+      same = a.word;
+      at_least = omega arith;
+      below = a.below;
+      named = refl;
+    } in
+    false≢true
+    (sym c.if-not-has_pair_below.true ∙ (c.has_pair_below.ensures log e.word c.requires).1 (sc.id, pair)))

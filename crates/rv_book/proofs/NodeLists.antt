@@ -1,0 +1,33 @@
+-- Nodes found one after another.
+use Rattle.std.proofs.Common.{◌≡◌, ℕ, ◌<◌, List, [], ◌∷◌, ◌++◌, length, inl, inr, sym, ap, ◌∙◌, subst}
+use Rattle.std.proofs.lemmas.List.Elements.{Contains-push_cases}
+use Rattle.rv_event.specs.declared.event.Id.{Id}
+use Rattle.rv_event.specs.declared.reason.Link.{Link}
+use Rattle.rv_edges.proofs.Listed.{Contains-old, Contains-last, Contains-none}
+use Rattle.rv_book.specs.Arranged.{at}
+use Rattle.rv_book.specs.Nodes.{AreNodes}
+
+-- no links have no nodes
+pub nodes_none : (ids : List Id) → AreNodes ids [] []
+nodes_none ids = record {
+  low = λ p c. absurd (Contains-none p c);
+  linked = λ p c. absurd (Contains-none p c);
+  each = λ l c. absurd (Contains-none l c);
+}
+
+-- one link more has one node more
+pub nodes_more : (ids : List Id) (links : List Link) (nodes new : List ℕ) (l : Link) (p : ℕ) →
+    AreNodes ids links nodes → p < length ids → at ids p ≡ l.id → new ≡ nodes ++ p ∷ [] →
+    AreNodes ids (links ++ l ∷ []) new
+nodes_more ids links nodes new l p h low is e = subst (AreNodes ids (links ++ l ∷ [])) (sym e) (record {
+  low = λ q c. elim (Contains-push_cases nodes p q c)
+      [ inl old ↦ h.low q old | inr s ↦ subst (λ x. x < length ids) s low ];
+  linked = λ q c. elim (Contains-push_cases nodes p q c) [
+    | inl old ↦ let w = h.linked q old in (w.0, Contains-old links l w.0 w.1, w.2)
+    | inr s ↦ (l, Contains-last links l, subst (λ x. at ids x ≡ l.id) s is)
+  ];
+  each = λ m c. elim (Contains-push_cases links l m c) [
+    | inl old ↦ let w = h.each m old in (w.0, Contains-old nodes p w.0 w.1, w.2)
+    | inr s ↦ (p, Contains-last nodes p, is ∙ ap (λ (x : Link). x.id) s)
+  ];
+})

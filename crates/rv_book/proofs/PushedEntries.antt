@@ -1,0 +1,158 @@
+-- A log with one more entry, and its verdicts.
+use Rattle.std.proofs.Common.{◌≡◌, ◌<◌, List, [], ◌∷◌, ◌++◌, length, Option, Some, None, refl, sym, ap, ◌∙◌}
+use Rattle.std.proofs.Common.{subst, arith, Bool}
+use Rattle.std.proofs.lemmas.List.{map-append, length-map, length_push}
+use Rattle.rv_event.specs.Log.{events}
+use Rattle.rv_event.specs.Orders.{Lawful}
+use Rattle.rv_event.specs.WellFormed.{WellFormed}
+use Rattle.rv_event.specs.Faults.{fault_of, event_fault, first_faults, source_fault, deps_fault, lowest}
+use Rattle.rv_event.proofs.Indexed.{NoneOf, lowest-none, none-lowest, lowest-append_some, sound_of}
+use Rattle.rv_event.proofs.Pushed.{WellFormed-push}
+use Rattle.rv_event.proofs.Bounded.{length-WellFormed}
+use Rattle.rv_event.specs.declared.memory_model.MemoryModel.{MemoryModel}
+use Rattle.rv_event.specs.declared.event.Event.{Event}
+use Rattle.rv_event.specs.declared.event.Entry.{Entry}
+use Rattle.rv_event.specs.declared.fault.Fault.{Fault}
+use Rattle.std.proofs.lemmas.Option.{none-some}
+use Rattle.rv_cert.specs.Certificates.{Certifies}
+use Rattle.rv_cert.specs.Refusals.{Refusal}
+use Rattle.rv_cert.proofs.Forward.{no_certificate}
+use Rattle.rv_edges.specs.Kept.{Kept, happened, grown}
+use Rattle.rv_book.specs.Arranged.{Arranged, IsOwn, order_of}
+use Rattle.rv_book.specs.Booked.{Booked, IsBooked, IsTaken, IsForbiddenOn, booked_of}
+
+-- an entry without a fault is an event without one
+pub event_sound : (log : List Entry) (x : Entry) → fault_of log x ≡ None → event_fault (events log) x.event ≡ None
+event_sound log x none =
+    let e : NoneOf (first_faults (events log) x.event ++ source_fault log x ∷ deps_fault x.event ∷ []) =
+    lowest-none (first_faults (events log) x.event ++ source_fault log x ∷ deps_fault x.event ∷ []) none in
+    none-lowest (first_faults (events log) x.event ++ deps_fault x.event ∷ [])
+    (e.0, (e.1.0, (e.1.1.0, (e.1.1.1.0, (e.1.1.1.1.0, (e.1.1.1.1.1.0, (e.1.1.1.1.1.1.0, (e.1.1.1.1.1.1.1.1.0, tt))))))))
+
+-- nor has it one of its source, and its hart is one of sixteen
+pub source_sound : (log : List Entry) (x : Entry) → fault_of log x ≡ None → source_fault log x ≡ None
+source_sound log x none =
+    let e : NoneOf (first_faults (events log) x.event ++ source_fault log x ∷ deps_fault x.event ∷ []) =
+    lowest-none (first_faults (events log) x.event ++ source_fault log x ∷ deps_fault x.event ∷ []) none in
+    e.1.1.1.1.1.1.1.0
+
+-- an entry without a fault is of one of sixteen harts
+pub hart_sound : (log : List Entry) (x : Entry) → fault_of log x ≡ None → x.event.id.hart < 16
+hart_sound log x none = (sound_of (events log) x.event (event_sound log x none)).hart
+
+-- a log that takes one entry more has room for it
+pub room_in : (log : List Entry) (x : Entry) → WellFormed log → fault_of log x ≡ None → length log < 65536
+room_in log x ok none =
+    let long = length-WellFormed (log ++ x ∷ []) (WellFormed-push log x ok none) in
+    omega (arith, long, length_push log x)
+
+-- and so has the history of its events
+pub room_of : (log : List Entry) (h : List Kept) (x : Entry) → WellFormed log → fault_of log x ≡ None →
+    happened h ≡ events log → length h < 65536
+room_of log h x ok none same =
+    let long = length-WellFormed (log ++ x ∷ []) (WellFormed-push log x ok none) in
+    omega (
+      arith,
+      long,
+      length_push log x,
+      ap length same,
+      length-map h (λ (k : Kept). k.event),
+      length-map log (λ (y : Entry). y.event),
+    )
+
+-- the events of a log with one entry more are those of its history with one event more
+pub events-push : (log : List Entry) (h : List Kept) (x : Entry) → happened h ≡ events log →
+    grown h x.event ≡ events (log ++ x ∷ [])
+events-push log h x same = ap (λ (es : List Event). es ++ x.event ∷ []) same ∙
+    sym (map-append (λ (y : Entry). y.event) log (x ∷ []))
+
+-- a book stays one with an entry more
+pub booked_push :
+    (log new : List Entry) (v w : Arranged) (x : Entry) → IsBooked log v → fault_of log x ≡ None →
+    happened w.history ≡ grown v.history x.event → Lawful w.model (happened w.history) (order_of w.ranks w.ids) →
+    new ≡ log ++ x ∷ [] → IsBooked new w
+booked_push log new v w x ok none e lawful is =
+    let same = e ∙ events-push log v.history x ok.same in
+    subst (λ (l : List Entry). IsBooked l w) (sym is) (record {
+      well_formed = WellFormed-push log x ok.well_formed none;
+      same = same;
+      lawful = subst (λ (es : List Event). Lawful w.model es (order_of w.ranks w.ids)) same lawful;
+    })
+
+-- a certificate of the grown history forbids the entry
+pub forbidden_of :
+    (model : MemoryModel) (log : List Entry) (h : List Kept) (x : Entry) (f : Refusal) → fault_of log x ≡ None →
+    happened h ≡ events log → f.model ≡ model → f.evidence ≡ log ++ x ∷ [] →
+    Certifies model (grown h x.event) f.certificate → IsOwn x.event f.certificate →
+    IsForbiddenOn model log x f
+forbidden_of model log h x f none same by is certifies own =
+    let c : Certifies model (events (log ++ x ∷ [])) f.certificate =
+    subst (λ (es : List Event). Certifies model es f.certificate) (events-push log h x same) certifies in
+    record {
+      judged_by = by;
+      evidence = is;
+      sound = none;
+      certified = c;
+      own = own;
+      none = λ some. no_certificate model (events (log ++ x ∷ [])) some.0 some.1 f.certificate c;
+    }
+
+-- equal logs and arrangements give equal books
+pub booked_same :
+    (log log' : List Entry) (v v' : Arranged) (b : Bool) → log' ≡ log → v' ≡ v → booked_of log' v' b ≡ booked_of log v b
+booked_same log log' v v' b p q = ap (λ (l : List Entry). booked_of l v' b) p ∙
+    ap (λ (w : Arranged). booked_of log w b) q
+
+-- a book with one more entry
+pub taken_of :
+    (log new : List Entry) (v w : Arranged) (stopped : Bool) (now : Booked) (x : Entry) →
+    booked_of log v stopped ≡ now →
+    IsBooked log v → fault_of log x ≡ None → w.model ≡ v.model → happened w.history ≡ grown v.history x.event →
+    Lawful w.model (happened w.history) (order_of w.ranks w.ids) → new ≡ log ++ x ∷ [] →
+    IsTaken now (booked_of new w stopped) x
+taken_of log new v w stopped now x is ok none by e lawful grew =
+    let same = e ∙ events-push log v.history x ok.same in
+    let here : Lawful v.model (events (log ++ x ∷ [])) (order_of w.ranks w.ids) =
+    subst (λ (m : MemoryModel). Lawful m (events (log ++ x ∷ [])) (order_of w.ranks w.ids)) by
+    (subst (λ (es : List Event). Lawful w.model es (order_of w.ranks w.ids)) same lawful) in
+    record {
+      model = by ∙ ap (λ (b : Booked). b.model) is;
+      stopped = ap (λ (b : Booked). b.stopped) is;
+      sound = subst (λ (b : Booked). fault_of b.log x ≡ None) is none;
+      log = grew ∙ ap (λ (b : Booked). b.log ++ x ∷ []) is;
+      lawful = (
+        order_of w.ranks w.ids,
+        subst
+            (λ (b : Booked). Lawful b.model (events (b.log ++ x ∷ [])) (order_of w.ranks w.ids)) is here,
+      );
+    }
+
+-- ---- the faults one after another
+none_first : (xs ys : List (Option Fault)) → None ≡ lowest xs → lowest (xs ++ ys) ≡ lowest ys
+none_first [] ys e = refl
+none_first (None ∷ xs) ys e = none_first xs ys e
+none_first (Some f ∷ xs) ys e = absurd (none-some f e)
+
+module _ (log : List Entry) (x : Entry) where
+  -- the first fault that holds is the entry's
+  pub first_of_faults : (f : Fault) → Some f ≡ lowest (first_faults (events log) x.event) → Some f ≡ fault_of log x
+  first_of_faults f e = lowest-append_some (first_faults (events log) x.event)
+      (source_fault log x ∷ deps_fault x.event ∷ []) f e
+
+  -- where none of the first faults holds, the fault of its source is the first
+  pub source_of_faults : (f : Fault) → None ≡ lowest (first_faults (events log) x.event) → Some f ≡ source_fault log x →
+      Some f ≡ fault_of log x
+  source_of_faults f none e =
+      ap (λ (o : Option Fault). lowest (o ∷ deps_fault x.event ∷ [])) e
+      ∙ sym (none_first (first_faults (events log) x.event) (source_fault log x ∷ deps_fault x.event ∷ []) none)
+
+  one : (o : Option Fault) → o ≡ lowest (o ∷ [])
+  one None = refl
+  one (Some f) = refl
+
+  -- where that does not hold either, too many dependencies are
+  pub deps_of_faults : None ≡ lowest (first_faults (events log) x.event) → None ≡ source_fault log x →
+      deps_fault x.event ≡ fault_of log x
+  deps_of_faults none e =
+      one (deps_fault x.event) ∙ ap (λ (o : Option Fault). lowest (o ∷ deps_fault x.event ∷ [])) e
+      ∙ sym (none_first (first_faults (events log) x.event) (source_fault log x ∷ deps_fault x.event ∷ []) none)

@@ -1,0 +1,24 @@
+use Rattle.std.proofs.Common.{List, subst}
+use Rattle.clap.specs.Words.{Row, found_of, rows_of}
+use Rattle.rv_cli.specs.Asked.{SaysAsked}
+use Rattle.rv_cli.specs.declared.request.Asked.{Asked}
+use Rattle.rv_cli.proofs.words.asked.Goals as goal
+
+pub returns-clause-answer : goal.returns-clause-answer
+returns-clause-answer c =
+    let parsed = c.in_ok-matches.ensures in
+    let asked : Asked = record {
+      workers = c.workers_in.result;
+      slots = c.slots_in.result;
+      model = c.model_in.result;
+      json = c.json_in.result;
+      files = c.in_ok-files.files;
+    } in
+    let says : SaysAsked (rows_of (found_of c.in_ok-matches.matches)) asked = record {
+      workers = c.workers_in.ensures.said;
+      slots = c.slots_in.ensures.said;
+      model = c.model_in.ensures;
+      json = c.json_in.ensures;
+      files = c.in_ok-files.ensures.names;
+    } in
+    (parsed.0, parsed.1, (parsed.2.0, subst (λ (rows : List Row). SaysAsked rows asked) parsed.2.1 says))

@@ -1,0 +1,91 @@
+//! The program's command, an argument a function.
+ghost use Rattle.std.specs.Prelude.{◌≡◌, false, IfOk};
+ghost use Rattle.clap.specs.Words.{app_of, rule_of};
+ghost use Rattle.rv_cli.specs.Command.{IsCommand, ListsModels, files_rule, json_rule, model_rule};
+ghost use Rattle.rv_cli.specs.Command.{slots_rule, workers_rule};
+
+use crate::help;
+use clap::{Arg, ArgAction, Command, value_parser};
+use std::alloc::{AllocError, Global};
+
+/// The names of the memory models.
+static MODELS: [&str; 2] = ["rvwmo", "tso"];
+
+/// `--workers`.
+fn workers_arg<'a>(alloc: Global) -> Arg<'a>
+    ensures rule { rule_of result ≡ workers_rule }
+    ensures local { result.global ≡ false }
+{
+    Arg::new(alloc, "workers")
+        .long("workers")
+        .action(ArgAction::Set)
+        .value_name("N")
+        .value_parser(value_parser!(u8).range(1..=24))
+        .default_value("4")
+        .help(help::WORKERS)
+}
+
+/// `--slots`.
+fn slots_arg<'a>(alloc: Global) -> Arg<'a>
+    ensures rule { rule_of result ≡ slots_rule }
+    ensures local { result.global ≡ false }
+{
+    Arg::new(alloc, "slots")
+        .long("slots")
+        .action(ArgAction::Set)
+        .value_name("N")
+        .value_parser(value_parser!(u8).range(2..=16))
+        .default_value("8")
+        .help(help::SLOTS)
+}
+
+/// `--model`.
+fn model_arg<'a>(alloc: Global) -> Arg<'a>
+    ensures rule { (names : _) × ListsModels names × (rule_of result ≡ model_rule names) }
+    ensures local { result.global ≡ false }
+{
+    Arg::new(alloc, "model")
+        .long("model")
+        .action(ArgAction::Set)
+        .value_name("MODEL")
+        .value_parser(MODELS.as_slice())
+        .hide_possible_values(true)
+        .default_value("rvwmo")
+        .help(help::MODEL)
+}
+
+/// `--json`.
+fn json_arg<'a>(alloc: Global) -> Arg<'a>
+    ensures rule { rule_of result ≡ json_rule }
+    ensures local { result.global ≡ false }
+{
+    Arg::new(alloc, "json")
+        .long("json")
+        .action(ArgAction::SetTrue)
+        .help(help::JSON)
+}
+
+/// `FILE`.
+fn files_arg<'a>(alloc: Global) -> Arg<'a>
+    ensures rule { rule_of result ≡ files_rule }
+    ensures local { result.global ≡ false }
+{
+    Arg::new(alloc, "FILE")
+        .action(ArgAction::Append)
+        .help(help::FILES)
+}
+
+/// The command, for words without the program's name.
+pub(crate) fn command_of<'a>(alloc: Global) -> Result<Command<'a>, AllocError>
+    ensures { IfOk result (λ c. IsCommand (app_of c)) }
+{
+    Command::new(alloc, "rvmon")
+        .no_binary_name(true)
+        .about(help::ABOUT)
+        .after_help(help::FORMAT)
+        .arg(workers_arg(alloc))?
+        .arg(slots_arg(alloc))?
+        .arg(model_arg(alloc))?
+        .arg(json_arg(alloc))?
+        .arg(files_arg(alloc))
+}

@@ -1,0 +1,113 @@
+//! From words to a request.
+ghost use Rattle.std.specs.Prelude.{◌≡◌, ◌≤◌, IfErr, IfOk, codes, length, map, string_bytes};
+ghost use Rattle.clap.specs.Walk.{texts};
+ghost use Rattle.clap.specs.Words.{first_of, first_value, found_of, one_of, one_text, rows_of};
+ghost use Rattle.rv_cli.specs.Answers.{AnswersTo, IsFilesFault};
+ghost use Rattle.rv_cli.specs.Asked.{IsInRange, SaysModel, SaysNumber, files_in, is_true};
+ghost use Rattle.rv_cli.specs.Parsed.{HoldsModel, HoldsNumber, ParsesTo};
+
+use crate::command::command_of;
+use crate::request::{Asked, WordsFault};
+use clap::{ArgMatches, Error as ParseError};
+use rv_event::MemoryModel;
+use std::alloc::{AllocError, Global};
+
+/// How many files may be named.
+const MAX_FILES: usize = 8;
+
+/// What clap finds in the words.
+fn matches_in<'a>(alloc: Global, words: &'a [&'a str]) -> Result<ArgMatches<'a>, ParseError>
+    ensures { ParsesTo (texts words.now) result }
+{
+    command_of(alloc)?.try_get_matches_from(words)
+}
+
+/// The number of workers.
+fn workers_in(matches: &ArgMatches<'_>) -> u8
+    requires { HoldsNumber 1 24 (one_text (found_of matches.now) (codes "workers")) }
+    ensures said { SaysNumber (one_of (codes "workers") (rows_of (found_of matches.now))) result }
+    ensures range { (1 ≤ result) × (result ≤ 24) }
+{
+    matches.get_one::<u8>("workers").unwrap()
+}
+
+/// The number of slots.
+fn slots_in(matches: &ArgMatches<'_>) -> u8
+    requires { HoldsNumber 2 16 (one_text (found_of matches.now) (codes "slots")) }
+    ensures said { SaysNumber (one_of (codes "slots") (rows_of (found_of matches.now))) result }
+    ensures range { (2 ≤ result) × (result ≤ 16) }
+{
+    matches.get_one::<u8>("slots").unwrap()
+}
+
+/// The memory model.
+fn model_in(matches: &ArgMatches<'_>) -> MemoryModel
+    requires { HoldsModel (first_value (found_of matches.now) (codes "model")) }
+    ensures { SaysModel (first_of (codes "model") (rows_of (found_of matches.now))) result }
+{
+    let name = matches.get_str("model").unwrap();
+    if name == "tso" {
+        MemoryModel::Ztso
+    } else {
+        MemoryModel::Rvwmo
+    }
+}
+
+/// Whether the report is JSON.
+fn json_in(matches: &ArgMatches<'_>) -> bool
+    ensures { result ≡ is_true (first_of (codes "json") (rows_of (found_of matches.now))) }
+{
+    match matches.get_str("json") {
+        Some(text) => text == "true",
+        None => false,
+    }
+}
+
+/// Copies of the texts, in order.
+fn copies(alloc: Global, names: &[&str]) -> Result<Vec<String>, AllocError>
+    ensures { IfOk result (λ list. map string_bytes list.items ≡ texts names.now) }
+{
+    let mut list = Vec::with_capacity(alloc, names.len())?;
+    for name in names {
+        list.push(String::from_str(alloc, name)?)?;
+    }
+    Ok(list)
+}
+
+/// The names of the files in order.
+fn files_in(alloc: Global, matches: &ArgMatches<'_>) -> Result<Vec<String>, WordsFault>
+    ensures names { IfOk result (λ list.
+        map string_bytes list.items ≡ files_in (rows_of (found_of matches.now))) }
+    ensures few { IfOk result (λ list. length list.items ≤ 8) }
+    ensures fault { IfErr result (IsFilesFault (files_in (rows_of (found_of matches.now)))) }
+{
+    match matches.get_strs("FILE") {
+        Some(names) => {
+            if names.len() > MAX_FILES {
+                return Err(WordsFault::TooMany);
+            }
+            Ok(copies(alloc, names)?)
+        }
+        None => Ok(Vec::new(alloc)),
+    }
+}
+
+/// What the words ask for. They come without the program's name.
+///
+/// # Errors
+/// `Parse` where clap refuses the words, or finds a call for help among them. `TooMany` where clap
+/// takes the words, and finds more than 8 files. `NoMemory` where an allocation was refused.
+pub fn asked(alloc: Global, words: &[&str]) -> Result<Asked, WordsFault>
+    ensures answer { AnswersTo (texts words.now) result }
+    ensures range { IfOk result IsInRange }
+{
+    let matches = matches_in(alloc, words)?;
+    let files = files_in(alloc, &matches)?;
+    Ok(Asked {
+        workers: workers_in(&matches),
+        slots: slots_in(&matches),
+        model: model_in(&matches),
+        json: json_in(&matches),
+        files,
+    })
+}

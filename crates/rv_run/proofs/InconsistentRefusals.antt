@@ -1,0 +1,37 @@
+-- What a pass refuses is not consistent.
+use Rattle.std.proofs.Common.{◌≡◌, ◌==◌, ◌↔◌, List, [], ◌∷◌, ◌++◌, sym, ◌∙◌, subst, append_assoc}
+use Rattle.std.proofs.lemmas.Option.{none-some}
+use Rattle.std.proofs.lemmas.List.Elements.{filter-append}
+use Rattle.rv_event.specs.Log.{events}
+use Rattle.rv_event.specs.WellFormed.{WellFormed, Continues, entries_of}
+use Rattle.rv_event.specs.declared.event.Entry.{Entry}
+use Rattle.rv_event.specs.declared.memory_model.MemoryModel.{MemoryModel}
+use Rattle.rv_event.proofs.Pushed.{WellFormed-front}
+use Rattle.rv_cert.proofs.Final.{no_longer_log}
+use Rattle.rv_report.specs.declared.outcome.Outcome.{Outcome}
+use Rattle.rv_report.specs.declared.outcome.Outcome.TheVariants.{Allowed, Forbidden, Malformed}
+use Rattle.rv_run.specs.Replays.{IsConsistent, IsReplayed, IsAllowed}
+
+-- a list continues its beginning
+pub continued : (front back : List Entry) → Continues front (front ++ back)
+continued front back hart = (entries_of hart back, filter-append (λ (x : Entry). hart == x.event.id.hart) front back)
+
+-- a pass allows exactly what is consistent
+pub exactly_allowed : (model : MemoryModel) (entries : List Entry) (outcome : Outcome) →
+    IsReplayed model entries outcome → IsAllowed outcome ↔ IsConsistent model entries
+exactly_allowed model entries (Allowed events operations waiting) told = (λ u. told.0, λ ok. tt)
+exactly_allowed model entries (Malformed m) told = (
+  λ none. absurd none,
+  λ ok. absurd (none-some m.fault (sym (ok.well_formed told.0 told.2.after told.1 told.2.whole) ∙ told.3.fault)),
+)
+exactly_allowed model entries (Forbidden f) told =
+    let evidence = told.0 ++ told.1 ∷ [] in
+    let whole : entries ≡ evidence ++ told.2.after =
+    told.2.whole ∙ sym (append_assoc told.0 (told.1 ∷ []) told.2.after) in (
+      λ none. absurd none,
+      λ ok. absurd (no_longer_log model evidence entries f.certificate ok.lawful.0
+          (WellFormed-front evidence told.2.after (subst WellFormed whole ok.well_formed)) ok.well_formed
+          (subst (λ (l : List Entry). Continues evidence l) (sym whole) (continued evidence told.2.after))
+          told.3.certified
+          ok.lawful.1),
+    )

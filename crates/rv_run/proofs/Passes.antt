@@ -1,0 +1,123 @@
+-- A book that has taken the first entries of a list.
+use Rattle.std.proofs.Common.{◌≡◌, ℕ, ◌≤◌, ◌<◌, ◌+◌, List, [], ◌∷◌, ◌++◌, length, take, drop, suc, get_or}
+use Rattle.std.proofs.Common.{IsFalse, inl, inr, sym, ap, ◌∙◌, subst, arith, take-append-drop, drop-cons}
+use Rattle.std.proofs.Math.Seq.{take-suc, take-length}
+use Rattle.std.proofs.lemmas.List.{length-take-le, take_all}
+use Rattle.std.proofs.lemmas.Bool.{cases_lt}
+use Rattle.rv_event.specs.Log.{events}
+use Rattle.rv_event.specs.Orders.{Lawful}
+use Rattle.rv_event.specs.WellFormed.{WellFormed}
+use Rattle.rv_event.specs.declared.event.Entry.{Entry}
+use Rattle.rv_event.specs.declared.memory_model.MemoryModel.{MemoryModel}
+use Rattle.rv_event.proofs.Pushed.{WellFormed-nil, WellFormed-push}
+use Rattle.rv_cert.specs.Refusals.{FaultyLog, Refusal}
+use Rattle.rv_book.specs.Booked.{Booked, IsForbiddenOn, IsMalformedOn, IsTaken, SomeLawful}
+use Rattle.rv_report.specs.declared.outcome.Outcome.TheVariants as outcome
+use Rattle.rv_run.specs.Replays.{IsConsistent, Reaches, IsReplayed}
+
+-- the book goes on, its log is the first entries, and each shorter beginning is consistent
+pub record IsReplaying (model : MemoryModel) (entries : List Entry) (count : ℕ) (book : Booked) : Type 0 where
+  pub going : IsFalse book.stopped
+  pub judged_by : book.model ≡ model
+  pub log : book.log ≡ take count entries
+  pub shorter : (n : ℕ) → n ≤ count → IsConsistent model (take n entries)
+
+-- before the first entry
+pub replaying-begin :
+    (model : MemoryModel) (entries : List Entry) (book : Booked) → IsFalse book.stopped → book.model ≡ model →
+    book.log ≡ [] →
+    Lawful book.model (events book.log) book.order → IsReplaying model entries 0 book
+replaying-begin model entries book going same empty lawful = record {
+  going = going;
+  judged_by = same;
+  log = empty;
+  shorter = λ n low. let none : 0 ≡ n = omega (arith, low) in
+      subst (λ (k : ℕ). IsConsistent model (take k entries)) none (record {
+        well_formed = WellFormed-nil;
+        lawful = (
+          book.order,
+          subst (λ (m : MemoryModel). Lawful m [] book.order) same
+              (subst (λ (l : List Entry). Lawful book.model (events l) book.order) empty lawful),
+        );
+      });
+}
+
+-- one entry more was accepted
+pub replaying-turn :
+    (model : MemoryModel) (entries : List Entry) (count : ℕ) (old new : Booked) (x : Entry) →
+    IsReplaying model entries count old →
+    count < length entries → x ≡ get_or entries count x → IsTaken old new x →
+    IsReplaying model entries (count + 1) new
+replaying-turn model entries count old new x r low is taken =
+    let next : suc count ≡ count + 1 = omega arith in
+    let log : old.log ++ x ∷ [] ≡ take (count + 1) entries =
+    ap (λ (l : List Entry). l ++ x ∷ []) r.log ∙ ap (λ (y : Entry). take count entries ++ y ∷ []) is
+    ∙ sym (take-suc entries count x low) ∙ ap (λ (n : ℕ). take n entries) next in
+    let last : IsConsistent model (take (count + 1) entries) = record {
+      well_formed = subst WellFormed log (WellFormed-push old.log x
+          (subst WellFormed (sym r.log) (r.shorter count (omega arith)).well_formed) taken.sound);
+      lawful = subst (λ (l : List Entry). SomeLawful model l) log
+          (subst (λ (m : MemoryModel). SomeLawful m (old.log ++ x ∷ [])) r.judged_by taken.lawful);
+    } in
+    record {
+      going = taken.stopped ∙ r.going;
+      judged_by = taken.model ∙ r.judged_by;
+      log = taken.log ∙ log;
+      shorter = λ n within. elim (cases_lt count n) [
+        | inl above ↦ (let whole : count + 1 ≡ n = omega (arith, above, within) in
+            subst (λ (k : ℕ). IsConsistent model (take k entries)) whole last)
+        | inr below ↦ r.shorter n below
+      ];
+    }
+
+-- the next entry was not
+pub replaying-stops :
+    (model : MemoryModel) (entries : List Entry) (count : ℕ) (book : Booked) (x : Entry) →
+    IsReplaying model entries count book →
+    count < length entries → x ≡ get_or entries count x → Reaches model entries book.log x
+replaying-stops model entries count book x r low is = record {
+  after = drop (suc count) entries;
+  whole = sym (take-append-drop count entries) ∙ ap (λ (l : List Entry). take count entries ++ l)
+      (drop-cons entries count x low ∙ ap (λ (y : Entry). y ∷ drop (suc count) entries) (sym is))
+      ∙ ap (λ (l : List Entry). l ++ x ∷ drop (suc count) entries) (sym r.log);
+  shorter = λ n within. r.shorter n (omega (
+    arith,
+    within,
+    ap (λ (l : List Entry). length l) r.log,
+    length-take-le count entries (omega (arith, low)),
+  ));
+}
+
+-- what the pass comes to at an entry with a fault
+pub replaying-malformed :
+    (model : MemoryModel) (entries : List Entry) (count : ℕ) (book : Booked) (x : Entry) (m : FaultyLog) →
+    IsReplaying model entries count book → count < length entries → x ≡ get_or entries count x →
+    IsMalformedOn book.model book.log x m → IsReplayed model entries (outcome.Malformed m)
+replaying-malformed model entries count book x m r low is told = (
+  book.log,
+  x,
+  replaying-stops model entries count book x r low is,
+  subst (λ (judged_by : MemoryModel). IsMalformedOn judged_by book.log x m) r.judged_by told,
+)
+
+-- what it comes to at an entry with which no order is lawful
+pub replaying-forbidden :
+    (model : MemoryModel) (entries : List Entry) (count : ℕ) (book : Booked) (x : Entry) (f : Refusal) →
+    IsReplaying model entries count book → count < length entries → x ≡ get_or entries count x →
+    IsForbiddenOn book.model book.log x f → IsReplayed model entries (outcome.Forbidden f)
+replaying-forbidden model entries count book x f r low is told = (
+  book.log,
+  x,
+  replaying-stops model entries count book x r low is,
+  subst (λ (judged_by : MemoryModel). IsForbiddenOn judged_by book.log x f) r.judged_by told,
+)
+
+-- the whole list was taken
+pub replaying-end :
+    (model : MemoryModel) (entries : List Entry) (count : ℕ) (book : Booked) → IsReplaying model entries count book →
+    length entries ≤ count →
+    IsConsistent model entries × (book.log ≡ entries)
+replaying-end model entries count book r long = (
+  subst (λ (l : List Entry). IsConsistent model l) (take-length entries) (r.shorter (length entries) long),
+  r.log ∙ take_all count entries long,
+)

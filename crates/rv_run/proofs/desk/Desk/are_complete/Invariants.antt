@@ -1,0 +1,6 @@
+use Rattle.std.proofs.Common.{ℕ, ◌<◌}
+use Rattle.rv_run.specs.Desks.{IsComplete}
+use Rattle.rv_run.proofs.desk.Desk.are_complete.Given as goal
+
+abbrev pub invariant-loop-source : goal.invariant-loop-source
+invariant-loop-source l = (k : ℕ) → k < l.source → IsComplete l.self k
