@@ -1,5 +1,5 @@
 -- The rows of a hart's sets with one more event.
-use Rattle.std.proofs.Common.{◌≡◌, ℕ, ◌<◌, Bool, true, false, ◌||◌, ◌&&◌, ◌==◌, ◌↔◌, List, [], Contains}
+use Rattle.std.proofs.Common.{◌≡◌, ℕ, ◌<◌, Bool, true, false, ◌||◌, ◌&&◌, ◌==◌, ◌↔◌, List, Contains}
 use Rattle.std.proofs.Common.{IsTrue, IsFalse, Some, None, Option, ◌⊎◌, inl, inr, sym, refl, ap, ◌∙◌, arith}
 use Rattle.std.proofs.Common.{subst, eqb-true, eq-eqb}
 use Rattle.std.proofs.lemmas.Bool.{or_cases, or_left, or_right, and_parts, and_from, false≢true}
@@ -25,17 +25,6 @@ use Rattle.rv_hart.proofs.Depending.{AddsNamed}
 pub has-map : (P Q : Event → Type 0) (xs ys : List Event) (s : ℕ) →
     ((a : Event) → Contains xs a → P a → Contains ys a × Q a) → HasEvent P xs s → HasEvent Q ys s
 has-map P Q xs ys s f x = let y = f x.a x.of_list x.holds in record { a = x.a; of_list = y.0; at = x.at; holds = y.1 }
-
--- a row without members is that of no event
-pub row-nil : (P : Event → Type 0) (row : List ℕ) (events : List Event) → events ≡ [] →
-    ((s : ℕ) → has_bit row s ≡ false) → RowIs row P events
-row-nil P row events nil none s = (
-  λ x. absurd (false≢true (sym (none s) ∙ x)),
-  λ x. absurd (empty x.a (subst (λ (es : List Event). Contains es x.a) nil x.of_list)),
-)
-  where
-    empty : (a : Event) → Contains [] a → ⊥
-    empty a c = let l = c.1 in omega arith
 
 module _ (h : Hart) (e : Event) (f : Fits h e) where
   -- a row of what is true of an event by itself: the new event joins it where it passes

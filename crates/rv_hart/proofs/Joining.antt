@@ -1,38 +1,17 @@
 -- The candidates, to which each rule has added what it orders, are enough.
-use Rattle.std.proofs.Common.{◌≡◌, ℕ, ◌+◌, ◌<◌, ◌≤◌, Bool, ◌||◌, ◌&&◌, ◌↔◌, IsTrue, List, length, Contains}
-use Rattle.std.proofs.Common.{◌⊎◌, inl, inr, sym, refl, ◌∙◌, arith, subst}
-use Rattle.std.proofs.lemmas.Bool.{or_cases, or_left, or_right, and_parts, and_from, cases_lt, cases_eq}
+use Rattle.std.proofs.Common.{◌≡◌, ℕ, ◌+◌, ◌<◌, ◌≤◌, List, length, Contains}
+use Rattle.std.proofs.Common.{◌⊎◌, inl, inr, refl, arith, subst}
+use Rattle.std.proofs.lemmas.Bool.{cases_lt, cases_eq}
 use Rattle.rv_event.proofs.Conditions.{Condition-number, Condition-above}
-use Rattle.rv_event.specs.Operations.{IsLoad}
 use Rattle.rv_event.specs.Preserved.{Rule}
 use Rattle.rv_event.specs.declared.event.Event.{Event}
-use Rattle.rv_rows.specs.Bits.{Has, has_bit}
+use Rattle.rv_rows.specs.Bits.{Has}
 use Rattle.rv_rows.specs.Closure.{RowHas}
 use Rattle.rv_hart.specs.Harts.{Hart, followed}
 use Rattle.rv_hart.specs.Rows.{IsOrderedBy, IsCandidate, IsGenerated, IsEnough, RowsMean}
-use Rattle.rv_hart.specs.RuleRows.{RuleRowIs, IsOverlapRow, Adds}
-use Rattle.rv_hart.proofs.Conditions.{different_reads_out}
+use Rattle.rv_hart.specs.RuleRows.{IsOverlapRow, Adds}
 use Rattle.rv_hart.proofs.Knowing.{Fits}
 use Rattle.rv_hart.proofs.Tying.{row_own, rule-old}
-
--- the row of rule 2, added where the event is a load
-pub adds-reads : (h : Hart) (e : Event) (test : Bool) (row reads row' : List ℕ) → IsTrue test ↔ IsLoad e →
-    RuleRowIs h e 2 reads →
-    ((s : ℕ) → has_bit row' s ≡ (has_bit row s || (test && has_bit reads s))) → Adds h e 2 row row'
-adds-reads h e test row reads row' decides are more s = (to, from)
-  where
-    to : Has row' s → Has row s ⊎ IsOrderedBy h e 2 s
-    to x = elim (or_cases (has_bit row s) (test && has_bit reads s) (sym (more s) ∙ x)) [
-      | inl y ↦ inl y
-      | inr y ↦ inr ((are s).0 (and_parts test (has_bit reads s) y).1)
-    ]
-
-    from : Has row s ⊎ IsOrderedBy h e 2 s → Has row' s
-    from (inl y) = more s ∙ or_left (has_bit row s) (test && has_bit reads s) y
-    from (inr o) =
-        let load : IsLoad e = (different_reads_out h.model (followed h e) o.a e o.rule.condition).second in
-        more s ∙ or_right (has_bit row s) (test && has_bit reads s)
-        (and_from test (has_bit reads s) (decides.1 load) ((are s).1 o))
 
 -- the row of rule 1, to which the rules from 2 to this one have added
 pub record AreAdded (h : Hart) (e : Event) (k : ℕ) (first row : List ℕ) : Type 0 where

@@ -6,6 +6,7 @@ pub mod Keeping
 pub mod Knowing
 pub mod Linking
 pub mod Ruling
+pub mod TableParts
 pub mod Staling
 pub mod Tying
 pub mod Walking

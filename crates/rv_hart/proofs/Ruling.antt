@@ -1,11 +1,11 @@
 -- What the conditions of the rules say of a new event, by what is kept of the old ones.
-use Rattle.std.proofs.Common.{◌≡◌, ℕ, Bool, true, false, ◌||◌, ◌&&◌, ◌==◌, ◌<◌, ◌↔◌, List, Contains, IsTrue}
-use Rattle.std.proofs.Common.{IsFalse, ◌⊎◌, inl, inr, sym, refl, ap, ◌∙◌, subst, eqb-true, eq-eqb}
+use Rattle.std.proofs.Common.{◌≡◌, ℕ, Bool, true, false, ◌||◌, ◌&&◌, ◌<◌, ◌↔◌, List, Contains, IsTrue}
+use Rattle.std.proofs.Common.{IsFalse, ◌⊎◌, inl, inr, sym, refl, ap, ◌∙◌, subst}
 use Rattle.std.proofs.lemmas.Bool.{or_cases, or_left, or_right, and_parts, and_from, false≢true, cases_order}
 use Rattle.std.proofs.lemmas.Option.{same_Some}
 use Rattle.std.proofs.lemmas.List.Elements.{Contains-push, All-contains}
 use Rattle.rv_event.proofs.Growing.{Any-contains, Any-from_contains, All-from_contains}
-use Rattle.rv_hart.proofs.Conditions.{different_reads_out, reads_atomic_write_out, fenced_out}
+use Rattle.rv_hart.proofs.Conditions.{reads_atomic_write_out, fenced_out}
 use Rattle.rv_hart.proofs.Conditions.{after_acquire_out, before_release_out, both_rcsc_out, paired_out}
 use Rattle.rv_hart.proofs.Conditions.{address_out, data_of_out, control_out, reads_dependent_write_out}
 use Rattle.rv_hart.proofs.Conditions.{after_dependent_address_out}
@@ -14,7 +14,7 @@ use Rattle.rv_event.specs.Operations.{IsMemory, Returns}
 use Rattle.rv_event.specs.Annotations.{is_annotated, IsAcquire, IsRelease, IsRcsc}
 use Rattle.rv_event.specs.Log.{Earlier, Between, writer}
 use Rattle.rv_event.specs.Relations.{Paired, in_set, fence_orders, Fenced, DependsOn}
-use Rattle.rv_event.specs.Preserved.{Condition, DifferentReads, different_reads, reads_atomic_write, fenced}
+use Rattle.rv_event.specs.Preserved.{Condition, reads_atomic_write, fenced}
 use Rattle.rv_event.specs.Preserved.{after_acquire, before_release, both_rcsc, paired, address, data_of}
 use Rattle.rv_event.specs.Preserved.{control, reads_dependent_write, after_dependent_address}
 use Rattle.rv_event.specs.Preserved.{IsDependentWrite}
@@ -30,7 +30,7 @@ use Rattle.rv_event.specs.declared.memory_model.MemoryModel.TheVariants.{Rvwmo, 
 use Rattle.rv_rows.specs.Bits.{Has, has_bit}
 use Rattle.rv_hart.specs.Harts.{Hart, followed, IsOwnStore}
 use Rattle.rv_hart.specs.Rows.{IsOrderedBy}
-use Rattle.rv_hart.specs.RuleRows.{RuleRowIs, Adds, IsOperationOf, ConditionOf}
+use Rattle.rv_hart.specs.RuleRows.{Adds}
 use Rattle.rv_hart.specs.Sets.{HasEvent, RowIs, IsFencedFor, IsControlling, IsAddressing, IsReserving}
 use Rattle.rv_hart.proofs.Knowing.{Known, Fits, same_event, follows_all, earlier_old, old_new}
 use Rattle.rv_hart.proofs.Absorbing.{has-map, orders_by_kind, depended}
@@ -45,25 +45,6 @@ HasMore P events old new = (s : ℕ) → Has new s ↔ (Has old s ⊎ HasEvent P
 pub more-none : (events : List Event) (row : List ℕ) → HasMore (λ _. ⊥) events row row
 more-none events row s = (λ x. inl x, λ x. elim x [ inl y ↦ y | inr n ↦ absurd n.holds ])
 
--- all of another row, where a test passes
-pub more-when : (P : Event → Type 0) (T : Type 0) (events : List Event) (test : Bool) (row other row' : List ℕ) →
-    IsTrue test ↔ T → RowIs other P events →
-    ((s : ℕ) → has_bit row' s ≡ (has_bit row s || (test && has_bit other s))) → HasMore (λ a. T × P a) events row row'
-more-when P T events test row other row' decides others more s = (to, from)
-  where
-    to : Has row' s → Has row s ⊎ HasEvent (λ a. T × P a) events s
-    to x = elim (or_cases (has_bit row s) (test && has_bit other s) (sym (more s) ∙ x)) [
-      | inl y ↦ inl y
-      | inr y ↦ (let p = and_parts test (has_bit other s) y in inr
-          (has-map P (λ a. T × P a) events events s (λ a c q. (c, (decides.0 p.0, q))) ((others s).0 p.1)))
-    ]
-
-    from : Has row s ⊎ HasEvent (λ a. T × P a) events s → Has row' s
-    from (inl y) = more s ∙ or_left (has_bit row s) (test && has_bit other s) y
-    from (inr x) = more s ∙ or_right (has_bit row s) (test && has_bit other s)
-        (and_from test (has_bit other s) (decides.1 x.holds.0)
-        ((others s).1 (record { a = x.a; of_list = x.of_list; at = x.at; holds = x.holds.1 })))
-
 -- all of another row
 pub more-all : (P : Event → Type 0) (events : List Event) (row other row' : List ℕ) → RowIs other P events →
     ((s : ℕ) → has_bit row' s ≡ (has_bit row s || has_bit other s)) → HasMore P events row row'
@@ -75,26 +56,6 @@ more-all P events row other row' others more s = (
     | inr y ↦ (more s ∙ or_right (has_bit row s) (has_bit other s) ((others s).1 y))
   ],
 )
-
--- one number, where a test passes
-pub more-one : (T : Type 0) (w : Event) (events : List Event) (test : Bool) (row row' : List ℕ) →
-    Contains events w → IsTrue test ↔ T →
-    ((s : ℕ) → has_bit row' s ≡ (has_bit row s || (test && (w.id.seq == s)))) →
-    HasMore (λ a. T × (w ≡ a)) events row row'
-more-one T w events test row row' cw decides more s = (to, from)
-  where
-    to : Has row' s → Has row s ⊎ HasEvent (λ a. T × (w ≡ a)) events s
-    to x = elim (or_cases (has_bit row s) (test && (w.id.seq == s)) (sym (more s) ∙ x)) [
-      | inl y ↦ inl y
-      | inr y ↦ (let p = and_parts test (w.id.seq == s) y in inr
-          (record { a = w; of_list = cw; at = eqb-true w.id.seq s p.1; holds = (decides.0 p.0, refl) }))
-    ]
-
-    from : Has row s ⊎ HasEvent (λ a. T × (w ≡ a)) events s → Has row' s
-    from (inl y) = more s ∙ or_left (has_bit row s) (test && (w.id.seq == s)) y
-    from (inr x) = more s ∙ or_right (has_bit row s) (test && (w.id.seq == s))
-        (and_from test (w.id.seq == s) (decides.1 x.holds.0)
-        (eq-eqb w.id.seq s (ap (λ (y : Event). y.id.seq) x.holds.1 ∙ x.at)))
 
 -- one after the other
 pub more-both : (P Q : Event → Type 0) (events : List Event) (row row' row'' : List ℕ) →
@@ -282,40 +243,7 @@ module _ (h : Hart) (e : Event) (f : Fits h e) (memory : IsMemory e) where
             (says o.a o.of_hart).1 (o.rule.from_memory, o.rule.condition);
       }))
 
-  -- a test of what a rule says of an operation tests the rule's condition
-  pub condition-at : (k : ℕ) (P : Event → Type 0) (test : Bool) (a : Event) → IsOperationOf h a →
-      IsTrue test ↔ P a → ((a : Event) → Contains h.events a → P a ↔ IsUnder k a) → IsTrue test ↔ ConditionOf h e k a
-  condition-at k P test a op decides says = (
-    λ t. ((says a op.of_hart).0 (decides.0 t)).1,
-    λ c. decides.1 ((says a op.of_hart).1 (op.memory, c)),
-  )
-
-  -- an event's number in a row, where a test passes
-  pub has-at : (P : Event → Type 0) (T : Type 0) (test result : Bool) (row : List ℕ) (a : Event) →
-      Contains h.events a → IsTrue test ↔ T → RowIs row P h.events → result ≡ (test && has_bit row a.id.seq) →
-      IsTrue result ↔ (T × P a)
-  has-at P T test result row a ca decides row_is is = (to, from)
-    where
-      to : IsTrue result → T × P a
-      to x =
-          let p = and_parts test (has_bit row a.id.seq) (sym is ∙ x) in
-          let y = (row_is a.id.seq).0 p.1 in
-          (decides.0 p.0, subst P (same_event h f.known y.a a y.of_list ca y.at) y.holds)
-
-      from : T × P a → IsTrue result
-      from x = is ∙ and_from test (has_bit row a.id.seq) (decides.1 x.0)
-          ((row_is a.id.seq).1 (record { a = a; of_list = ca; at = refl; holds = x.1 }))
-
   -- ---- rule 2
-  pub reads-at : (reads : List ℕ) (result : Bool) (a : Event) → IsOperationOf h a → RuleRowIs h e 2 reads →
-      result ≡ has_bit reads a.id.seq → IsTrue result ↔ DifferentReads new a e
-  reads-at reads result a op are is = (
-    λ t. (let o = (are a.id.seq).0 (sym is ∙ t) in subst (λ (x : Event). DifferentReads new x e)
-        (same_event h f.known o.a a o.of_hart op.of_hart o.at)
-        (different_reads_out h.model new o.a e o.rule.condition)),
-    λ d. is ∙ (are a.id.seq).1 (ordered 2 a op.of_hart (op.memory, different_reads d)),
-  )
-
   -- an event that stands before the new one is an old one
   old : (m : Event) → Contains new m → Earlier m e → Contains h.events m
   old m c earlier = earlier_old h e f m c earlier

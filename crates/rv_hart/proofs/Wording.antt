@@ -9,7 +9,7 @@ use Rattle.std.proofs.lemmas.List.{length_push, get_or_append_left, get_or_at, g
 use Rattle.std.proofs.lemmas.List.Elements.{Contains-push_cases, Contains-push, Contains-append_left}
 use Rattle.rv_event.specs.Operations.{is_load, is_store, IsMemory, IsStore}
 use Rattle.rv_event.specs.declared.event.Event.{Event}
-use Rattle.rv_hart.specs.Words.{AreNumbered, IsOfWord, IsAbove, NamesOfWord, IsLastBelow, IsBeforeRun}
+use Rattle.rv_hart.specs.Words.{AreNumbered, IsOfWord, NamesOfWord, IsLastBelow}
 use Rattle.rv_hart.specs.Words.{IsWordLink, IsHighestStore, link_at, AreWords}
 use Rattle.rv_hart.specs.declared.words.WordLink.{WordLink}
 use Rattle.rv_hart.specs.declared.words.Words.{Words}
@@ -62,35 +62,6 @@ module _ (events : List Event) (e : Event) (numbered : AreNumbered events) (next
   -- the word's last operation is the previous one
   pub previous-is : (o : Option ℕ) → IsLastBelow events e.word (length events) o → IsLastBelow events e.word e.id.seq o
   previous-is o last = subst (λ (n : ℕ). IsLastBelow events e.word n o) (sym next) last
-
-  -- a walk may always go on at the previous one
-  pub run-previous : (o : Option ℕ) → IsLastBelow events e.word (length events) o → IsBeforeRun events e o
-  run-previous o last = let p = previous-is o last in
-      record { names = p.names; run = λ m c w above low. absurd (p.none_later m c w above low) }
-
-  -- or where it goes on from the previous one, where that returned the same
-  pub run-longer : (p : ℕ) (o : Option ℕ) (a : Event) → Contains events a → a.id.seq ≡ p →
-      IsLastBelow events e.word (length events) (Some p) → IsBeforeRun events a o → (IsStore a → ⊥) → a.read ≡ e.read →
-      IsBeforeRun events e o
-  run-longer p o a ca at last before plain same = record {
-    names = names-weaker events events e.word a.id.seq e.id.seq o (λ x c. c) (let low = last.names.0 in omega arith)
-        (names-word events a.word e.word a.id.seq o word before.names);
-    run = λ m c w above low. go m c w above low (cases_order m.id.seq p);
-  }
-    where
-      word : a.word ≡ e.word
-      word = ap (λ (x : Event). x.word) (numbered-same events numbered a last.names.1.a ca last.names.1.of_list
-          (at ∙ sym last.names.1.at)) ∙ last.names.1.holds.1
-
-      go : (m : Event) → Contains events m → IsOfWord e.word m → IsAbove o m.id.seq → m.id.seq < e.id.seq →
-          (m.id.seq ≡ p) ⊎ ((m.id.seq < p) ⊎ (p < m.id.seq)) → (IsStore m → ⊥) × (m.read ≡ e.read)
-      go m c w above low (inl is) =
-          let one : a ≡ m = numbered-same events numbered a m ca c (at ∙ sym is) in
-          (λ s. plain (subst IsStore (sym one) s), ap (λ (x : Event). x.read) (sym one) ∙ same)
-      go m c w above low (inr (inl under)) =
-          let r = before.run m c (w.0, w.1 ∙ sym word) above (omega arith) in
-          (r.0, r.1 ∙ same)
-      go m c w above low (inr (inr over)) = absurd (last.none_later m c w over (omega arith))
 
 -- ---- the store of the highest version
 store-of-word : (word : ℕ) (m : Event) → IsStore m → m.word ≡ word → IsOfWord word m

@@ -6,3 +6,4 @@ pub mod Kept
 pub mod RuleRows
 pub mod RuleLinks
 pub mod Linked
+pub mod Parts

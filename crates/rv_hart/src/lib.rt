@@ -10,13 +10,14 @@
 //! - [`sets`]: rows of the events by what a rule asks of them (loads, acquires, what a fence
 //!   orders); they grow with the events. [`words`]: each word's operations, linked from the last
 //!   one back.
-//! - [`rules`], [`walks`]: one row of candidates, to which each rule adds the events that it orders
-//!   before the next one. [`links`]: the candidates thinned, and the next event's links.
-//!   [`lowest`]: the lowest rule of each event that is left, by a test for each rule. [`linked`]:
-//!   the next event's row, from the links into it. [`rows`]: small steps on rows.
+//! - [`rules`]: the table of rules, each with the [`parts`] of the hart that it orders before the
+//!   next event. It gives the row of candidates, and the lowest rule of each that is left.
+//!   [`walks`]: rules 1 and 2, which walk back over a word's operations. [`links`]: the candidates
+//!   thinned, and the next event's links. [`linked`]: the next event's row, from the links into
+//!   it. [`rows`]: small steps on rows.
 //! - `specs/`: a hart and what may follow (`Harts`), its links (`RuleLinks`), what rows mean
-//!   (`Rows`, `RuleRows`, `Linked`), what the sets and the words mean (`Sets`, `Words`), and what
-//!   is kept (`Kept`).
+//!   (`Rows`, `RuleRows`, `Linked`), the parts of the table (`Parts`), what the sets and the words
+//!   mean (`Sets`, `Words`), and what is kept (`Kept`).
 //! - `proofs/OfHart`, `proofs/Reserving`: rules, pairs, stale pairs, faults and reservations are
 //!   the same among a hart's events as in the whole log.
 //!
@@ -30,7 +31,7 @@ mod hart;
 mod kept;
 mod linked;
 mod links;
-mod lowest;
+mod parts;
 mod rows;
 mod rules;
 mod sets;

@@ -22,11 +22,3 @@ pub fn insert_if(row: &mut Row, test: bool, number: usize)
         row.insert(number);
     }
 }
-
-/// Whether the set has the number, where the test passes.
-pub fn has_if(row: &Row, test: bool, number: usize) -> bool
-    requires { number < 4096 }
-    ensures { result ≡ (test && has_bit row.now number) }
-{
-    test && row.has(number)
-}

@@ -1,20 +1,176 @@
-//! What each rule of preserved program order orders before a hart's next memory operation (manual,
-//! section 14.1, "Preserved Program Order"): all of it goes into one row of candidates.
-ghost use Rattle.std.specs.Prelude.{ℕ, ◌≡◌, ◌↔◌, ◌⊎◌, IsTrue, false};
+//! What each rule of preserved program order orders before a hart's next memory operation, as a
+//! table (manual, section 14.1, "Preserved Program Order").
+//!
+//! The candidates are all that the table has; the lowest rule of a candidate is the first whose
+//! parts have it. Rule 1 is not in the table, as its walk stops at a store that all earlier
+//! operations lead to.
+ghost use Rattle.std.specs.Prelude.{ℕ, ◌≡◌, ◌<◌, ◌↔◌, ◌⊎◌, IsTrue, false};
 ghost use Rattle.rv_event.specs.declared.event.Op.TheVariants.{Amo, Sc};
 ghost use Rattle.rv_rows.specs.Bits.{has_bit};
 ghost use Rattle.rv_hart.specs.Harts.{IsReturned};
-ghost use Rattle.rv_hart.specs.Kept.{hart_of, IsAsked};
-ghost use Rattle.rv_hart.specs.Rows.{IsEnough};
-ghost use Rattle.rv_hart.specs.RuleRows.{RuleRowIs, Adds};
+ghost use Rattle.rv_hart.specs.Kept.{hart_of, IsAsked, IsKept};
+ghost use Rattle.rv_hart.specs.Parts.{AddsPart, ArePartsFor, IsIn, IsOfPart, IsPartFor, NamesEvents};
+ghost use Rattle.rv_hart.specs.Rows.{IsCandidate, IsEnough};
+ghost use Rattle.rv_hart.specs.RuleRows.{ConditionOf, IsLowestRule, IsOperationOf, RuleRowIs};
+ghost use Rattle.rv_hart.specs.Sets.{RowIs};
 
 use crate::kept::Kept;
-use crate::rows::{insert_if, join_if};
+use crate::parts::{Part, SetName, part_if};
 use crate::sets::add_dependencies;
-use rv_event::{DepKind, Event, Op, is_rcsc, is_release};
+use rv_event::{DepKind, Event, Op, depends_on, is_overlapping_store, is_rcsc, is_release};
 use rv_rows::Row;
 
 impl Kept {
+    /// The table: the two parts that the rule with this number orders before the event. A number
+    /// that is no rule's has none.
+    #[inline(always)]
+    fn parts(&self, rule: u8, event: &Event, returned: Option<u32>) -> (Part, Part)
+        requires asked { IsAsked self.now event.now }
+        requires returned { IsReturned (hart_of self.now) event.now returned }
+        requires rule { 1 < rule }
+        ensures { ArePartsFor (hart_of self.now) event.now rule result.0 result.1 }
+    {
+        match rule {
+            2 => (Part::Reads, Part::Nothing),
+            3 => (self.atomic_part(event, returned), Part::Nothing),
+            4 => {
+                let loads = part_if(event.is_load(), Part::In(SetName::FencedForLoad));
+                let stores = part_if(event.is_store(), Part::In(SetName::FencedForStore));
+                (loads, stores)
+            }
+            5 => (Part::In(SetName::Acquires), Part::Nothing),
+            6 => {
+                let release = is_release(self.model, event);
+                let before_loads = part_if(release, Part::In(SetName::Loads));
+                let before_stores = part_if(release, Part::In(SetName::Stores));
+                (before_loads, before_stores)
+            }
+            7 => {
+                let rcsc = part_if(is_rcsc(self.model, event), Part::In(SetName::Rcsc));
+                (rcsc, Part::Nothing)
+            }
+            8 => (self.paired_part(event), Part::Nothing),
+            9 => (Part::Named(DepKind::Addr), Part::Nothing),
+            10 => (Part::Named(DepKind::DataOf), Part::Nothing),
+            11 => {
+                let controlled = part_if(event.is_store(), Part::In(SetName::Controlled));
+                (controlled, Part::Nothing)
+            }
+            12 => self.sources_of_write(event, returned),
+            13 => {
+                let addressed = part_if(event.is_store(), Part::In(SetName::Addressed));
+                (addressed, Part::Nothing)
+            }
+            _ => (Part::Nothing, Part::Nothing),
+        }
+    }
+
+    /// Rule 3: the own store that the event returns, where that is an AMO or an SC.
+    fn atomic_part(&self, event: &Event, returned: Option<u32>) -> Part
+        requires asked { IsAsked self.now event.now }
+        requires returned { IsReturned (hart_of self.now) event.now returned }
+        ensures { IsPartFor (hart_of self.now) event.now 3 result }
+    {
+        // Its contract alone speaks of the event.
+        let _ = event;
+        match returned {
+            Some(store) => part_if(is_atomic(self.events[store as usize].op), Part::One(store)),
+            None => Part::Nothing,
+        }
+    }
+
+    /// Rule 8: the LR with which the event, an SC, is paired.
+    fn paired_part(&self, event: &Event) -> Part
+        requires { IsAsked self.now event.now }
+        ensures { IsPartFor (hart_of self.now) event.now 8 result }
+    {
+        match self.sets.reserved {
+            Some(lr) => part_if(event.op == Op::Sc, Part::One(lr)),
+            None => Part::Nothing,
+        }
+    }
+
+    /// Rule 12: what the own store that the event returns depends on.
+    fn sources_of_write(&self, event: &Event, returned: Option<u32>) -> (Part, Part)
+        requires asked { IsAsked self.now event.now }
+        requires returned { IsReturned (hart_of self.now) event.now returned }
+        ensures { ArePartsFor (hart_of self.now) event.now 12 result.0 result.1 }
+    {
+        // Its contract alone speaks of the event.
+        let _ = event;
+        match returned {
+            Some(store) => (
+                Part::NamedBy(store, DepKind::Addr),
+                Part::NamedBy(store, DepKind::DataOf),
+            ),
+            None => (Part::Nothing, Part::Nothing),
+        }
+    }
+
+    /// The set of this name.
+    #[inline(always)]
+    fn set(&self, name: SetName) -> &Row
+        requires { IsKept self.now }
+        ensures { RowIs result.now (IsIn (hart_of self.now) name) self.now.events.items }
+    {
+        match name {
+            SetName::Loads => &self.sets.loads,
+            SetName::Stores => &self.sets.stores,
+            SetName::Acquires => &self.sets.acquires,
+            SetName::Rcsc => &self.sets.rcsc,
+            SetName::FencedForLoad => &self.sets.fenced_for_load,
+            SetName::FencedForStore => &self.sets.fenced_for_store,
+            SetName::Controlled => &self.sets.controlled,
+            SetName::Addressed => &self.sets.addressed,
+        }
+    }
+
+    /// Puts in the events of the part. `reads` is the row of rule 2.
+    #[inline(always)]
+    fn add_part(&self, part: Part, event: &Event, reads: &Row, row: &mut Row)
+        requires asked { IsAsked self.now event.now }
+        requires reads { RuleRowIs (hart_of self.now) event.now 2 reads.now }
+        requires names { NamesEvents (hart_of self.now) part }
+        ensures { AddsPart (hart_of self.now) event.now part row.old row.new }
+    {
+        let loads = &self.sets.loads;
+        let stores = &self.sets.stores;
+        match part {
+            Part::Nothing => {}
+            Part::Reads => row.join(reads),
+            Part::In(name) => row.join(self.set(name)),
+            Part::One(number) => row.insert(number as usize),
+            Part::Named(kind) => add_dependencies(row, event, kind, loads, stores),
+            Part::NamedBy(number, kind) => {
+                let store = &self.events[number as usize];
+                add_dependencies(row, store, kind, loads, stores);
+            }
+        }
+    }
+
+    /// Whether the operation is of the part. `reads` is the row of rule 2.
+    #[inline(always)]
+    fn has_part(&self, part: Part, event: &Event, reads: &Row, met: &Event) -> bool
+        requires asked { IsAsked self.now event.now }
+        requires reads { RuleRowIs (hart_of self.now) event.now 2 reads.now }
+        requires names { NamesEvents (hart_of self.now) part }
+        requires met { IsOperationOf (hart_of self.now) met.now }
+        ensures { IsTrue result ↔ IsOfPart (hart_of self.now) event.now part met.now }
+    {
+        let at = met.id.seq;
+        match part {
+            Part::Nothing => false,
+            Part::Reads => reads.has(at as usize),
+            Part::In(name) => self.set(name).has(at as usize),
+            Part::One(number) => number == at,
+            Part::Named(kind) => depends_on(kind, event, met),
+            Part::NamedBy(number, kind) => {
+                let store = &self.events[number as usize];
+                depends_on(kind, store, met)
+            }
+        }
+    }
+
     /// Puts the candidates into an empty row: what some rule orders before the event, of rule 1
     /// only what the rest leads to. `reads` is the row of rule 2.
     pub fn fill_candidates(&self, event: &Event, returned: Option<u32>, reads: &Row, row: &mut Row)
@@ -24,118 +180,59 @@ impl Kept {
         requires empty { (s : ℕ) → has_bit row.old s ≡ false }
         ensures { IsEnough (hart_of self.now) event.now row.new }
     {
-        let loads = &self.sets.loads;
-        let stores = &self.sets.stores;
         self.fill_overlapping(event, row);
-        self.add_different_reads(event, reads, row);
-        self.add_atomic_write(event, returned, row);
-        self.add_fenced(event, row);
-        self.add_acquires(event, row);
-        self.add_before_release(event, row);
-        self.add_rcsc(event, row);
-        self.add_paired(event, row);
-        add_dependencies(row, event, DepKind::Addr, loads, stores);
-        add_dependencies(row, event, DepKind::DataOf, loads, stores);
-        self.add_controlling(event, row);
-        self.add_sources_of_write(event, returned, row);
-        self.add_addressing(event, row);
+        for rule in 2..14u8 {
+            let (one, other) = self.parts(rule, event, returned);
+            self.add_part(one, event, reads, row);
+            self.add_part(other, event, reads, row);
+        }
     }
 
-    /// Rule 2: its row, where the event is a load.
-    fn add_different_reads(&self, event: &Event, reads: &Row, row: &mut Row)
-        requires { RuleRowIs (hart_of self.now) event.now 2 reads.now }
-        ensures { Adds (hart_of self.now) event.now 2 row.old row.new }
-    {
-        join_if(row, event.is_load(), reads);
-    }
-
-    /// Rule 3: the own store that the event returns, where that is an AMO or an SC.
-    fn add_atomic_write(&self, event: &Event, returned: Option<u32>, row: &mut Row)
+    /// The lowest rule that orders the candidate before the event. `reads` is the row of rule 2.
+    pub fn lowest_rule(
+        &self,
+        event: &Event,
+        returned: Option<u32>,
+        reads: &Row,
+        number: usize,
+    ) -> u8
         requires asked { IsAsked self.now event.now }
         requires returned { IsReturned (hart_of self.now) event.now returned }
-        ensures { Adds (hart_of self.now) event.now 3 row.old row.new }
+        requires reads { RuleRowIs (hart_of self.now) event.now 2 reads.now }
+        requires candidate { IsCandidate (hart_of self.now) event.now number }
+        ensures { IsLowestRule (hart_of self.now) event.now number result }
     {
-        if let Some(store) = returned {
-            let number = store as usize;
-            insert_if(row, is_atomic(self.events[number].op), number);
+        let met = &self.events[number];
+        for rule in 1..14u8 {
+            if self.is_condition(rule, met, event, returned, reads) {
+                return rule;
+            }
         }
+        unreachable!()
     }
 
-    /// Rule 4: what a fence orders before a load, where the event is one, and before a store, where
-    /// it is one.
-    fn add_fenced(&self, event: &Event, row: &mut Row)
-        requires { IsAsked self.now event.now }
-        ensures { Adds (hart_of self.now) event.now 4 row.old row.new }
-    {
-        join_if(row, event.is_load(), &self.sets.fenced_for_load);
-        join_if(row, event.is_store(), &self.sets.fenced_for_store);
-    }
-
-    /// Rule 5: what has an acquire annotation.
-    fn add_acquires(&self, event: &Event, row: &mut Row)
-        requires { IsAsked self.now event.now }
-        ensures { Adds (hart_of self.now) event.now 5 row.old row.new }
-    {
-        row.join(&self.sets.acquires);
-    }
-
-    /// Rule 6: every memory operation, where the event has a release annotation.
-    fn add_before_release(&self, event: &Event, row: &mut Row)
-        requires { IsAsked self.now event.now }
-        ensures { Adds (hart_of self.now) event.now 6 row.old row.new }
-    {
-        let release = is_release(self.model, event);
-        join_if(row, release, &self.sets.loads);
-        join_if(row, release, &self.sets.stores);
-    }
-
-    /// Rule 7: what has an RCsc annotation, where the event has one.
-    fn add_rcsc(&self, event: &Event, row: &mut Row)
-        requires { IsAsked self.now event.now }
-        ensures { Adds (hart_of self.now) event.now 7 row.old row.new }
-    {
-        join_if(row, is_rcsc(self.model, event), &self.sets.rcsc);
-    }
-
-    /// Rule 8: the LR with which the event, an SC, is paired.
-    fn add_paired(&self, event: &Event, row: &mut Row)
-        requires { IsAsked self.now event.now }
-        ensures { Adds (hart_of self.now) event.now 8 row.old row.new }
-    {
-        if let Some(lr) = self.sets.reserved {
-            insert_if(row, event.op == Op::Sc, lr as usize);
-        }
-    }
-
-    /// Rule 11: what a branch depends on, where the event is a store.
-    fn add_controlling(&self, event: &Event, row: &mut Row)
-        requires { IsAsked self.now event.now }
-        ensures { Adds (hart_of self.now) event.now 11 row.old row.new }
-    {
-        join_if(row, event.is_store(), &self.sets.controlled);
-    }
-
-    /// Rule 12: what the own store that the event returns depends on.
-    fn add_sources_of_write(&self, event: &Event, returned: Option<u32>, row: &mut Row)
+    /// Whether the condition of the rule with this number holds between the operation that was met
+    /// and the event.
+    fn is_condition(
+        &self,
+        rule: u8,
+        met: &Event,
+        event: &Event,
+        returned: Option<u32>,
+        reads: &Row,
+    ) -> bool
         requires asked { IsAsked self.now event.now }
+        requires met { IsOperationOf (hart_of self.now) met.now }
         requires returned { IsReturned (hart_of self.now) event.now returned }
-        ensures { Adds (hart_of self.now) event.now 12 row.old row.new }
+        requires reads { RuleRowIs (hart_of self.now) event.now 2 reads.now }
+        requires rule { 0 < rule }
+        ensures { IsTrue result ↔ ConditionOf (hart_of self.now) event.now rule met.now }
     {
-        if let Some(store) = returned {
-            let store = &self.events[store as usize];
-            let loads = &self.sets.loads;
-            let stores = &self.sets.stores;
-            add_dependencies(row, store, DepKind::Addr, loads, stores);
-            add_dependencies(row, store, DepKind::DataOf, loads, stores);
+        if rule == 1 {
+            return is_overlapping_store(met, event);
         }
-    }
-
-    /// Rule 13: what an address depends on, where the event is a store.
-    fn add_addressing(&self, event: &Event, row: &mut Row)
-        requires { IsAsked self.now event.now }
-        ensures { Adds (hart_of self.now) event.now 13 row.old row.new }
-    {
-        join_if(row, event.is_store(), &self.sets.addressed);
+        let (one, other) = self.parts(rule, event, returned);
+        self.has_part(one, event, reads, met) || self.has_part(other, event, reads, met)
     }
 }
 

@@ -1,51 +1,41 @@
-use Rattle.std.proofs.Common.{List, ℕ}
-use Rattle.rv_event.specs.Operations.{IsMemory}
-use Rattle.rv_event.specs.Relations.{DependsOn}
-use Rattle.rv_event.specs.declared.event.DepKind.TheVariants.{Addr, DataOf}
-use Rattle.rv_hart.specs.RuleRows.{Adds}
-use Rattle.rv_hart.proofs.Ruling.{adds, more-named, address-is, data-is}
+-- The rules are added one after the other.
+use Rattle.std.proofs.Common.{◌≡◌, ◌+◌, ◌-◌, ℕ, subst, sym, arith}
+use Rattle.rv_hart.specs.Parts.{ArePartsFor}
 use Rattle.rv_hart.proofs.Joining.{AreAdded, added-none, added-more, enough-added}
+use Rattle.rv_hart.proofs.TableParts.{adds-parts}
 use Rattle.rv_event.specs.declared.event.Event.{Event}
 use Rattle.rv_hart.specs.Harts.{Hart}
 use Rattle.rv_hart.specs.Kept.{hart_of}
 use Rattle.rv_hart.proofs.Knowing.{Fits, fits_of}
 use Rattle.rv_hart.proofs.kept.Kept.fill_candidates.Goals as goal
 
+pub loop-rule-init : goal.loop-rule-init
+loop-rule-init c k is =
+    let h : Hart = hart_of c.args.self.now in
+    let e : Event = c.args.event.now in
+    let one : 1 ≡ k = omega (arith, is) in
+    subst (λ (n : ℕ). AreAdded h e n c.fill_overlapping.new.row c.fill_overlapping.new.row) one
+    (added-none h e c.fill_overlapping.new.row)
+
+pub loop-rule-preserved : goal.loop-rule-preserved
+loop-rule-preserved c k is =
+    let h : Hart = hart_of c.args.self.now in
+    let e : Event = c.args.event.now in
+    let f : Fits h e = fits_of h e c.requires.asked.kept.hart c.requires.asked.follows in
+    let j : ℕ = k - 1 in
+    let before : j + 1 ≡ c.loop-rule.rule = omega (arith, is, c.loop-rule.auto) in
+    let same : j + 1 ≡ k = omega (arith, is, c.loop-rule.auto) in
+    let for : ArePartsFor h e (j + 1) _ _ =
+    subst (λ (n : ℕ). ArePartsFor h e n c.parts-one.result.0 c.parts-one.result.1) (sym before) c.parts-one.ensures in
+    subst (λ (n : ℕ). AreAdded h e n c.fill_overlapping.new.row c.add_part-in-loop-rule.new.row) same
+    (added-more h e j _ _ _ (c.loop-rule.invariant j before)
+    (adds-parts h e f c.requires.asked.memory (j + 1) c.parts-one.result.0 c.parts-one.result.1 c.loop-rule.row
+    c.add_part.new.row c.add_part-in-loop-rule.new.row for c.add_part.ensures c.add_part-in-loop-rule.ensures))
+
 pub returns : goal.returns
 returns c =
     let h : Hart = hart_of c.args.self.now in
     let e : Event = c.args.event.now in
     let f : Fits h e = fits_of h e c.requires.asked.kept.hart c.requires.asked.follows in
-    let memory = c.requires.asked.memory in
-    let loads : List ℕ = c.args.self.now.sets.loads in
-    let stores : List ℕ = c.args.self.now.sets.stores in
-    let are = c.requires.asked.kept.sets in
-    let first : List ℕ = c.fill_overlapping.new.row in
-    let row_8 : List ℕ = c.add_paired.new.row in
-    let row_9 : List ℕ = c.add_dependencies.new.row in
-    let row_10 : List ℕ = c.add_dependencies-2.new.row in
-    let nine : Adds h e 9 row_8 row_9 = adds h e f memory 9 (λ a. IsMemory a × DependsOn Addr e a) row_8 row_9
-    (more-named h f.known e f.hart f.deps Addr loads stores row_8 row_9 are.loads are.stores
-    c.add_dependencies.ensures) (address-is h e f memory) in
-    let ten : Adds h e 10 row_9 row_10 = adds h e f memory 10 (λ a. IsMemory a × DependsOn DataOf e a) row_9 row_10
-    (more-named h f.known e f.hart f.deps DataOf loads stores row_9 row_10 are.loads are.stores
-    c.add_dependencies-2.ensures) (data-is h e f memory) in
-    let to_2 : AreAdded h e 2 first c.add_different_reads.new.row =
-    added-more h e 1 first first _ (added-none h e first) c.add_different_reads.ensures in
-    let to_3 : AreAdded h e 3 first c.add_atomic_write.new.row =
-    added-more h e 2 first _ _ to_2 c.add_atomic_write.ensures in
-    let to_4 : AreAdded h e 4 first c.add_fenced.new.row = added-more h e 3 first _ _ to_3 c.add_fenced.ensures in
-    let to_5 : AreAdded h e 5 first c.add_acquires.new.row = added-more h e 4 first _ _ to_4 c.add_acquires.ensures in
-    let to_6 : AreAdded h e 6 first c.add_before_release.new.row =
-    added-more h e 5 first _ _ to_5 c.add_before_release.ensures in
-    let to_7 : AreAdded h e 7 first c.add_rcsc.new.row = added-more h e 6 first _ _ to_6 c.add_rcsc.ensures in
-    let to_8 : AreAdded h e 8 first row_8 = added-more h e 7 first _ _ to_7 c.add_paired.ensures in
-    let to_9 : AreAdded h e 9 first row_9 = added-more h e 8 first row_8 row_9 to_8 nine in
-    let to_10 : AreAdded h e 10 first row_10 = added-more h e 9 first row_9 row_10 to_9 ten in
-    let to_11 : AreAdded h e 11 first c.add_controlling.new.row =
-    added-more h e 10 first _ _ to_10 c.add_controlling.ensures in
-    let to_12 : AreAdded h e 12 first c.add_sources_of_write.new.row =
-    added-more h e 11 first _ _ to_11 c.add_sources_of_write.ensures in
-    let to_13 : AreAdded h e 13 first c.add_addressing.new.row =
-    added-more h e 12 first _ _ to_12 c.add_addressing.ensures in
-    enough-added h e f first c.add_addressing.new.row c.fill_overlapping.ensures to_13
+    enough-added h e f c.fill_overlapping.new.row c.loop-rule.row c.fill_overlapping.ensures
+    (c.loop-rule.invariant 13 (omega arith))
