@@ -42,7 +42,7 @@ fn refusal_of(
     Ok(Outcome::from(verdict.copy(alloc)?))
 }
 
-/// The fault of the lowest source that has one.
+/// The fault of the lowest source in which one was met.
 fn first_fault(fed: &[Fed]) -> Option<RunFault>
     requires { length fed.now ≤ 8 }
     ensures { IfSome result (IsFaultIn fed.now) }
@@ -81,7 +81,8 @@ fn allowance_of(model: MemoryModel, fed: &[Fed], book: &Book) -> Result<Outcome,
 
 /// What the threads' answers, the verdict and the book come to.
 ///
-/// A verdict comes first, then the fault of the lowest source that has one, then out of memory.
+/// A verdict comes first, then the fault of the lowest source in which one was met, then out of
+/// memory.
 pub(crate) fn judge<S>(
     alloc: Global,
     model: MemoryModel,

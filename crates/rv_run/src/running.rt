@@ -123,8 +123,9 @@ pub fn run_over<RT: Threads + Wait + Sync, R: Read + Send + Drop, C: Carrier + S
 /// # Errors
 /// In this order: `Settings` exactly where a number is out of range; `NoMemory` where a part or a
 /// thread could not be had; where a verdict was found, `Lost` if it is not of what was read, and
-/// `NoMemory` if it could not be copied; `Trace` with the lowest source that has a fault, which is
-/// its own; `NoMemory` where a thread found none; `Lost` where the book is not what was read.
+/// `NoMemory` if it could not be copied; `Trace` with the lowest source in which a fault was met,
+/// which is its own; `NoMemory` where a thread found none; `Lost` where the book is not what was
+/// read. The first fault met ends the run, so a lower source's may be left unread.
 pub fn run<RT: Threads + Wait + Sync, R: Read + Send + Drop>(
     rt: &RT,
     alloc: Global,
