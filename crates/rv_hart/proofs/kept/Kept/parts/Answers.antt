@@ -121,7 +121,8 @@ returns-in-12 c =
     let e : Event = c.args.event.now in
     let f : Fits h e = fits_of h e c.requires.asked.kept.hart c.requires.asked.follows in
     let m = c.requires.asked.memory in
-    subst (λ k. ArePartsFor h e k c.sources_of_write.result.0 c.sources_of_write.result.1) (sym c.in-12.is) c.sources_of_write.ensures
+    subst (λ k. ArePartsFor h e k c.sources_of_write.result.0 c.sources_of_write.result.1) (sym c.in-12.is)
+    c.sources_of_write.ensures
 
 pub returns-in-13 : goal.returns-in-13
 returns-in-13 c =
