@@ -9,7 +9,6 @@ use Rattle.rv_event.specs.declared.event.Id.{Id}
 use Rattle.rv_event.specs.declared.event.Event.{Event}
 use Rattle.rv_event.specs.declared.reason.Reason.{Reason}
 use Rattle.rv_edges.specs.Kept.{Kept, grown}
-use Rattle.rv_edges.specs.Histories.{HasOwnEdge}
 use Rattle.rv_rank.specs.Graph.{Edge, IsCircle}
 use Rattle.rv_book.specs.Adding.{IsFit}
 use Rattle.rv_book.specs.Arranged.{Arranged, nobody, at, IsArranged, EachLeads}
@@ -17,16 +16,6 @@ use Rattle.rv_book.specs.Nodes.{AreNodes}
 use Rattle.rv_book.proofs.CallValues.{ShowsCircle}
 use Rattle.rv_book.proofs.IdWalks.{end_at, end-within, end-past}
 use Rattle.rv_book.proofs.GrownHistories.{grow, old_is_not_new, pred_edge, succ_edge}
-
--- an event with an edge to itself is a circle
-pub leads_itself : (model : MemoryModel) (h : List Kept) (e : Event) → HasOwnEdge model h e →
-    EachLeads model (grown h e) (e.id ∷ [])
-leads_itself model h e own zero l = own
-leads_itself model h e own (suc k) l = absurd (omega arith)
-
--- one id alone is named once
-pub once_itself : (i : Id) → AllPairs (λ i j. i ≢ j) (i ∷ [])
-once_itself i a b d low within q = omega arith
 
 module _ (v : Arranged) (ok : IsArranged v) (k : Kept) (fit : IsFit v k) (preds succs : List ℕ)
     (ins : AreNodes v.ids k.before preds) (outs : AreNodes v.ids k.after succs) (path : List ℕ)

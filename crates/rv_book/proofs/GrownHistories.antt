@@ -14,6 +14,7 @@ use Rattle.rv_event.proofs.Growing.{IsEdge-grows}
 use Rattle.rv_event.proofs.Settled.{grows-push}
 use Rattle.rv_event.specs.declared.event.Id.{Id}
 use Rattle.rv_event.specs.declared.event.Event.{Event}
+use Rattle.rv_event.specs.declared.event.Entry.{Entry}
 use Rattle.rv_event.specs.declared.reason.Link.{Link}
 use Rattle.rv_event.specs.declared.reason.Reason.{Reason}
 use Rattle.rv_edges.specs.Kept.{Kept, happened, grown, Joins, IsKept}
@@ -143,15 +144,16 @@ module _ (v : Arranged) (ok : IsArranged v) (k : Kept) (fit : IsFit v k) where
       ]
 
   -- an event that is no memory operation joins the history alone
-  pub arranged_aside : (IsMemory k.event → ⊥) →
+  pub arranged_aside : (log : List Entry) → (IsMemory k.event → ⊥) →
       IsArranged (record {
         model = v.model;
+        log = log;
         history = v.history ++ k ∷ [];
         edges = v.edges;
         ranks = v.ranks;
         ids = v.ids;
       })
-  arranged_aside aside = record {
+  arranged_aside log aside = record {
     history = IsHistory-push v.model v.history k ok.history fit.joined;
     ordered = ok.ordered;
     long = ok.long;
@@ -309,14 +311,15 @@ module _ (v : Arranged) (ok : IsArranged v) (k : Kept) (fit : IsFit v k) where
       }
 
       -- the history with the event and its node is arranged
-      pub arranged_node : IsArranged (record {
+      pub arranged_node : (log : List Entry) → IsArranged (record {
         model = v.model;
+        log = log;
         history = v.history ++ k ∷ [];
         edges = edges;
         ranks = ranks;
         ids = ids;
       })
-      arranged_node = record {
+      arranged_node log = record {
         history = IsHistory-push v.model v.history k ok.history fit.joined;
         ordered = ordered;
         long = omega (arith, long', nodes, g.long, ordered.long);

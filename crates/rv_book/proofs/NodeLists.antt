@@ -3,17 +3,9 @@ use Rattle.std.proofs.Common.{◌≡◌, ℕ, ◌<◌, List, [], ◌∷◌, ◌+
 use Rattle.std.proofs.lemmas.List.Elements.{Contains-push_cases}
 use Rattle.rv_event.specs.declared.event.Id.{Id}
 use Rattle.rv_event.specs.declared.reason.Link.{Link}
-use Rattle.rv_edges.proofs.Listed.{Contains-old, Contains-last, Contains-none}
+use Rattle.rv_edges.proofs.Listed.{Contains-old, Contains-last}
 use Rattle.rv_book.specs.Arranged.{at}
 use Rattle.rv_book.specs.Nodes.{AreNodes}
-
--- no links have no nodes
-pub nodes_none : (ids : List Id) → AreNodes ids [] []
-nodes_none ids = record {
-  low = λ p c. absurd (Contains-none p c);
-  linked = λ p c. absurd (Contains-none p c);
-  each = λ l c. absurd (Contains-none l c);
-}
 
 -- one link more has one node more
 pub nodes_more : (ids : List Id) (links : List Link) (nodes new : List ℕ) (l : Link) (p : ℕ) →

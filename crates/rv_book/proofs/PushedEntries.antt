@@ -97,12 +97,6 @@ forbidden_of model log h x f none same by is certifies own =
       none = λ some. no_certificate model (events (log ++ x ∷ [])) some.0 some.1 f.certificate c;
     }
 
--- equal logs and arrangements give equal books
-pub booked_same :
-    (log log' : List Entry) (v v' : Arranged) (b : Bool) → log' ≡ log → v' ≡ v → booked_of log' v' b ≡ booked_of log v b
-booked_same log log' v v' b p q = ap (λ (l : List Entry). booked_of l v' b) p ∙
-    ap (λ (w : Arranged). booked_of log w b) q
-
 -- a book with one more entry
 pub taken_of :
     (log new : List Entry) (v w : Arranged) (stopped : Bool) (now : Booked) (x : Entry) →

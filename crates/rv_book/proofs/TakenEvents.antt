@@ -1,6 +1,6 @@
 -- A book that has taken the first of some events.
-use Rattle.std.proofs.Common.{◌≡◌, ℕ, ◌<◌, ◌+◌, ◌-◌, List, [], ◌∷◌, ◌++◌, length, take, sym, ap, ◌∙◌, subst}
-use Rattle.std.proofs.Common.{arith, refl, IsTrue, ◌⊎◌, inl, inr, IsFalse}
+use Rattle.std.proofs.Common.{◌≡◌, ℕ, ◌<◌, ◌+◌, ◌-◌, List, [], ◌∷◌, ◌++◌, length, take, sym, ap, ◌∙◌}
+use Rattle.std.proofs.Common.{arith, refl, IsFalse}
 use Rattle.std.proofs.Math.Seq.{take-append_seam, take-append-add, take-length}
 use Rattle.std.specs.Prelude.{◌==◌, count_by}
 use Rattle.std.proofs.lemmas.List.Sums.{length-filter}
@@ -9,7 +9,6 @@ use Rattle.std.proofs.lemmas.List.{length-map, append-nil, append_assoc, map-app
 use Rattle.std.proofs.lemmas.List.{length-append, length-drop}
 use Rattle.rv_event.specs.declared.event.Event.{Event}
 use Rattle.rv_event.specs.declared.event.Entry.{Entry}
-use Rattle.rv_event.specs.declared.memory_model.MemoryModel.{MemoryModel}
 use Rattle.rv_book.specs.Booked.{Booked, IsTaken}
 use Rattle.rv_chunk.specs.Packing.{Content}
 use Rattle.rv_book.specs.Chunked.{count_of_source, entries_of, HasTaken, StopsAt, IsTurn, IsOfferedAll}

@@ -4,16 +4,15 @@ use Rattle.std.proofs.Common.{[], ◌∷◌, ◌++◌, length, Contains, Option,
 use Rattle.std.proofs.Common.{ap, ◌∙◌, subst, arith, count_by, slice_index_or, slice_set, get_or, replicate}
 use Rattle.std.proofs.Common.{eq-eqb, eqb-true}
 use Rattle.std.specs.List.{list_any}
-use Rattle.std.proofs.lemmas.Bool.{and_parts, and_from, not-false, cases_eq, cases_lt, ne_eqb, false≢true}
+use Rattle.std.proofs.lemmas.Bool.{and_parts, and_from, cases_eq, cases_lt, ne_eqb, false≢true}
 use Rattle.std.proofs.lemmas.Option.{none-some, same_Some}
 use Rattle.std.proofs.lemmas.List.{get_or-set_same, get_or-set_other, get_or-replicate, get_or_past, length-replicate}
 use Rattle.std.proofs.lemmas.List.Sums.{sum_by_push, count_by-le-length}
 use Rattle.std.proofs.lemmas.List.Folds.{Any-from_list_any, list_any-from_Any}
-use Rattle.std.proofs.lemmas.List.Elements.{Contains-push_cases, Contains-append_left, Contains-append_right}
+use Rattle.std.proofs.lemmas.List.Elements.{Contains-push_cases, Contains-append_left}
 use Rattle.rv_event.proofs.Growing.{Any-contains, Any-from_contains}
 use Rattle.rv_event.specs.Faults.{source_fault, fault_if}
 use Rattle.rv_event.specs.declared.event.Entry.{Entry}
-use Rattle.rv_event.specs.declared.fault.Fault.{Fault}
 use Rattle.rv_event.specs.declared.fault.Fault.TheVariants.{OtherSource}
 use Rattle.rv_edges.proofs.Listed.{Contains-last, Contains-none}
 use Rattle.rv_book.specs.Tallied.{IsTallied}

@@ -6,6 +6,7 @@ use Rattle.rv_event.specs.Edges.{IsEdge, IsStale}
 use Rattle.rv_event.specs.declared.memory_model.MemoryModel.{MemoryModel}
 use Rattle.rv_event.specs.declared.event.Id.{Id}
 use Rattle.rv_event.specs.declared.event.Event.{Event}
+use Rattle.rv_event.specs.declared.event.Entry.{Entry}
 use Rattle.rv_event.specs.declared.reason.Reason.{Reason}
 use Rattle.rv_cert.specs.declared.certificate.Certificate.{Certificate}
 use Rattle.rv_cert.specs.declared.certificate.Certificate.TheVariants.{Circle, Stale}
@@ -13,9 +14,10 @@ use Rattle.rv_edges.specs.Kept.{Kept, happened, IsKept}
 use Rattle.rv_edges.specs.Histories.{IsHistory}
 use Rattle.rv_rank.specs.Graph.{Edge, IsOrder}
 
--- a model, a history, the edges and ranks of its nodes, and their ids
+-- a model, a log, its history, the edges and ranks of the history's nodes, and their ids
 pub record Arranged : Type 0 where
   pub model : MemoryModel
+  pub log : List Entry
   pub history : List Kept
   pub edges : List (List ℕ)
   pub ranks : List ℕ

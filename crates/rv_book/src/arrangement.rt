@@ -5,19 +5,20 @@ ghost use Rattle.rv_event.specs.Faults.{event_fault, first_faults, lowest};
 ghost use Rattle.rv_event.specs.Operations.{IsMemory};
 ghost use Rattle.rv_event.specs.Orders.{Lawful};
 ghost use Rattle.rv_event.specs.declared.reason.Link.{Link};
-ghost use Rattle.rv_cert.specs.Certificates.{Certifies};
 ghost use Rattle.rv_edges.specs.Kept.{happened, grown};
 ghost use Rattle.rv_edges.specs.Histories.{kept_of};
-ghost use Rattle.rv_book.specs.Arranged.{at, EachLeads, IsOwn, order_of};
+ghost use Rattle.rv_book.specs.Adding.{IsRefused};
+ghost use Rattle.rv_book.specs.Arranged.{at, EachLeads, order_of};
 ghost use Rattle.rv_book.specs.Counts.{is_waiting};
 ghost use Rattle.rv_book.specs.Nodes.{AreNodes, HasNode};
 
 use crate::closing::close;
+use crate::evidence::evidence_of;
 use crate::hints::Hints;
 use crate::nodes::{find_nodes, ids_at, ids_of};
-use rv_cert::{Certificate, Circle};
+use rv_cert::{Certificate, Circle, Evidence};
 use rv_edges::{Around, History};
-use rv_event::{Event, Fault, Id, MemoryModel, NoMemory};
+use rv_event::{Entry, Event, Fault, Id, MemoryModel, NoMemory};
 use rv_rank::{Ranks, Refused};
 use std::alloc::Global;
 use std::marker::Model;
@@ -27,8 +28,8 @@ use std::marker::Model;
 pub enum Added {
     /// It joined the history.
     Taken,
-    /// No order is lawful with it, as the certificate shows.
-    Refused(Certificate),
+    /// No order is lawful with it, as the certificate shows in the log followed by its entry.
+    Refused(Evidence, Certificate),
 }
 
 /// A history with an order of its memory operations that every edge respects.
@@ -53,6 +54,7 @@ impl Model for Arrangement {
 
     ghost view = { λ a. record {
       model = a.history.model;
+      log = a.history.log;
       history = a.history.kept;
       edges = a.ranks.edges;
       ranks = a.ranks.ranks;
@@ -61,6 +63,7 @@ impl Model for Arrangement {
 
     ghost invariant = { λ a. IsArranged (record {
       model = a.history.model;
+      log = a.history.log;
       history = a.history.kept;
       edges = a.ranks.edges;
       ranks = a.ranks.ranks;
@@ -74,6 +77,7 @@ impl Arrangement {
     /// No events.
     pub fn new(alloc: Global, model: MemoryModel) -> Self
         ensures model { result.model ≡ model }
+        ensures log { result.log ≡ [] }
         ensures history { result.history ≡ [] }
     {
         Arrangement {
@@ -93,6 +97,13 @@ impl Arrangement {
         ensures lawful { Lawful self.now.model (happened self.now.history) (order_of self.now.ranks self.now.ids) }
     {
         self.history.model()
+    }
+
+    /// The entries whose events are the history, in the order in which they came.
+    pub fn log(&self) -> &[Entry]
+        ensures { result.now ≡ self.now.log }
+    {
+        self.history.entries()
     }
 
     /// The ids of the memory operations, in the order.
@@ -120,49 +131,51 @@ impl Arrangement {
             && self.history.writer(event.word, event.read).is_none()
     }
 
-    /// Adds the event where some order is lawful with it.
-    pub fn add(&mut self, event: &Event) -> Result<Added, NoMemory>
-        requires sound { event_fault (happened self.old.history) event.now ≡ None }
+    /// Adds the entry where some order is lawful with its event.
+    ///
+    /// # Errors
+    /// `NoMemory` where it could not be kept; nothing changes, but the entry is gone.
+    pub fn add(&mut self, entry: Entry) -> Result<Added, NoMemory>
+        requires sound { event_fault (happened self.old.history) entry.event ≡ None }
         requires room { length self.old.history < 65536 }
-        ensures added { IfOk result (IsAdded self.old self.new event.now) }
+        ensures added { IfOk result (IsAdded self.old self.new entry) }
         ensures unchanged { OnErr result (self.new ≡ self.old) }
     {
-        let around = self.history.around(event)?;
+        let around = self.history.around(&entry.event)?;
         if around.itself {
-            let circle = circle_of(self.alloc, &self.history, self.ids.as_slice(), event, &[])?;
-            return Ok(Added::Refused(circle));
+            return refuse(self.alloc, &self.history, self.ids.as_slice(), &entry, &[]);
         }
         if let Some(store) = around.stale {
-            return Ok(Added::Refused(Certificate::Stale {
-                load: event.id,
-                store,
-            }));
+            let evidence = evidence_of(self.alloc, self.history.entries(), &entry)?;
+            let load = entry.event.id;
+            return Ok(Added::Refused(evidence, Certificate::Stale { load, store }));
         }
-        if event.is_memory() {
-            return self.place(event, &around);
+        if entry.event.is_memory() {
+            return self.place(entry, &around);
         }
-        self.history.push(event, &around)?;
+        self.history.push_entry(entry, &around)?;
         Ok(Added::Taken)
     }
 
-    /// Adds the memory operation where its edges close no circle.
-    fn place(&mut self, event: &Event, around: &Around) -> Result<Added, NoMemory>
-        requires fit { IsFit self.old (kept_of event.now around.now) }
+    /// Adds the entry of a memory operation where its edges close no circle.
+    fn place(&mut self, entry: Entry, around: &Around) -> Result<Added, NoMemory>
+        requires fit { IsFit self.old (kept_of entry.event around.now) }
         requires room { length self.old.history < 65536 }
-        requires memory { IsMemory event.now }
-        ensures added { IfOk result (IsAdded self.old self.new event.now) }
+        requires memory { IsMemory entry.event }
+        ensures added { IfOk result (IsAdded self.old self.new entry) }
         ensures unchanged { OnErr result (self.new ≡ self.old) }
     {
+        let id = entry.event.id;
         self.ids.reserve(1)?;
-        self.hints.note(event.id, self.ids.len() as u32)?;
+        self.hints.note(id, self.ids.len() as u32)?;
         let ids = self.ids.as_slice();
         find_ends(ids, &self.hints, around, &mut self.preds, &mut self.succs)?;
-        self.history.push(event, around)?;
+        self.history.push_entry(entry, around)?;
         let preds = self.preds.as_slice();
         let succs = self.succs.as_slice();
         match self.ranks.place(preds, succs) {
             Ok(_) => {
-                self.ids.push(event.id).unwrap();
+                self.ids.push(id).unwrap();
                 Ok(Added::Taken)
             }
             Err(Refused::NoMemory) => {
@@ -170,11 +183,10 @@ impl Arrangement {
                 Err(NoMemory)
             }
             Err(Refused::Circle(path)) => {
-                self.history.pop();
+                let last = self.history.pop();
                 let names = self.ids.as_slice();
                 let nodes = path.as_slice();
-                let circle = circle_of(self.alloc, &self.history, names, event, nodes)?;
-                Ok(Added::Refused(circle))
+                refuse(self.alloc, &self.history, names, &last, nodes)
             }
         }
     }
@@ -201,22 +213,24 @@ fn find_ends(
     find_nodes(ids, hints, after, succs)
 }
 
-/// The circle from the event through the nodes of the path.
-fn circle_of(
+/// The refusal of the entry by the circle from its event through the nodes of the path.
+fn refuse(
     alloc: Global,
     history: &History,
     ids: &[Id],
-    event: &Event,
+    entry: &Entry,
     path: &[u32],
-) -> Result<Certificate, NoMemory>
+) -> Result<Added, NoMemory>
     requires low { All (λ a. a < length ids.now) path.now }
-    requires leads { EachLeads history.now.model (grown history.now.kept event.now)
-        (event.now.id ∷ map (at ids.now) path.now) }
-    requires once { AllPairs (λ i j. i ≢ j) (event.now.id ∷ map (at ids.now) path.now) }
-    ensures { IfOk result (λ c. Certifies history.now.model (grown history.now.kept event.now) c × IsOwn event.now c) }
+    requires leads { EachLeads history.now.model (grown history.now.kept entry.now.event)
+        (entry.now.event.id ∷ map (at ids.now) path.now) }
+    requires once { AllPairs (λ i j. i ≢ j) (entry.now.event.id ∷ map (at ids.now) path.now) }
+    ensures { IfOk result (IsRefused history.now entry.now) }
 {
-    let log = history.entries_with(event)?;
-    let walk = ids_of(alloc, event.id, ids, path)?;
-    let steps = close(alloc, history.model(), log.as_slice(), walk.as_slice())?;
-    Ok(Certificate::Circle(Circle::from_vec(steps)))
+    let evidence = evidence_of(alloc, history.entries(), entry)?;
+    let walk = ids_of(alloc, entry.event.id, ids, path)?;
+    let log = evidence.as_slice();
+    let steps = close(alloc, history.model(), log, walk.as_slice())?;
+    let circle = Certificate::Circle(Circle::from_vec(steps));
+    Ok(Added::Refused(evidence, circle))
 }

@@ -8,8 +8,9 @@ ghost use Rattle.rv_event.specs.WellFormed.{WellFormed};
 
 use crate::arrangement::{Added, Arrangement};
 use crate::counts::count_operations;
+use crate::evidence::evidence_of;
 use crate::tally::Tally;
-use rv_cert::{Evidence, Forbidden, Malformed, Verdict};
+use rv_cert::{Forbidden, Malformed, Verdict};
 use rv_chunk::{Chunk, unpack};
 use rv_event::{Entry, Event, Fault, Id, MemoryModel, NoMemory, find_deps_fault};
 use std::alloc::Global;
@@ -55,7 +56,6 @@ pub enum ChunkOffer {
 #[derive(Drop)]
 pub struct Book {
     alloc: Global,
-    entries: Vec<Entry>,
     arrangement: Arrangement,
     tally: Tally,
     stopped: bool,
@@ -67,10 +67,11 @@ impl Model for Book {
 
     ghost Value = { Booked };
 
-    ghost view = { λ b. booked_of b.entries.items b.arrangement b.stopped };
+    ghost view = { λ b. booked_of b.arrangement.log b.arrangement b.stopped };
 
     ghost invariant = { λ b.
-        IsBooked b.entries.items b.arrangement × IsTallied b.entries.items b.tally.sources b.tally.counts };
+        IsBooked b.arrangement.log b.arrangement
+        × IsTallied b.arrangement.log b.tally.sources b.tally.counts };
 }
 
 impl Book {
@@ -91,7 +92,6 @@ impl Book {
         let _model = arrangement.model();
         Book {
             alloc,
-            entries: Vec::new(alloc),
             arrangement,
             tally: Tally::new(),
             stopped: false,
@@ -111,7 +111,7 @@ impl Book {
         ensures value { result.now ≡ self.now.log }
         ensures well_formed { WellFormed self.now.log }
     {
-        self.entries.as_slice()
+        self.arrangement.log()
     }
 
     /// Whether an entry was refused as malformed or forbidden.
@@ -125,7 +125,7 @@ impl Book {
     pub fn accepted(&self) -> usize
         ensures { result ≡ length self.now.log }
     {
-        self.entries.len()
+        self.arrangement.log().len()
     }
 
     /// How many of them came from the source. It takes no memory, and costs one look-up.
@@ -139,7 +139,7 @@ impl Book {
     pub fn operations(&self) -> usize
         ensures { result ≡ operations_of self.now.log }
     {
-        count_operations(self.entries.as_slice())
+        count_operations(self.arrangement.log())
     }
 
     /// How many of them are loads whose store has not come. It takes no memory, and costs one
@@ -148,7 +148,8 @@ impl Book {
         ensures { result ≡ waiting_of self.now.log }
     {
         let arrangement = &self.arrangement;
-        self.entries
+        arrangement
+            .log()
             .iter()
             .filter(|x| arrangement.is_waiting(&x.event))
             .count()
@@ -175,6 +176,24 @@ impl Book {
         ensures malformed { IfMalformed result (IsMalformedOn self.old.model self.old.log entry.now) }
         ensures forbidden { IfForbidden result (IsForbiddenOn self.old.model self.old.log entry.now) }
 
+        ensures refused { OnRefused result (self.new ≡ record self.old { stopped = true }) }
+        ensures stopped { (result ≡ offer.Stopped) ↔ IsTrue self.old.stopped }
+        ensures unjudged { OnUnjudged result (self.new ≡ self.old) }
+    {
+        if self.stopped {
+            return Offer::Stopped;
+        }
+        match entry.copy(self.alloc) {
+            Ok(copy) => self.take(copy),
+            Err(NoMemory) => Offer::NoMemory,
+        }
+    }
+
+    /// Offers an entry that the book keeps where it takes it.
+    fn take(&mut self, entry: Entry) -> Offer
+        ensures accepted { OnAccepted result (IsTaken self.old self.new entry) }
+        ensures malformed { IfMalformed result (IsMalformedOn self.old.model self.old.log entry) }
+        ensures forbidden { IfForbidden result (IsForbiddenOn self.old.model self.old.log entry) }
         ensures refused { OnRefused result (self.new ≡ record self.old { stopped = true }) }
         ensures stopped { (result ≡ offer.Stopped) ↔ IsTrue self.old.stopped }
         ensures unjudged { OnUnjudged result (self.new ≡ self.old) }
@@ -232,7 +251,7 @@ impl Book {
     {
         let count = events.len();
         for event in events {
-            match self.offer(&Entry { source, event }) {
+            match self.take(Entry { source, event }) {
                 Offer::Accepted => {}
                 Offer::Malformed(malformed) => {
                     return ChunkOffer::Halted(Verdict::Malformed(malformed));
@@ -261,42 +280,29 @@ impl Book {
     }
 
     /// Takes the entry, or says why not.
-    fn judge(&mut self, entry: &Entry) -> Result<Option<Verdict>, NoMemory>
-        ensures judged { IfOk result (IsJudged self.old self.new entry.now) }
+    fn judge(&mut self, entry: Entry) -> Result<Option<Verdict>, NoMemory>
+        ensures judged { IfOk result (IsJudged self.old self.new entry) }
         ensures unchanged { OnErr result (self.new ≡ self.old) }
     {
         let model = self.arrangement.model();
-        if let Some(fault) = self.fault(entry) {
-            let evidence = evidence_of(self.alloc, self.entries.as_slice(), entry)?;
+        if let Some(fault) = self.fault(&entry) {
+            let evidence = evidence_of(self.alloc, self.arrangement.log(), &entry)?;
             return Ok(Some(Verdict::Malformed(Malformed::new(model, evidence, fault))));
         }
-        self.entries.reserve(1)?;
-        let copy = entry.copy(self.alloc)?;
-        let added = self.arrangement.add(&entry.event)?;
+        let added = self.arrangement.add(entry)?;
         // For the proof alone, which has from this call that the model stayed.
         let _model = self.arrangement.model();
         match added {
             Added::Taken => {
-                self.entries.push(copy).unwrap();
-                self.tally.add(entry);
+                let Some(last) = self.arrangement.log().last() else {
+                    unreachable!()
+                };
+                self.tally.add(last);
                 Ok(None)
             }
-            Added::Refused(certificate) => {
-                let evidence = evidence_of(self.alloc, self.entries.as_slice(), entry)?;
+            Added::Refused(evidence, certificate) => {
                 Ok(Some(Verdict::Forbidden(Forbidden::new(model, evidence, certificate))))
             }
         }
     }
-}
-
-/// The entries and the new one.
-fn evidence_of(alloc: Global, entries: &[Entry], entry: &Entry) -> Result<Evidence, NoMemory>
-    ensures { IfOk result (λ log. log ≡ entries.now ++ entry.now ∷ []) }
-{
-    let mut log = Vec::new(alloc);
-    for one in entries {
-        log.push(one.copy(alloc)?)?;
-    }
-    log.push(entry.copy(alloc)?)?;
-    Ok(Evidence::from_vec(log))
 }

@@ -8,8 +8,8 @@
 //!
 //! Inside, three layers: [`arrangement`] is a history whose memory operations are nodes of an order
 //! keeper, so that every edge goes forward; [`book`] adds the entries and the faults, with what
-//! [`tally`] counts of the log; [`closing`] and [`nodes`] make certificates and node lists, the
-//! latter by [`hints`] that are looked at before they are believed.
+//! [`tally`] counts of the log; [`closing`], [`evidence`] and [`nodes`] make certificates, their logs
+//! and node lists, the latter by [`hints`] that are looked at before they are believed.
 //!
 //! It stands on `rv_event`, `rv_chunk`, `rv_cert`, `rv_cover`, `rv_edges` and `rv_rank`. Its one
 //! contract to the others: the log is well formed, its order is lawful, and each answer is exact.
@@ -19,6 +19,7 @@ mod arrangement;
 mod book;
 mod closing;
 mod counts;
+mod evidence;
 mod hints;
 mod laws;
 mod nodes;

@@ -16,8 +16,11 @@ use Rattle.rv_edges.specs.Indexes.{AreIndexes, hart_of, hart_from, hart_in}
 use Rattle.rv_edges.proofs.Carrying.{indexed_from_IsHistory}
 use Rattle.rv_edges.proofs.Sides.{happened-kept_from}
 
-module _ (model : MemoryModel) (log : List Event) (harts : List Hart) (links : List OwnLinks)
-    (known : AreIndexes model log harts links) where
+module _ (model : MemoryModel) (entries : List Entry) (harts : List Hart) (links : List OwnLinks)
+    (known : AreIndexes model (events entries) harts links) where
+  abbrev log : List Event
+  log = events entries
+
   -- the events of the history are those of the log
   pub happened-is : happened (kept_from log links) ≡ log
   happened-is = happened-kept_from log links known.lengths
@@ -26,7 +29,9 @@ module _ (model : MemoryModel) (log : List Event) (harts : List Hart) (links : L
   pub indexed-is : Indexed (happened (kept_from log links))
   indexed-is = indexed_from_IsHistory model (kept_from log links) known.history
 
-  module _ (past : Past) (view : record { model = model; kept = kept_from log links } ≡ past) where
+  module _ (past : Past)
+      (view : record { model = model; log = entries; kept = kept_from (events entries) links } ≡ past) where
+    -- the events of the log are those of the history
     pub log-is : log ≡ happened past.kept
     log-is = sym happened-is ∙ ap (λ (w : Past). happened w.kept) view
 
@@ -35,12 +40,12 @@ module _ (model : MemoryModel) (log : List Event) (harts : List Hart) (links : L
     past-indexed = subst (λ (w : Past). Indexed (happened w.kept)) view indexed-is
 
     -- there are at most 65,536
-    pub past-few : (entries : List Entry) → events entries ≡ happened past.kept → length entries ≤ 65536
-    past-few entries e =
+    pub past-few : length entries ≤ 65536
+    past-few =
         omega (
           arith,
           length-Indexed (happened past.kept) past-indexed,
-          ap (λ (es : List Event). length es) e,
+          ap (λ (es : List Event). length es) log-is,
           length-map entries (λ (x : Entry). x.event),
         )
 

@@ -1,5 +1,5 @@
 -- The harts of a history when an event comes or goes.
-use Rattle.std.proofs.Common.{◌≡◌, ◌≢◌, ℕ, ◌+◌, ◌-◌, ◌<◌, ◌≤◌, ◌==◌, Bool, false, cond, List, [], ◌∷◌, ◌++◌}
+use Rattle.std.proofs.Common.{◌≡◌, ◌≢◌, ℕ, ◌-◌, ◌<◌, ◌≤◌, ◌==◌, Bool, false, cond, List, [], ◌∷◌, ◌++◌}
 use Rattle.std.proofs.Common.{length, Some, ◌⊎◌, inl, inr, refl, sym, ap, ◌∙◌, subst, arith, slice_set}
 use Rattle.std.proofs.Common.{slice_get, slice_index_or, length-append, append-nil, get_or}
 use Rattle.std.proofs.lemmas.Bool.{cases_eq, cases_lt, ne_eqb}
@@ -13,7 +13,6 @@ use Rattle.rv_event.specs.declared.event.Entry.{Entry}
 use Rattle.rv_event.specs.declared.memory_model.MemoryModel.{MemoryModel}
 use Rattle.rv_hart.specs.Harts.{Hart, hart_with}
 use Rattle.rv_hart.proofs.OfHart.{own-push}
-use Rattle.rv_hart.proofs.Reserving.{last_of}
 use Rattle.rv_edges.specs.Indexes.{hart_of, hart_from}
 
 -- another hart's events stay
@@ -113,24 +112,30 @@ harts-pop model front harts e was is own at same_model same_number popped =
     λ i. record { model = (same_model ∙ l.0) i; number = (same_number ∙ l.1) i; events = less i } in
     harts-set model (front ++ e ∷ []) front harts n is own within more (λ h other. other-push front e h other)
 
--- a list that has a last element ends with it
-pub ends_with : {X : Type 0} (xs : List X) (x : X) → slice_get xs (length xs - 1) ≡ Some x → (front : List X) ×
-    (xs ≡ front ++ x ∷ [])
-ends_with [] x e = absurd (Rattle.std.proofs.lemmas.Option.none-some x e)
-ends_with {X} (z ∷ xs) x e =
-    let r = last_of z xs in
-    let len : length (z ∷ xs) ≡ length r.0 + 1 = ap length r.2 ∙ length-append r.0 (r.1 ∷ []) in
-    let at : length (z ∷ xs) - 1 ≡ length r.0 = omega (arith, len) in
-    let got : get_or (z ∷ xs) (length (z ∷ xs) - 1) x ≡ x =
-    get_or_from_slice_get (z ∷ xs) (length (z ∷ xs) - 1) x x e in
-    let seam : get_or (r.0 ++ r.1 ∷ []) (length r.0) x ≡ r.1 = get_or-append_seam r.0 r.1 [] x in
-    let same : r.1 ≡ x = sym seam ∙ ap (λ (ys : List X). get_or ys (length r.0) x) (sym r.2) ∙
-    ap (λ k. get_or (z ∷ xs) k x) (sym at) ∙ got in
-    (r.0, r.2 ∙ ap (λ (y : X). r.0 ++ y ∷ []) same)
+-- the events of a log without its last entry
+pub events-pop : (log front : List Entry) (x : Entry) → log ≡ front ++ x ∷ [] → events log ≡ events front ++ x.event ∷ []
+events-pop log front x is = ap events is ∙ map-append (λ (y : Entry). y.event) front (x ∷ [])
 
--- so do its events
-pub last_event : (es : List Entry) (x : Entry) → slice_get es (length es - 1) ≡ Some x → (front : List Event) ×
-    (events es ≡ front ++ x.event ∷ [])
-last_event es x e =
-    let r = ends_with es x e in
-    (events r.0, ap events r.1 ∙ map-append (λ (y : Entry). y.event) r.0 (x ∷ []))
+-- the last entry of a log is the one that was added last
+pub last_pushed : {X : Type 0} (xs front : List X) (x y : X) → xs ≡ front ++ x ∷ [] →
+    slice_get xs (length xs - 1) ≡ Some y → y ≡ x
+last_pushed {X} xs front x y is e =
+    let at : length xs - 1 ≡ length front = omega (arith, ap length is, length-append front (x ∷ [])) in
+    sym (get_or_from_slice_get xs (length xs - 1) y y e) ∙ ap (λ k. get_or xs k y) at
+    ∙ ap (λ (ys : List X). get_or ys (length front) y) is ∙ get_or-append_seam front x [] y
+
+-- the harts of a log, by its front and its last entry
+pub own-front :
+    (model : MemoryModel) (log front : List Entry) (harts : List Hart) (x : Entry) → log ≡ front ++ x ∷ [] →
+    ((h : ℕ) → hart_of model harts h ≡ hart_from model (events log) h) →
+    (h : ℕ) → hart_of model harts h ≡ hart_from model (events front ++ x.event ∷ []) h
+own-front model log front harts x is own h =
+    own h ∙ ap (λ (es : List Event). hart_from model es h) (events-pop log front x is)
+
+-- a hart that is found in a list which was made longer is the log's
+pub found-hart :
+    (model : MemoryModel) (log : List Event) (harts : List Hart) (n : ℕ) (found : Hart) →
+    ((h : ℕ) → hart_of model harts h ≡ hart_from model log h) → n < length harts →
+    found ≡ slice_index_or harts n found → found ≡ hart_from model log n
+found-hart model log harts n found own within at =
+    at ∙ get_or_default harts n found (record { model = model; number = n; events = [] }) within ∙ own n

@@ -1,8 +1,6 @@
 -- Entries and links side by side.
-use Rattle.std.proofs.Common.{◌≡◌, List, [], ◌∷◌, ◌++◌, length, Option, Some, None, IsSome, ◌<◌, ◌≢◌, ◌⊎◌}
+use Rattle.std.proofs.Common.{◌≡◌, List, [], ◌∷◌, ◌++◌, length, ◌⊎◌}
 use Rattle.std.proofs.Common.{inl, inr, refl, sym, ap, ◌∙◌, arith, length-append}
-use Rattle.std.proofs.lemmas.Bool.{false≢true}
-use Rattle.std.specs.Option.{option_to_list}
 use Rattle.rv_event.proofs.Pushed.{split_push}
 use Rattle.rv_event.specs.declared.event.Event.{Event}
 use Rattle.rv_edges.specs.OwnLinks.{OwnLinks}
@@ -36,19 +34,11 @@ pub record Popped (xs ys : List Event) (ls ms : List OwnLinks) : Type 0 where
   pub last : Kept
   pub cut : kept_from xs ls ≡ kept_from ys ms ++ last ∷ []
 
-some_entries : (xs : List Event) (ls : List OwnLinks) → kept_from xs ls ≢ [] → 0 < length xs
-some_entries [] ls some = absurd (some refl)
-some_entries (x ∷ xs) ls some = omega arith
-
 -- and with one less
 pub popped_sides :
-    (xs ys : List Event) (ls ms : List OwnLinks) (o : Option Event) (p : Option OwnLinks) → length xs ≡ length ls →
-    xs ≡ ys ++ option_to_list o → ls ≡ ms ++ option_to_list p → kept_from xs ls ≢ [] →
-    (0 < length xs → IsSome o) → (0 < length ls → IsSome p) → Popped xs ys ls ms
-popped_sides xs ys ls ms None p same e f some there there' = absurd (false≢true (there (some_entries xs ls some)))
-popped_sides xs ys ls ms (Some x) None same e f some there there' =
-    absurd (false≢true (there' (omega (arith, same, some_entries xs ls some))))
-popped_sides xs ys ls ms (Some x) (Some l) same e f some there there' =
+    (xs ys : List Event) (ls ms : List OwnLinks) (x : Event) (l : OwnLinks) → length xs ≡ length ls →
+    xs ≡ ys ++ x ∷ [] → ls ≡ ms ++ l ∷ [] → Popped xs ys ls ms
+popped_sides xs ys ls ms x l same e f =
     let lengths : length ys ≡ length ms =
     omega (arith, same, ap length e, ap length f, length-append ys (x ∷ []), length-append ms (l ∷ [])) in
     record {

@@ -1,15 +1,16 @@
 -- What the links of a history promise.
-use Rattle.std.specs.Prelude.{◌≡◌, ◌≢◌, ◌⊎◌, ◌++◌, List, ◌∷◌, Option, Some, None}
+use Rattle.std.specs.Prelude.{◌≡◌, ◌≢◌, ◌⊎◌, ◌++◌, List, [], ◌∷◌, Option, Some, None}
 use Rattle.rv_event.specs.Edges.{IsEdge, IsLowest, IsStale}
 use Rattle.rv_event.specs.Faults.{event_fault}
 use Rattle.rv_event.specs.declared.event.Id.{Id}
 use Rattle.rv_event.specs.declared.event.Event.{Event}
+use Rattle.rv_event.specs.declared.event.Entry.{Entry}
 use Rattle.rv_event.specs.declared.memory_model.MemoryModel.{MemoryModel}
 use Rattle.rv_event.specs.declared.reason.Reason.{Reason}
 use Rattle.rv_edges.specs.declared.history.Around.{Around}
 use Rattle.rv_cover.specs.Paths.{Covers}
 use Rattle.rv_cover.specs.Carries.{Carries}
-use Rattle.rv_edges.specs.Kept.{Kept, happened, grown, Joins, IsKept, Ties, IsTied}
+use Rattle.rv_edges.specs.Kept.{Kept, Past, happened, grown, Joins, IsKept, Ties, IsTied}
 
 -- what the links of an event promise that joins a history
 pub record IsLinked (model : MemoryModel) (history : List Kept) (k : Kept) : Type 0 where
@@ -41,6 +42,11 @@ pub record IsCarried (model : MemoryModel) (history : List Kept) : Type 0 where
 -- the event with the links that were found
 abbrev pub kept_of : Event → Around → Kept
 kept_of e around = record { event = e; before = around.before; after = around.after }
+
+-- the history with the entry, and the links that were found of its event
+abbrev pub with_entry : Past → Entry → Around → Past
+with_entry past x around =
+    record past { log = past.log ++ x ∷ []; kept = past.kept ++ kept_of x.event around ∷ [] }
 
 -- an edge from the event to itself
 abbrev pub HasOwnEdge : MemoryModel → List Kept → Event → Type 0

@@ -2,6 +2,7 @@
 use Rattle.std.specs.Prelude.{◌≡◌, ◌⊎◌, ◌++◌, List, [], ◌∷◌, map, Contains, Any}
 use Rattle.rv_event.specs.declared.event.Id.{Id}
 use Rattle.rv_event.specs.declared.event.Event.{Event}
+use Rattle.rv_event.specs.declared.event.Entry.{Entry}
 use Rattle.rv_event.specs.declared.memory_model.MemoryModel.{MemoryModel}
 use Rattle.rv_event.specs.declared.reason.Link.{Link}
 use Rattle.rv_event.specs.declared.reason.Reason.{Reason}
@@ -13,9 +14,10 @@ pub record Kept : Type 0 where
   pub before : List Link
   pub after : List Link
 
--- a history: a model, and events with their links
+-- a history: a model, a log, and the log's events with their links
 pub record Past : Type 0 where
   pub model : MemoryModel
+  pub log : List Entry
   pub kept : List Kept
 
 -- events and links side by side

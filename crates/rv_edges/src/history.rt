@@ -13,7 +13,7 @@ ghost use Rattle.rv_hart.specs.Harts.{IsReturned};
 ghost use Rattle.rv_hart.specs.RuleLinks.{AreRuleLinks};
 ghost use Rattle.rv_versions.specs.Reserved.{IsReserved};
 ghost use Rattle.rv_edges.specs.Kept.{Kept, happened, grown, IsTied};
-ghost use Rattle.rv_edges.specs.Histories.{IsLinked, IsCarried, kept_of, HasOwnEdge, IsStaleOf};
+ghost use Rattle.rv_edges.specs.Histories.{IsLinked, IsCarried, kept_of, with_entry, HasOwnEdge, IsStaleOf};
 ghost use Rattle.rv_edges.specs.Indexes.{hart_of, hart_in, IsHartIn};
 ghost use Rattle.std.specs.Option.{option_copied, option_map};
 
@@ -44,9 +44,9 @@ pub struct Around {
 
 /// Events, each kept with links to the events before it.
 ///
-/// Contracts see it as its model and a list of events with their links. Its type keeps that each
-/// event has no fault over those before it, and that each one's links are as [`History::around`]
-/// promises.
+/// Contracts see it as its model, its log, and the log's events with their links. Its type keeps
+/// that each event has no fault over those before it, and that each one's links are as
+/// [`History::around`] promises.
 #[derive(Drop)]
 pub struct History {
     alloc: Global,
@@ -57,20 +57,25 @@ pub struct History {
 }
 
 impl Model for History {
+    ghost use Rattle.rv_event.specs.Log.{events};
     ghost use Rattle.rv_edges.specs.Kept.{Past, kept_from};
     ghost use Rattle.rv_edges.specs.Indexes.{AreIndexes};
 
     ghost Value = { Past };
 
-    ghost view = { λ h. record { model = h.model; kept = kept_from h.versions h.links } };
+    ghost view = { λ h. record {
+      model = h.model;
+      log = h.versions;
+      kept = kept_from (events h.versions) h.links;
+    } };
 
-    ghost invariant = { λ h. AreIndexes h.model h.versions h.harts.items h.links };
+    ghost invariant = { λ h. AreIndexes h.model (events h.versions) h.harts.items h.links };
 }
 
 impl History {
     /// No events, under a memory model. It takes no memory; the allocator serves the calls to come.
     pub fn new(alloc: Global, model: MemoryModel) -> Self
-        ensures { result ≡ record { model = model; kept = [] } }
+        ensures { result ≡ record { model = model; log = []; kept = [] } }
     {
         History {
             alloc,
@@ -161,18 +166,18 @@ impl History {
         })
     }
 
-    /// The events of the history and the new one, as entries of source 0: a log for the plain
-    /// program.
-    ///
-    /// # Errors
-    /// `NoMemory` where the list or a copy could not be had; nothing changes.
-    pub fn entries_with(&self, event: &Event) -> Result<Vec<Entry>, NoMemory>
-        ensures { IfOk result (λ log. events log.items ≡ grown self.now.kept event.now) }
+    /// The entries of the history, in the order in which they came.
+    pub fn entries(&self) -> &[Entry]
+        ensures value { result.now ≡ self.now.log }
+        ensures events { events result.now ≡ happened self.now.kept }
+        ensures few { length result.now ≤ 65536 }
+        ensures indexed { Indexed (happened self.now.kept) }
     {
-        with_event(self.alloc, self.entries(), event)
+        self.versions.entries()
     }
 
-    /// Adds the event with its links, which are as `around` promises.
+    /// Adds a copy of the event with its links, as an entry of source 0. The links are as `around`
+    /// promises.
     ///
     /// # Errors
     /// `NoMemory` where the event and its links could not be kept; the history stays as it is.
@@ -180,45 +185,64 @@ impl History {
         requires sound { event_fault (happened self.old.kept) event.now ≡ None }
         requires linked { IsLinked self.old.model self.old.kept (kept_of event.now around.now) }
         ensures pushed { OnOk result
-            (self.new ≡ record self.old { kept = self.old.kept ++ kept_of event.now around.now ∷ [] }) }
+            (self.new ≡ with_entry self.old (record { source = 0; event = event.now }) around.now) }
         ensures unchanged { OnErr result (self.new ≡ self.old) }
     {
-        let returned = self.returned(event);
-        let reserved = self.reserved(event);
-        open_harts(self.alloc, self.model, &mut self.harts, event.id.hart)?;
-        self.links
-            .push(around.before.as_slice(), around.after.as_slice())?;
-        if let Err(NoMemory) = self.versions.push(event, reserved) {
-            self.links.pop();
+        let event = event.copy(self.alloc)?;
+        self.push_entry(Entry { source: 0, event }, around)
+    }
+
+    /// Adds the entry with its event's links, which are as `around` promises.
+    ///
+    /// # Errors
+    /// `NoMemory` where the entry and its links could not be kept; the history stays as it is, and
+    /// the entry is gone.
+    pub fn push_entry(&mut self, entry: Entry, around: &Around) -> Result<(), NoMemory>
+        requires sound { event_fault (happened self.old.kept) entry.event ≡ None }
+        requires linked { IsLinked self.old.model self.old.kept (kept_of entry.event around.now) }
+        ensures pushed { OnOk result (self.new ≡ with_entry self.old entry around.now) }
+        ensures unchanged { OnErr result (self.new ≡ self.old) }
+    {
+        let returned = self.returned(&entry.event);
+        let reserved = self.reserved(&entry.event);
+        let number = entry.event.id.hart;
+        open_harts(self.alloc, self.model, &mut self.harts, number)?;
+        let before = around.before.as_slice();
+        self.links.append(before, around.after.as_slice())?;
+        let kept = self.versions.push(entry, reserved);
+        if let Err(NoMemory) = kept {
+            self.links.drop_last();
             return Err(NoMemory);
         }
-        let Some(hart) = self.harts.get_mut(event.id.hart as usize) else {
+        let Some(last) = self.versions.entries().last() else {
             unreachable!()
         };
-        if let Err(NoMemory) = hart.push(event, returned, around.before.as_slice()) {
+        let Some(hart) = self.harts.get_mut(number as usize) else {
+            unreachable!()
+        };
+        let joined = hart.push(&last.event, returned, before);
+        if let Err(NoMemory) = joined {
             self.versions.pop();
-            self.links.pop();
+            self.links.drop_last();
             return Err(NoMemory);
         }
         Ok(())
     }
 
-    /// Takes the last event off with its links. It takes no memory.
-    pub fn pop(&mut self)
+    /// Takes the last entry off with its event's links. It takes no memory.
+    pub fn pop(&mut self) -> Entry
         requires { self.old.kept ≢ [] }
         ensures model { self.new.model ≡ self.old.model }
+        ensures log { self.old.log ≡ self.new.log ++ result ∷ [] }
         ensures popped { (front : List Kept) (k : Kept) → self.old.kept ≡ front ++ k ∷ [] → self.new.kept ≡ front }
     {
-        let Some(last) = self.versions.entries().last() else {
-            unreachable!()
-        };
-        let number = last.event.id.hart as usize;
-        self.versions.pop();
-        let Some(hart) = self.harts.get_mut(number) else {
+        let entry = self.versions.pop();
+        let Some(hart) = self.harts.get_mut(entry.event.id.hart as usize) else {
             unreachable!()
         };
         hart.pop();
-        self.links.pop();
+        self.links.drop_last();
+        entry
     }
 
     /// What the history tells the event.
@@ -255,15 +279,6 @@ impl History {
             Some(hart) => hart.is_reserved(),
             None => false,
         }
-    }
-
-    /// The events as entries of source 0.
-    fn entries(&self) -> &[Entry]
-        ensures value { events result.now ≡ happened self.now.kept }
-        ensures few { length result.now ≤ 65536 }
-        ensures indexed { Indexed (happened self.now.kept) }
-    {
-        self.versions.entries()
     }
 
     /// The hart of this number, where it was opened.
@@ -353,19 +368,4 @@ fn open_harts(
         harts.push(HartOrder::new(alloc, model, next as u8))?;
     }
     Ok(())
-}
-
-/// The entries followed by the event.
-fn with_event(alloc: Global, entries: &[Entry], event: &Event) -> Result<Vec<Entry>, NoMemory>
-    ensures { IfOk result (λ log. events log.items ≡ events entries.now ++ event.now ∷ []) }
-{
-    let mut log = Vec::new(alloc);
-    for entry in entries {
-        log.push(entry.copy(alloc)?)?;
-    }
-    log.push(Entry {
-        source: 0,
-        event: event.copy(alloc)?,
-    })?;
-    Ok(log)
 }

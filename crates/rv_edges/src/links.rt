@@ -80,7 +80,7 @@ impl KeptLinks {
     ///
     /// # Errors
     /// `NoMemory` where a list could not grow; nothing changes.
-    pub fn push(&mut self, before: &[Link], after: &[Link]) -> Result<(), NoMemory>
+    pub fn append(&mut self, before: &[Link], after: &[Link]) -> Result<(), NoMemory>
         ensures pushed { OnOk result (self.new ≡ self.old ++ record { before = before.now; after = after.now } ∷ []) }
         ensures unchanged { OnErr result (self.new ≡ self.old) }
     {
@@ -98,7 +98,7 @@ impl KeptLinks {
     }
 
     /// Takes those of the last event off. It takes no memory.
-    pub fn pop(&mut self)
+    pub fn drop_last(&mut self)
         requires { self.old ≢ [] }
         ensures { (own : OwnLinks) × (self.old ≡ self.new ++ own ∷ []) }
     {

@@ -73,7 +73,7 @@ fn reservation(
 
 /// Stops where the event has a fault.
 fn assert_sound(rt: &impl Abort, versions: &Versions, event: &Event)
-    ensures { event_fault versions.now event.now ≡ None }
+    ensures { event_fault (events versions.now) event.now ≡ None }
 {
     let entries = versions.entries();
     assert!(rt; entries.len() < 100);
@@ -85,7 +85,9 @@ fn push(rt: &impl Abort, alloc: Global, versions: &mut Versions, event: &Event)
 {
     assert_sound(rt, versions, event);
     let reserved = reservation(alloc, versions.entries(), event).expect(rt, "memory");
-    versions.push(event, reserved).expect(rt, "memory");
+    let event = event.copy(alloc).expect(rt, "memory");
+    let entry = Entry { source: 0, event };
+    versions.push(entry, reserved).expect(rt, "memory");
 }
 
 fn around(rt: &impl Abort, alloc: Global, versions: &Versions, event: &Event) -> VersionLinks {

@@ -4,7 +4,6 @@ ghost use Rattle.std.specs.Option.{option_map};
 ghost use Rattle.rv_event.specs.Faults.{event_fault};
 ghost use Rattle.rv_event.specs.Log.{events, writer};
 ghost use Rattle.rv_event.specs.WellFormed.{WellFormedEvents};
-ghost use Rattle.rv_event.specs.declared.event.Event.{Event};
 ghost use Rattle.rv_event.specs.Edges.{IsEdge};
 ghost use Rattle.rv_event.specs.declared.reason.Link.{Link};
 ghost use Rattle.rv_event.specs.declared.reason.Reason.{Reason};
@@ -38,8 +37,8 @@ pub struct VersionLinks {
 
 /// A log whose stores, loads and pairs are found by word and version.
 ///
-/// Contracts see it as the list of its events. Its type keeps that each event has no fault over
-/// those before it, and that the indexes have the log's stores, loads and pairs, and nothing else.
+/// Contracts see it as its list of entries. Its type keeps that each event has no fault over those
+/// before it, and that the indexes have the log's stores, loads and pairs, and nothing else.
 #[derive(Drop)]
 pub struct Versions {
     alloc: Global,
@@ -51,12 +50,12 @@ pub struct Versions {
 impl Model for Versions {
     ghost use Rattle.std.specs.Prelude.{List};
     ghost use Rattle.rv_event.specs.Log.{events};
-    ghost use Rattle.rv_event.specs.declared.event.Event.{Event};
+    ghost use Rattle.rv_event.specs.declared.event.Entry.{Entry};
     ghost use Rattle.rv_versions.specs.Indexes.{AreIndexes};
 
-    ghost Value = { List Event };
+    ghost Value = { List Entry };
 
-    ghost view = { λ v. events v.entries.items };
+    ghost view = { λ v. v.entries.items };
 
     ghost invariant = { λ v. AreIndexes (events v.entries.items) v.reserved.items v.indexes };
 }
@@ -74,10 +73,10 @@ impl Versions {
         }
     }
 
-    /// The events in the order in which they came, as entries of source 0. It takes no memory.
+    /// The entries, in the order in which they came. It takes no memory.
     pub fn entries(&self) -> &[Entry]
-        ensures value { events result.now ≡ self.now }
-        ensures well_formed { WellFormedEvents self.now }
+        ensures value { result.now ≡ self.now }
+        ensures well_formed { WellFormedEvents (events self.now) }
     {
         self.entries.as_slice()
     }
@@ -104,10 +103,10 @@ impl Versions {
         reserved: Option<Reservation>,
         before: Vec<Link>,
     ) -> Result<VersionLinks, NoMemory>
-        requires sound { event_fault self.now event.now ≡ None }
-        requires reserved { IsReserved self.now event.now reserved }
+        requires sound { event_fault (events self.now) event.now ≡ None }
+        requires reserved { IsReserved (events self.now) event.now reserved }
         ensures { IfOk result (λ w. (others : List Link) × (w.before.items ≡ before.items ++ others)
-            × ((model : MemoryModel) → AreVersionLinks model self.now event.now others w.after.items)) }
+            × ((model : MemoryModel) → AreVersionLinks model (events self.now) event.now others w.after.items)) }
     {
         let accesses = self.of_word(event.word);
         let links = self.links_before(accesses, event, reserved, before)?;
@@ -123,11 +122,11 @@ impl Versions {
     ///
     /// It takes no memory and constant time.
     pub fn has_own_edge(&self, event: &Event, reserved: Option<Reservation>) -> bool
-        requires sound { event_fault self.now event.now ≡ None }
-        requires reserved { IsReserved self.now event.now reserved }
+        requires sound { event_fault (events self.now) event.now ≡ None }
+        requires reserved { IsReserved (events self.now) event.now reserved }
         ensures { (model : MemoryModel) →
             IsTrue result ↔
-            ((r : Reason) × IsEdge model (self.now ++ event.now ∷ []) event.now.id r event.now.id) }
+            ((r : Reason) × IsEdge model (events self.now ++ event.now ∷ []) event.now.id r event.now.id) }
     {
         // Its contract alone speaks of the log; the two events tell the answer.
         let _ = &self.alloc;
@@ -139,14 +138,14 @@ impl Versions {
     /// It takes no memory. It costs a look-up of the word, and a few steps for its highest version,
     /// or else a search among its stores.
     pub fn writer(&self, word: u32, version: u32) -> Option<Id>
-        ensures { result ≡ option_map (λ w. w.id) (writer self.now word version) }
+        ensures { result ≡ option_map (λ w. w.id) (writer (events self.now) word version) }
     {
         self.of_word(word).writer(version)
     }
 
     /// The accesses of the log to the word.
     fn of_word(&self, word: u32) -> &Accesses
-        ensures { AreOfWord self.now word result.now }
+        ensures { AreOfWord (events self.now) word result.now }
     {
         self.indexes.of_word(word)
     }
@@ -159,8 +158,8 @@ impl Versions {
         event: &Event,
         reservation: Reservation,
     ) -> &'a Accesses
-        requires { AreOfWord self.now event.now.word accesses.now }
-        ensures { AreOfWord self.now reservation.word result.now }
+        requires { AreOfWord (events self.now) event.now.word accesses.now }
+        ensures { AreOfWord (events self.now) reservation.word result.now }
     {
         if reservation.word == event.word {
             accesses
@@ -169,40 +168,42 @@ impl Versions {
         }
     }
 
-    /// Adds the event, which has no fault over the log, with what its LR returned.
+    /// Adds the entry, whose event has no fault over the log, with what its LR returned.
     ///
     /// It costs a look-up of its word, one of its LR's, and at most three insertions, of a few
     /// steps each where no version of the word is higher. Else each costs a search among the word's
     /// accesses, and the moving of those of a higher version.
     ///
     /// # Errors
-    /// `NoMemory` where the event could not be kept; the log stays as it is.
-    pub fn push(&mut self, event: &Event, reserved: Option<Reservation>) -> Result<(), NoMemory>
-        requires sound { event_fault self.old event.now ≡ None }
-        requires reserved { IsReserved self.old event.now reserved }
-        ensures pushed { OnOk result (self.new ≡ self.old ++ event.now ∷ []) }
+    /// `NoMemory` where the entry could not be kept; the log stays as it is, and the entry is gone.
+    pub fn push(&mut self, entry: Entry, reserved: Option<Reservation>) -> Result<(), NoMemory>
+        requires sound { event_fault (events self.old) entry.event ≡ None }
+        requires reserved { IsReserved (events self.old) entry.event reserved }
+        ensures pushed { OnOk result (self.new ≡ self.old ++ entry ∷ []) }
         ensures unchanged { OnErr result (self.new ≡ self.old) }
     {
-        let event = event.copy(self.alloc)?;
         self.entries.reserve(1)?;
         self.reserved.reserve(1)?;
-        self.indexes.insert(&event, reserved)?;
-        self.entries.push_reserved(Entry { source: 0, event });
+        self.indexes.insert(&entry.event, reserved)?;
+        self.entries.push_reserved(entry);
         self.reserved.push_reserved(reserved);
         Ok(())
     }
 
-    /// Takes the last event off; there is one. It takes no memory.
+    /// Takes the last entry off; there is one. It takes no memory.
     ///
     /// It costs the look-ups of an addition, and at most three removals, each as an insertion.
-    pub fn pop(&mut self)
+    pub fn pop(&mut self) -> Entry
         requires { self.old ≢ [] }
-        ensures { (front : List Event) (e : Event) → self.old ≡ front ++ e ∷ [] → self.new ≡ front }
+        ensures { self.old ≡ self.new ++ result ∷ [] }
     {
-        if let Some(entry) = self.entries.pop()
-            && let Some(reserved) = self.reserved.pop()
-        {
-            self.indexes.remove(&entry.event, reserved);
-        }
+        let Some(entry) = self.entries.pop() else {
+            unreachable!()
+        };
+        let Some(reserved) = self.reserved.pop() else {
+            unreachable!()
+        };
+        self.indexes.remove(&entry.event, reserved);
+        entry
     }
 }

@@ -1,5 +1,6 @@
 //! Links from a new event to others.
 ghost use Rattle.std.specs.Prelude.{OnOk, IfOk};
+ghost use Rattle.rv_event.specs.Log.{events};
 ghost use Rattle.rv_versions.specs.Indexes.{AreOfWord};
 ghost use Rattle.rv_versions.specs.Listed.{IsExtended, CoherenceAfter, ReadsFromAfter, FromReadAfter};
 ghost use Rattle.rv_versions.specs.Listed.{AtomicInAfter, AtomicOutAfter, AreAfter};
@@ -22,8 +23,8 @@ impl Versions {
         event: &Event,
         reserved: Option<Reservation>,
     ) -> Result<Vec<Link>, NoMemory>
-        requires { AreOfWord self.now event.now.word accesses.now }
-        ensures { IfOk result (λ links. AreAfter self.now event.now reserved links.items) }
+        requires { AreOfWord (events self.now) event.now.word accesses.now }
+        ensures { IfOk result (λ links. AreAfter (events self.now) event.now reserved links.items) }
     {
         let mut links = Vec::new(self.alloc);
         self.coherence_after(accesses, event, &mut links)?;
@@ -41,9 +42,9 @@ impl Versions {
         event: &Event,
         links: &mut Vec<Link>,
     ) -> Result<(), NoMemory>
-        requires { AreOfWord self.now event.now.word accesses.now }
+        requires { AreOfWord (events self.now) event.now.word accesses.now }
         ensures { OnOk result (IsExtended links.old.items links.new.items
-            (CoherenceAfter self.now event.now)) }
+            (CoherenceAfter (events self.now) event.now)) }
     {
         if event.is_store()
             && let Some(store) = accesses.higher_store(event.wrote)
@@ -63,9 +64,9 @@ impl Versions {
         event: &Event,
         links: &mut Vec<Link>,
     ) -> Result<(), NoMemory>
-        requires { AreOfWord self.now event.now.word accesses.now }
+        requires { AreOfWord (events self.now) event.now.word accesses.now }
         ensures { OnOk result (IsExtended links.old.items links.new.items
-            (ReadsFromAfter self.now event.now)) }
+            (ReadsFromAfter (events self.now) event.now)) }
     {
         if !event.is_store() {
             return Ok(());
@@ -81,9 +82,9 @@ impl Versions {
         event: &Event,
         links: &mut Vec<Link>,
     ) -> Result<(), NoMemory>
-        requires { AreOfWord self.now event.now.word accesses.now }
+        requires { AreOfWord (events self.now) event.now.word accesses.now }
         ensures { OnOk result (IsExtended links.old.items links.new.items
-            (FromReadAfter self.now event.now)) }
+            (FromReadAfter (events self.now) event.now)) }
     {
         if event.is_load()
             && let Some(store) = accesses.higher_store(event.read)
@@ -103,9 +104,9 @@ impl Versions {
         event: &Event,
         links: &mut Vec<Link>,
     ) -> Result<(), NoMemory>
-        requires { AreOfWord self.now event.now.word accesses.now }
+        requires { AreOfWord (events self.now) event.now.word accesses.now }
         ensures { OnOk result (IsExtended links.old.items links.new.items
-            (AtomicInAfter self.now event.now)) }
+            (AtomicInAfter (events self.now) event.now)) }
     {
         if !event.is_store() {
             return Ok(());
@@ -123,9 +124,9 @@ impl Versions {
         reserved: Option<Reservation>,
         links: &mut Vec<Link>,
     ) -> Result<(), NoMemory>
-        requires { AreOfWord self.now event.now.word accesses.now }
+        requires { AreOfWord (events self.now) event.now.word accesses.now }
         ensures { OnOk result (IsExtended links.old.items links.new.items
-            (AtomicOutAfter self.now event.now reserved)) }
+            (AtomicOutAfter (events self.now) event.now reserved)) }
     {
         if let Some(r) = reserved
             && let Some(store) = self

@@ -2,6 +2,7 @@
 ghost use Rattle.std.specs.Prelude.{ℕ, ◌≡◌, ◌≢◌, ◌++◌, List, ◌<◌, ◌≤◌, ◌↔◌, OnOk, IfOk};
 ghost use Rattle.rv_event.specs.Operations.{IsStore};
 ghost use Rattle.rv_event.specs.declared.reason.Link.{Link};
+ghost use Rattle.rv_event.specs.Log.{events};
 ghost use Rattle.rv_versions.specs.Indexes.{AreOfWord};
 ghost use Rattle.rv_versions.specs.Listed.{IsExtended, IsUncovered, IsParted, CoherenceBefore};
 ghost use Rattle.rv_versions.specs.Listed.{ReadsFromBefore, FromReadBefore, AtomicInBefore, AtomicOutsBefore};
@@ -26,9 +27,9 @@ impl Versions {
         reserved: Option<Reservation>,
         before: Vec<Link>,
     ) -> Result<Vec<Link>, NoMemory>
-        requires { AreOfWord self.now event.now.word accesses.now }
+        requires { AreOfWord (events self.now) event.now.word accesses.now }
         ensures { IfOk result (λ links. (others : List Link) × (links.items ≡ before.items ++ others)
-            × AreBefore self.now event.now reserved others) }
+            × AreBefore (events self.now) event.now reserved others) }
     {
         let mut links = before;
         let low = self.coherence_before(accesses, event, &mut links)?;
@@ -47,11 +48,11 @@ impl Versions {
         event: &Event,
         links: &mut Vec<Link>,
     ) -> Result<u32, NoMemory>
-        requires { AreOfWord self.now event.now.word accesses.now }
+        requires { AreOfWord (events self.now) event.now.word accesses.now }
         ensures extended { OnOk result (IsExtended links.old.items links.new.items
-            (CoherenceBefore self.now event.now)) }
+            (CoherenceBefore (events self.now) event.now)) }
         ensures uncovered { IfOk result (λ low. IsStore event.now → (version : ℕ) →
-            (low ≤ version) ↔ IsUncovered self.now event.now version) }
+            (low ≤ version) ↔ IsUncovered (events self.now) event.now version) }
     {
         if !event.is_store() {
             return Ok(0);
@@ -73,9 +74,9 @@ impl Versions {
         event: &Event,
         links: &mut Vec<Link>,
     ) -> Result<(), NoMemory>
-        requires { AreOfWord self.now event.now.word accesses.now }
+        requires { AreOfWord (events self.now) event.now.word accesses.now }
         ensures { OnOk result (IsExtended links.old.items links.new.items
-            (ReadsFromBefore self.now event.now)) }
+            (ReadsFromBefore (events self.now) event.now)) }
     {
         if event.is_load()
             && let Some(id) = accesses.writer(event.read)
@@ -98,11 +99,11 @@ impl Versions {
         low: u32,
         links: &mut Vec<Link>,
     ) -> Result<(), NoMemory>
-        requires of_word { AreOfWord self.now event.now.word accesses.now }
+        requires of_word { AreOfWord (events self.now) event.now.word accesses.now }
         requires uncovered { IsStore event.now → (version : ℕ) →
-            (low ≤ version) ↔ IsUncovered self.now event.now version }
+            (low ≤ version) ↔ IsUncovered (events self.now) event.now version }
         ensures { OnOk result (IsExtended links.old.items links.new.items
-            (FromReadBefore self.now event.now)) }
+            (FromReadBefore (events self.now) event.now)) }
     {
         if !event.is_store() {
             return Ok(());
@@ -119,9 +120,9 @@ impl Versions {
         reserved: Option<Reservation>,
         links: &mut Vec<Link>,
     ) -> Result<(), NoMemory>
-        requires { AreOfWord self.now event.now.word accesses.now }
+        requires { AreOfWord (events self.now) event.now.word accesses.now }
         ensures { OnOk result (IsExtended links.old.items links.new.items
-            (AtomicInBefore self.now reserved)) }
+            (AtomicInBefore (events self.now) reserved)) }
     {
         if let Some(reservation) = reserved
             && let Some(id) = self
@@ -144,9 +145,9 @@ impl Versions {
         event: &Event,
         links: &mut Vec<Link>,
     ) -> Result<(), NoMemory>
-        requires { AreOfWord self.now event.now.word accesses.now }
+        requires { AreOfWord (events self.now) event.now.word accesses.now }
         ensures { OnOk result
-            (AtomicOutsBefore self.now event.now links.old.items links.new.items) }
+            (AtomicOutsBefore (events self.now) event.now links.old.items links.new.items) }
     {
         if !event.is_store() {
             return Ok(());
@@ -163,10 +164,10 @@ impl Versions {
     /// store of another hart than the SC's stands between what the SC's LR returned and what the
     /// event writes.
     fn unparted_from(&self, accesses: &Accesses, event: &Event) -> u32
-        requires { AreOfWord self.now event.now.word accesses.now }
+        requires { AreOfWord (events self.now) event.now.word accesses.now }
         ensures at_most { result ≤ event.now.wrote }
         ensures parted { (version hart : ℕ) → version < result → hart ≢ event.now.id.hart →
-            IsParted self.now event.now.word version event.now.wrote hart }
+            IsParted (events self.now) event.now.word version event.now.wrote hart }
     {
         let Some(first) = accesses.lower_store(event.wrote) else {
             return 0;

@@ -1,4 +1,4 @@
-use Rattle.std.proofs.Common.{◌≡◌, None, sym, ◌∙◌, subst}
+use Rattle.std.proofs.Common.{◌≡◌, ◌++◌, [], ◌∷◌, None, IfOk, refl, sym, ◌∙◌, subst}
 use Rattle.std.proofs.lemmas.Bool.{false≢true}
 use Rattle.rv_event.specs.Edges.{IsStale}
 use Rattle.rv_event.specs.Faults.{event_fault}
@@ -6,10 +6,11 @@ use Rattle.rv_event.specs.Operations.{IsMemory}
 use Rattle.rv_event.specs.declared.event.Id.{Id}
 use Rattle.rv_edges.specs.Kept.{Past, Kept, happened, grown}
 use Rattle.rv_edges.specs.Histories.{kept_of, HasOwnEdge, IsLinked, IsStaleOf}
-use Rattle.rv_book.specs.Adding.{IsFit}
+use Rattle.rv_book.specs.Adding.{IsAdded, IsFit}
 use Rattle.rv_book.specs.Arranged.{Arranged, IsArranged}
 use Rattle.rv_book.proofs.Circles.{own_leads}
 use Rattle.rv_book.proofs.GrownHistories.{arranged_aside}
+use Rattle.rv_book.proofs.Refusals.{arranged_of, added_refused}
 use Rattle.rv_book.proofs.arrangement.Arrangement.add.Goals as goal
 
 -- an event without a fault fits with links that are as they should be
@@ -27,8 +28,8 @@ fit_of v now k is sound linked none_own not_stale = record {
 
 pub place-requires-clause-fit : goal.place-requires-clause-fit
 place-requires-clause-fit c =
-    let k = kept_of c.args.event.now c.in_ok-around.around in
-    let stale : IsStaleOf c.self.inside.history.kept c.args.event.now None =
+    let k = kept_of c.args.entry.event c.in_ok-around.around in
+    let stale : IsStaleOf c.self.inside.history.kept c.args.entry.event None =
     rw c.in_default.is at c.in_ok-around.ensures.stale in
     subst (λ (w : Arranged). IsFit w k) c.self.view_is
     (fit_of _ c.args.self.now k c.self.view_is c.requires.sound c.in_ok-around.ensures.linked
@@ -36,23 +37,31 @@ place-requires-clause-fit c =
 
 pub invariant_of-self-2 : goal.invariant_of-self-2
 invariant_of-self-2 c =
-    let k = kept_of c.args.event.now c.in_ok-around.around in
-    let stale : IsStaleOf c.self.inside.history.kept c.args.event.now None =
+    let k = kept_of c.args.entry.event c.in_ok-around.around in
+    let stale : IsStaleOf c.self.inside.history.kept c.args.entry.event None =
     rw c.in_default.is at c.in_ok-around.ensures.stale in
     let fit = fit_of _ c.args.self.now k c.self.view_is c.requires.sound c.in_ok-around.ensures.linked
     (λ own. false≢true (sym c.if-around.false ∙ c.in_ok-around.ensures.itself.1 own)) stale in
-    let aside : IsMemory c.args.event.now → ⊥ =
+    let aside : IsMemory c.args.entry.event → ⊥ =
     λ m. false≢true (sym c.if-is_memory.false ∙ c.is_memory.ensures.1 m) in
     subst (λ (h : Past). IsArranged (record {
       model = h.model;
+      log = h.log;
       history = h.kept;
       edges = c.self.inside.ranks.edges;
       ranks = c.self.inside.ranks.ranks;
       ids = c.self.inside.ids.items;
-    })) (sym c.in_ok-push.ensures.pushed)
-    (arranged_aside _ c.self.invariant k fit aside)
+    })) (sym c.in_ok-push_entry.ensures.pushed)
+    (arranged_aside _ c.self.invariant k fit (c.self.inside.history.log ++ c.args.entry ∷ []) aside)
 
-pub circle_of-requires-clause-leads : goal.circle_of-requires-clause-leads
-circle_of-requires-clause-leads c =
-    own_leads c.self.inside.history.model (grown c.self.inside.history.kept c.args.event.now) c.args.event.now.id
+pub refuse-requires-clause-leads : goal.refuse-requires-clause-leads
+refuse-requires-clause-leads c =
+    own_leads c.self.inside.history.model (grown c.self.inside.history.kept c.args.entry.event) c.args.entry.event.id
     (c.in_ok-around.ensures.itself.0 c.if-around.true)
+
+pub returns-then-around-clause-added : goal.returns-then-around-clause-added
+returns-then-around-clause-added c =
+    let inside = arranged_of c.self.inside.history c.self.inside.ranks.edges c.self.inside.ranks.ranks
+    c.self.inside.ids.items in
+    subst (λ (w : Arranged). IfOk c.refuse.result (IsAdded c.args.self.now w c.args.entry)) c.self.view_is
+    (added_refused c.args.self.now inside c.args.entry c.args.entry c.self.view_is refl c.refuse.result c.refuse.ensures)

@@ -10,6 +10,7 @@ pub returns-clause-lawful : goal.returns-clause-lawful
 returns-clause-lawful c =
     let v : Arranged = record {
       model = c.self.inside.history.model;
+      log = c.self.inside.history.log;
       history = c.self.inside.history.kept;
       edges = c.self.inside.ranks.edges;
       ranks = c.self.inside.ranks.ranks;

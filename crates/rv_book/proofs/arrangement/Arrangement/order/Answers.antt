@@ -24,6 +24,7 @@ pub returns : goal.returns
 returns c =
     let v : Arranged = record {
       model = c.self.inside.history.model;
+      log = c.self.inside.history.log;
       history = c.self.inside.history.kept;
       edges = c.self.inside.ranks.edges;
       ranks = c.self.inside.ranks.ranks;

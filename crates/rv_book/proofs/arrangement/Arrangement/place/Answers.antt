@@ -1,6 +1,7 @@
 use Rattle.std.proofs.Common.{◌≡◌, List, [], ◌∷◌, ◌++◌, length, sym, ap, ◌∙◌, subst}
 use Rattle.rv_event.specs.declared.event.Id.{Id}
-use Rattle.rv_edges.specs.Kept.{Past, Kept}
+use Rattle.rv_event.specs.declared.event.Entry.{Entry}
+use Rattle.rv_edges.specs.Kept.{Past}
 use Rattle.rv_edges.specs.Histories.{kept_of}
 use Rattle.rv_book.specs.Adding.{IsFit}
 use Rattle.rv_book.specs.Arranged.{Arranged, IsArranged}
@@ -8,18 +9,19 @@ use Rattle.rv_book.specs.Nodes.{AreNodes, HasNode}
 use Rattle.rv_book.proofs.CallValues.{nodes_low, circle_between, grown_between, circle_at, ShowsCircle}
 use Rattle.rv_book.proofs.GrownHistories.{before_node, after_node, arranged_node}
 use Rattle.rv_book.proofs.Circles.{circle_shown}
+use Rattle.rv_book.proofs.Refusals.{IsBack, back, arranged_of, arranged_same, added_refused, OnErr-always}
 use Rattle.rv_book.proofs.arrangement.Arrangement.place.Goals as goal
 
 pub find_ends-requires-clause-before : goal.find_ends-requires-clause-before
 find_ends-requires-clause-before c l listed =
-    let k = kept_of c.args.event.now c.args.around.now in
+    let k = kept_of c.args.entry.event c.args.around.now in
     let fit = subst (λ (w : Arranged). IsFit w k) (sym c.self.view_is) c.requires.fit in
     subst (λ (ids : List Id). HasNode ids l.id) (sym (c.as_slice-ids.ensures.value ∙ c.in_ok-reserve.ensures.items))
     (before_node _ c.self.invariant k fit l listed)
 
 pub find_ends-requires-clause-after : goal.find_ends-requires-clause-after
 find_ends-requires-clause-after c l listed =
-    let k = kept_of c.args.event.now c.args.around.now in
+    let k = kept_of c.args.entry.event c.args.around.now in
     let fit = subst (λ (w : Arranged). IsFit w k) (sym c.self.view_is) c.requires.fit in
     subst (λ (ids : List Id). HasNode ids l.id) (sym (c.as_slice-ids.ensures.value ∙ c.in_ok-reserve.ensures.items))
     (after_node _ c.self.invariant k fit l listed)
@@ -38,41 +40,9 @@ place-requires-clause-succs c =
     c.as_slice-succs.ensures.value
     (ap length (c.as_slice-ids.ensures.value ∙ c.in_ok-reserve.ensures.items) ∙ c.self.invariant.long)
 
--- the path that the order keeper found shows a circle over the event
-shown : (c : goal.After-circle_of-arg-in-Err-Circle-1) →
-    ShowsCircle c.pop-in-Err-Circle.new.self.model c.pop-in-Err-Circle.new.self.kept c.as_slice-names.result.now
-    c.as_slice-nodes.result.now c.args.event.now
-shown c =
-    let k = kept_of c.args.event.now c.args.around.now in
-    let fit = subst (λ (w : Arranged). IsFit w k) (sym c.self.view_is) c.requires.fit in
-    let ids = c.as_slice-ids.ensures.value ∙ c.in_ok-reserve.ensures.items in
-    let found = c.in_ok-find_ends.ensures in
-    let preds = c.find_ends.new.preds.items in
-    let succs = c.find_ends.new.succs.items in
-    let path = c.in-Err-Circle.path.items in
-    let pushed = c.in_ok-push.ensures.pushed in
-    circle_at _ _ _ _ _ _ path _ k.event
-    (c.pop-in-Err-Circle.ensures.model ∙ ap (λ (w : Past). w.model) pushed)
-    (c.pop-in-Err-Circle.ensures.popped c.self.inside.history.kept k (ap (λ (w : Past). w.kept) pushed))
-    (c.as_slice-names.ensures.value ∙ c.in_ok-reserve.ensures.items) c.as_slice-nodes.ensures.value
-    (circle_shown _ c.self.invariant k fit preds succs
-    (subst (λ (x : List Id). AreNodes x k.before preds) ids found.before)
-    (subst (λ (x : List Id). AreNodes x k.after succs) ids found.after) path
-    (circle_between _ preds _ succs _ path c.as_slice-preds.ensures.value c.as_slice-succs.ensures.value
-    (rw c.in-Err-Circle.field-0-is at c.in-Err-Circle.ensures.refused)))
-
-pub circle_of-requires-clause-low : goal.circle_of-requires-clause-low
-circle_of-requires-clause-low c = (shown c).low
-
-pub circle_of-requires-clause-leads : goal.circle_of-requires-clause-leads
-circle_of-requires-clause-leads c = (shown c).leads
-
-pub circle_of-requires-clause-once : goal.circle_of-requires-clause-once
-circle_of-requires-clause-once c = (shown c).once
-
 pub invariant_of-self-in-Ok : goal.invariant_of-self-in-Ok
 invariant_of-self-in-Ok c =
-    let k = kept_of c.args.event.now c.args.around.now in
+    let k = kept_of c.args.entry.event c.args.around.now in
     let fit = subst (λ (w : Arranged). IsFit w k) (sym c.self.view_is) c.requires.fit in
     let is = c.as_slice-ids.ensures.value ∙ c.in_ok-reserve.ensures.items in
     let found = c.in_ok-find_ends.ensures in
@@ -84,21 +54,94 @@ invariant_of-self-in-Ok c =
     (subst (λ (x : List Id). AreNodes x k.after succs) is found.after) c.requires.memory
     c.place.new.self.edges c.place.new.self.ranks
     (grown_between _ _ preds _ succs _ c.as_slice-preds.ensures.value c.as_slice-succs.ensures.value placed.grown)
-    placed.ordered in
-    let ids : c.push-in-Ok.new.self.items ≡ c.self.inside.ids.items ++ k.event.id ∷ [] =
-    (rw c.unwrap.ensures at c.push-in-Ok.ensures.items) ∙
+    placed.ordered (c.self.inside.history.log ++ c.args.entry ∷ []) in
+    let ids : c.push.new.self.items ≡ c.self.inside.ids.items ++ k.event.id ∷ [] =
+    (rw c.unwrap.ensures at c.push.ensures.items) ∙
     ap (λ (x : List Id). x ++ k.event.id ∷ []) c.in_ok-reserve.ensures.items in
     subst (λ (h : Past). IsArranged (record {
       model = h.model;
+      log = h.log;
       history = h.kept;
       edges = c.place.new.self.edges;
       ranks = c.place.new.self.ranks;
-      ids = c.push-in-Ok.new.self.items;
-    })) (sym c.in_ok-push.ensures.pushed)
+      ids = c.push.new.self.items;
+    })) (sym c.in_ok-push_entry.ensures.pushed)
     (subst (λ (x : List Id). IsArranged (record {
       model = c.self.inside.history.model;
+      log = c.self.inside.history.log ++ c.args.entry ∷ [];
       history = c.self.inside.history.kept ++ k ∷ [];
       edges = c.place.new.self.edges;
       ranks = c.place.new.self.ranks;
       ids = x;
     })) (sym ids) whole)
+
+-- the path that the order keeper found shows a circle over the event
+shown : (c : goal.After-last-1) →
+    ShowsCircle c.pop-last.new.self.model c.pop-last.new.self.kept c.as_slice-names.result.now
+    c.as_slice-nodes.result.now c.pop-last.result.event
+shown c =
+    let k = kept_of c.args.entry.event c.args.around.now in
+    let fit = subst (λ (w : Arranged). IsFit w k) (sym c.self.view_is) c.requires.fit in
+    let ids = c.as_slice-ids.ensures.value ∙ c.in_ok-reserve.ensures.items in
+    let found = c.in_ok-find_ends.ensures in
+    let preds = c.find_ends.new.preds.items in
+    let succs = c.find_ends.new.succs.items in
+    let path = c.in-Err-Circle.path.items in
+    let nodes : c.as_slice-nodes.result.now ≡ path = cc (c.as_slice-nodes.ensures.value, c.in-Err-Circle.path-is) in
+    let was = back c.self.inside.history c.push_entry.new.self c.pop-last.new.self c.args.entry c.pop-last.result
+    c.args.around.now c.in_ok-push_entry.ensures.pushed c.pop-last.ensures.model c.pop-last.ensures.log
+    c.pop-last.ensures.popped in
+    subst (λ (x : Entry). ShowsCircle c.pop-last.new.self.model c.pop-last.new.self.kept c.as_slice-names.result.now
+    c.as_slice-nodes.result.now x.event) (sym was.entry)
+    (circle_at _ _ _ _ _ _ path _ k.event
+    (ap (λ (w : Past). w.model) was.history) (ap (λ (w : Past). w.kept) was.history)
+    (c.as_slice-names.ensures.value ∙ c.in_ok-reserve.ensures.items) nodes
+    (circle_shown _ c.self.invariant k fit preds succs
+    (subst (λ (x : List Id). AreNodes x k.before preds) ids found.before)
+    (subst (λ (x : List Id). AreNodes x k.after succs) ids found.after) path
+    (circle_between _ preds _ succs _ path c.as_slice-preds.ensures.value c.as_slice-succs.ensures.value
+    (rw c.in-Err-Circle.field-0-is at c.in-Err-Circle.ensures.refused))))
+
+pub refuse-requires-clause-low : goal.refuse-requires-clause-low
+refuse-requires-clause-low c = (shown c).low
+
+pub refuse-requires-clause-leads : goal.refuse-requires-clause-leads
+refuse-requires-clause-leads c = (shown c).leads
+
+pub refuse-requires-clause-once : goal.refuse-requires-clause-once
+refuse-requires-clause-once c = (shown c).once
+
+module _ (c : goal.After-drop-path) where
+  was : IsBack c.self.inside.history c.pop-last.new.self c.args.entry c.pop-last.result
+  was =
+      back c.self.inside.history c.push_entry.new.self c.pop-last.new.self c.args.entry c.pop-last.result
+      c.args.around.now c.in_ok-push_entry.ensures.pushed c.pop-last.ensures.model c.pop-last.ensures.log
+      c.pop-last.ensures.popped
+
+  abbrev left : Arranged
+  left = arranged_of c.pop-last.new.self c.place.new.self.edges c.place.new.self.ranks c.reserve.new.self.items
+
+  as_it_was : left ≡ arranged_of c.self.inside.history c.self.inside.ranks.edges c.self.inside.ranks.ranks
+      c.self.inside.ids.items
+  as_it_was =
+      arranged_same was.history c.in-Err-Circle.ensures.edges c.in-Err-Circle.ensures.ranks
+      c.in_ok-reserve.ensures.items
+
+pub invariant_of-self-in-Err-Circle : goal.invariant_of-self-in-Err-Circle
+invariant_of-self-in-Err-Circle c = subst IsArranged (sym (as_it_was c)) c.self.invariant
+
+pub returns-in-Err-NoMemory-clause-unchanged : goal.returns-in-Err-NoMemory-clause-unchanged
+returns-in-Err-NoMemory-clause-unchanged c =
+    let was = back c.self.inside.history c.push_entry.new.self c.pop.new.self c.args.entry c.pop.result
+    c.args.around.now c.in_ok-push_entry.ensures.pushed c.pop.ensures.model c.pop.ensures.log
+    c.pop.ensures.popped in
+    arranged_same was.history c.in-Err-NoMemory.ensures.edges c.in-Err-NoMemory.ensures.ranks
+    c.in_ok-reserve.ensures.items ∙ c.self.view_is
+
+pub returns-in-Err-Circle-clause-added : goal.returns-in-Err-Circle-clause-added
+returns-in-Err-Circle-clause-added c =
+    added_refused c.args.self.now (left c) c.args.entry c.pop-last.result (as_it_was c ∙ c.self.view_is) (was c).entry
+    c.refuse.result c.refuse.ensures
+
+pub returns-in-Err-Circle-clause-unchanged : goal.returns-in-Err-Circle-clause-unchanged
+returns-in-Err-Circle-clause-unchanged c = OnErr-always c.refuse.result (as_it_was c ∙ c.self.view_is)

@@ -1,8 +1,5 @@
 -- The hart's source is the entry's, and its source has one more.
-use Rattle.std.proofs.Common.{rules, ◌≡◌, ℕ, ◌+◌, ◌<◌, ◌≤◌, ◌%◌, ◌==◌, List, length, count_by, slice_index_or}
-use Rattle.std.proofs.Common.{arith, sym, ◌∙◌}
-use Rattle.std.proofs.lemmas.List.Sums.{count_by-le-length}
-use Rattle.rv_event.specs.declared.event.Entry.{Entry}
+use Rattle.std.proofs.Common.{arith}
 use Rattle.rv_book.proofs.Tallies.{tallied_push, one_more}
 use Rattle.rv_book.proofs.tally.Tally.add.Goals as goal
 

@@ -1,5 +1,5 @@
 -- Nothing is counted of nothing.
-use Rattle.std.proofs.Common.{ℕ, List, Option, None, replicate}
+use Rattle.std.proofs.Common.{None, replicate}
 use Rattle.rv_book.proofs.Tallies.{even, tallied_none}
 use Rattle.rv_book.proofs.tally.Tally.new.Goals as goal
 

@@ -1,5 +1,5 @@
 -- The hart's entries are all of one source.
-use Rattle.std.proofs.Common.{◌≡◌, ℕ, None, Option, sym, ◌∙◌}
+use Rattle.std.proofs.Common.{sym, ◌∙◌}
 use Rattle.rv_book.proofs.Tallies.{none_fault, same_fault, other_fault}
 use Rattle.rv_book.proofs.tally.Tally.source_fault.Goals as goal
 

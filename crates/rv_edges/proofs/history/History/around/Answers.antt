@@ -9,6 +9,7 @@ use Rattle.rv_event.specs.declared.reason.Reason.{Reason}
 use Rattle.rv_hart.specs.RuleLinks.{AreRuleLinks}
 use Rattle.rv_versions.specs.Reserved.{IsReserved}
 use Rattle.rv_versions.specs.VersionLinks.{AreVersionLinks}
+use Rattle.rv_event.specs.Log.{events}
 use Rattle.rv_edges.specs.Kept.{Kept, Past, kept_from, happened}
 use Rattle.rv_edges.specs.Histories.{IsLinked, IsCarried}
 use Rattle.rv_edges.specs.Indexes.{hart_in}
@@ -44,7 +45,7 @@ has_own_edge-requires-clause-reserved c =
     (sym log) c.reserved-reserved.ensures
 
 module _ (c : goal.After-stale) where
-  log : c.self.inside.versions ≡ happened c.args.self.now.kept
+  log : (events c.self.inside.versions) ≡ happened c.args.self.now.kept
   log = log-is c.self.inside.model c.self.inside.versions c.self.inside.harts.items c.self.inside.links c.self.invariant
       c.args.self.now c.self.view_is
 
@@ -92,7 +93,7 @@ pub returns-clause-covered : goal.returns-clause-covered
 returns-clause-covered c =
     let carried : IsCarried c.args.self.now.model c.args.self.now.kept =
     subst (λ (w : Past). IsCarried w.model w.kept) c.self.view_is
-    (carried_from_IsHistory c.self.inside.model (kept_from c.self.inside.versions c.self.inside.links)
+    (carried_from_IsHistory c.self.inside.model (kept_from (events c.self.inside.versions) c.self.inside.links)
     c.self.invariant.history) in
     covered_with c.args.self.now.model c.args.self.now.kept (found c) (known c)
     (record { sound = c.requires; linked = linked c }) carried.covered
@@ -100,7 +101,7 @@ returns-clause-covered c =
 pub returns-clause-itself : goal.returns-clause-itself
 returns-clause-itself c =
     let own : IsTrue c.has_own_edge.result ↔
-    ((r : Reason) × IsEdge c.args.self.now.model (c.self.inside.versions ++ c.args.event.now ∷ [])
+    ((r : Reason) × IsEdge c.args.self.now.model ((events c.self.inside.versions) ++ c.args.event.now ∷ [])
     c.args.event.now.id r c.args.event.now.id) =
     c.has_own_edge.ensures c.args.self.now.model in
     subst (λ (l : List Event). IsTrue c.has_own_edge.result ↔

@@ -1,5 +1,6 @@
 -- By induction over the events, each of which joined those before it.
 use Rattle.std.proofs.Common.{subst}
+use Rattle.rv_event.specs.Log.{events}
 use Rattle.rv_edges.specs.Kept.{Past, kept_from}
 use Rattle.rv_edges.specs.Histories.{IsCarried}
 use Rattle.rv_edges.proofs.Carrying.{carried_from_IsHistory}
@@ -8,5 +9,5 @@ use Rattle.rv_edges.proofs.history.History.model.Goals as goal
 pub returns-clause-carried : goal.returns-clause-carried
 returns-clause-carried c =
     subst (λ (w : Past). IsCarried w.model w.kept) c.self.view_is
-    (carried_from_IsHistory c.self.inside.model (kept_from c.self.inside.versions c.self.inside.links)
+    (carried_from_IsHistory c.self.inside.model (kept_from (events c.self.inside.versions) c.self.inside.links)
     c.self.invariant.history)

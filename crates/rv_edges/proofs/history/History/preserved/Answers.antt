@@ -12,7 +12,7 @@ returns-clause-some c =
     (λ k. IsPreserved m (happened c.args.self.now.kept) k c.args.a c.args.b))
     (ap (λ (w : Past). w.model) c.self.view_is)
     (subst (λ (es : List Event). IfSome c.lowest_rule.result
-    (λ k. IsPreserved c.self.inside.model es k c.args.a c.args.b)) c.entries.ensures.value
+    (λ k. IsPreserved c.self.inside.model es k c.args.a c.args.b)) c.entries.ensures.events
     c.lowest_rule.ensures.some)
 
 pub returns-clause-lowest : goal.returns-clause-lowest
@@ -21,7 +21,7 @@ returns-clause-lowest c =
     (λ k. (j : ℕ) → j < k → IsPreserved m (happened c.args.self.now.kept) j c.args.a c.args.b → ⊥))
     (ap (λ (w : Past). w.model) c.self.view_is)
     (subst (λ (es : List Event). IfSome c.lowest_rule.result
-    (λ k. (j : ℕ) → j < k → IsPreserved c.self.inside.model es j c.args.a c.args.b → ⊥)) c.entries.ensures.value
+    (λ k. (j : ℕ) → j < k → IsPreserved c.self.inside.model es j c.args.a c.args.b → ⊥)) c.entries.ensures.events
     c.lowest_rule.ensures.lowest)
 
 pub returns-clause-none : goal.returns-clause-none
@@ -30,5 +30,5 @@ returns-clause-none c =
     ((k : ℕ) → IsPreserved m (happened c.args.self.now.kept) k c.args.a c.args.b → ⊥))
     (ap (λ (w : Past). w.model) c.self.view_is)
     (subst (λ (es : List Event). IfNone c.lowest_rule.result
-    ((k : ℕ) → IsPreserved c.self.inside.model es k c.args.a c.args.b → ⊥)) c.entries.ensures.value
+    ((k : ℕ) → IsPreserved c.self.inside.model es k c.args.a c.args.b → ⊥)) c.entries.ensures.events
     c.lowest_rule.ensures.none)

@@ -1,7 +1,7 @@
 -- The writer of what the load returned, where it is of the load's hart.
 use Rattle.std.proofs.Common.{◌≡◌, Option, Some, None, option_map, sym, ap, ◌∙◌, subst, refl, List}
 use Rattle.std.proofs.lemmas.Option.{none-some, same_Some}
-use Rattle.rv_event.specs.Log.{writer}
+use Rattle.rv_event.specs.Log.{events, writer}
 use Rattle.rv_event.specs.Operations.{IsLoad}
 use Rattle.rv_event.specs.declared.event.Id.{Id}
 use Rattle.rv_event.specs.declared.event.Event.{Event}
@@ -30,7 +30,7 @@ returns-in_err-store c =
     let known = past-indexed c.self.inside.model c.self.inside.versions c.self.inside.harts.items c.self.inside.links
     c.self.invariant now c.self.view_is in
     let none = subst (λ (l : List Event). writer l e.word e.read ≡ None) is
-    (nothing (writer c.self.inside.versions e.word e.read) c.in_err-store.ensures) in
+    (nothing (writer (events c.self.inside.versions) e.word e.read) c.in_err-store.ensures) in
     subst (IsReturned (hart_in now e.id.hart) e) (sym c.from_residual.ensures)
     (returned_none now.model (happened now.kept) e known none)
 
@@ -42,7 +42,7 @@ returns-then-store-event c =
     c.self.invariant now c.self.view_is in
     let known = past-indexed c.self.inside.model c.self.inside.versions c.self.inside.harts.items c.self.inside.links
     c.self.invariant now c.self.view_is in
-    let some = something (writer c.self.inside.versions e.word e.read) c.in_ok-store.store c.in_ok-store.ensures in
+    let some = something (writer (events c.self.inside.versions) e.word e.read) c.in_ok-store.store c.in_ok-store.ensures in
     let found = subst (λ (l : List Event). writer l e.word e.read ≡ Some some.0) is some.1 in
     let load : IsLoad e = sym c.if-not-is_load.ensures in
     let own = returned_some now.model (happened now.kept) e known some.0 found
@@ -57,7 +57,7 @@ returns-else-store-event c =
     c.self.invariant now c.self.view_is in
     let known = past-indexed c.self.inside.model c.self.inside.versions c.self.inside.harts.items c.self.inside.links
     c.self.invariant now c.self.view_is in
-    let some = something (writer c.self.inside.versions e.word e.read) c.in_ok-store.store c.in_ok-store.ensures in
+    let some = something (writer (events c.self.inside.versions) e.word e.read) c.in_ok-store.store c.in_ok-store.ensures in
     let found = subst (λ (l : List Event). writer l e.word e.read ≡ Some some.0) is some.1 in
     returned_other now.model (happened now.kept) e known some.0 found
     (λ same. c.if-store-event.false (sym (ap (λ (i : Id). i.hart) some.2) ∙ same))

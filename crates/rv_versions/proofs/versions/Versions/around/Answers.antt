@@ -1,6 +1,7 @@
 -- What is listed is what the edges by versions ask for.
 use Rattle.rv_cover.proofs.Indexing.{indexed_from_events}
 use Rattle.rv_event.proofs.Indexed.{Indexed, Sound, sound_of}
+use Rattle.rv_event.specs.Log.{events}
 use Rattle.rv_versions.proofs.Around.{edge_before, edge_after, reason_of, other_of, warrant_before}
 use Rattle.rv_versions.proofs.Around.{warrant_after, Into, Out}
 use Rattle.rv_versions.proofs.Carrying.{carried_before, carried_after}
@@ -9,7 +10,7 @@ use Rattle.rv_versions.proofs.versions.Versions.around.Goals as goal
 
 pub returns : goal.returns
 returns c =
-    let log = c.args.self.now in
+    let log = events c.args.self.now in
     let e = c.args.event.now in
     let known : Indexed log = indexed_from_events log c.of_word-accesses.ensures.known.well_formed in
     let sound : Sound log e = sound_of log e c.requires.sound in

@@ -2,6 +2,7 @@ use Rattle.std.proofs.Common.{◌≡◌, ◌∷◌, ◌++◌, ◌∙◌, [], Non
 use Rattle.rv_cover.proofs.Indexing.{indexed_from_events}
 use Rattle.rv_event.specs.declared.event.Id.{Id}
 use Rattle.rv_event.specs.declared.reason.Reason.TheVariants.{FromRead}
+use Rattle.rv_event.specs.Log.{events}
 use Rattle.rv_versions.specs.Listed.{link}
 use Rattle.rv_versions.specs.Lookups.{IsHigherStore}
 use Rattle.rv_versions.proofs.Listing.{no_from_read_after, from_read_after_of}
@@ -11,10 +12,10 @@ use Rattle.rv_versions.proofs.versions.Versions.from_read_after.Goals.{else-is_l
 
 pub returns-in_ok-push : goal.returns-in_ok-push
 returns-in_ok-push c =
-    from_read_after_of c.args.self.now
-    (indexed_from_events c.args.self.now c.requires.known.well_formed) c.args.event.now
+    from_read_after_of (events c.args.self.now)
+    (indexed_from_events (events c.args.self.now) c.requires.known.well_formed) c.args.event.now
     c.args.links.now.items c.push.new.self.items c.in-Some.store
-    (c.is_load.ensures.0 c.if-is_load.true) (c.in-Some.ensures c.args.self.now c.args.event.now.word c.requires)
+    (c.is_load.ensures.0 c.if-is_load.true) (c.in-Some.ensures (events c.args.self.now) c.args.event.now.word c.requires)
     (c.in_ok-push.ensures.items ∙ ap (λ (i : Id). c.args.links.now.items ++ link i FromRead ∷ []) c.id.ensures)
 
 pub returns-else-is_load : goal.returns-else-is_load
@@ -22,7 +23,7 @@ returns-else-is_load c = elim c.else-is_load.branch [
   | else-is_load-via-else-is_load w ↦ search rules
   | else-is_load-via-then-is_load+in-None-1 w ↦
       let none : w.higher_store.result ≡ None = search rules in
-      no_from_read_after c.args.self.now c.args.event.now c.args.links.now.items
-      (subst (IsHigherStore c.args.self.now c.args.event.now.word c.args.event.now.read) none
-      (w.higher_store.ensures c.args.self.now c.args.event.now.word c.requires))
+      no_from_read_after (events c.args.self.now) c.args.event.now c.args.links.now.items
+      (subst (IsHigherStore (events c.args.self.now) c.args.event.now.word c.args.event.now.read) none
+      (w.higher_store.ensures (events c.args.self.now) c.args.event.now.word c.requires))
 ]

@@ -1,16 +1,18 @@
 -- What is tested is what an edge to itself takes.
-use Rattle.std.proofs.Common.{subst}
+use Rattle.std.proofs.Common.{List, subst}
 use Rattle.rv_cover.proofs.Indexing.{indexed_from_events}
 use Rattle.rv_event.proofs.Indexed.{sound_of}
+use Rattle.rv_event.specs.declared.event.Entry.{Entry}
 use Rattle.rv_event.specs.WellFormed.{WellFormedEvents}
+use Rattle.rv_event.specs.Log.{events}
 use Rattle.rv_versions.proofs.Owning.{own_edge}
 use Rattle.rv_versions.proofs.versions.Versions.has_own_edge.Goals as goal
 
 pub returns : goal.returns
 returns c model =
-    let log = c.args.self.now in
+    let log = events c.args.self.now in
     let e = c.args.event.now in
     let o = own_edge model log e c.args.reserved (indexed_from_events log
-    (subst WellFormedEvents c.self.view_is c.self.invariant.well_formed))
+    (subst (λ (xs : List Entry). WellFormedEvents (events xs)) c.self.view_is c.self.invariant.well_formed))
     (sound_of log e c.requires.sound) c.requires.reserved in
     (λ t. o.0 (c.returns_own.ensures.0 t), λ h. c.returns_own.ensures.1 (o.1 h))

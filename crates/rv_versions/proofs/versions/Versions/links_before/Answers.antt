@@ -1,9 +1,10 @@
+use Rattle.rv_event.specs.Log.{events}
 use Rattle.rv_versions.proofs.Gathered.{before, are_behind, are_before}
 use Rattle.rv_versions.proofs.versions.Versions.links_before.Goals as goal
 
 pub returns : goal.returns
 returns c =
-    let log = c.args.self.now in
+    let log = events c.args.self.now in
     let e = c.args.event.now in
     let l0 = c.args.before.items in
     let l1 = c.coherence_before.new.links.items in

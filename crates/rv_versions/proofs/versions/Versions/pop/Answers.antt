@@ -1,9 +1,9 @@
--- The last event leaves the log and the indexes together.
+-- The last entry leaves the log and the indexes together.
 use Rattle.rv_versions.proofs.Stored.{popped}
 use Rattle.rv_versions.proofs.versions.Versions.pop.Goals as goal
 
-pub invariant_of-self-2 : goal.invariant_of-self-2
-invariant_of-self-2 c =
+pub invariant_of-self : goal.invariant_of-self
+invariant_of-self c =
     popped c.self.inside.entries.items c.pop.new.self.items c.self.inside.reserved.items c.pop-2.new.self.items
     c.self.inside.indexes c.remove.new.self
     c.in-Some.entry c.in-Some-pop.reserved c.self.invariant c.in-Some.ensures.items

@@ -5,7 +5,7 @@ use Rattle.rv_event.specs.declared.reason.Link.{Link}
 use Rattle.rv_edges.specs.declared.links.Sides.{Sides}
 use Rattle.rv_edges.specs.OwnLinks.{OwnLinks, total, own_from}
 use Rattle.rv_edges.proofs.Owning.{sides_of, total-push, own_from-push}
-use Rattle.rv_edges.proofs.links.KeptLinks.push.Goals as goal
+use Rattle.rv_edges.proofs.links.KeptLinks.append.Goals as goal
 
 module _ (c : goal.After-push_reserved) where
   abbrev old : List Link

@@ -1,0 +1,44 @@
+-- The evidence is the log with the entry, in which the path is a circle.
+use Rattle.std.proofs.Common.{◌≡◌, List, [], ◌∷◌, ◌++◌, map, sym, ap, ◌∙◌, subst}
+use Rattle.std.proofs.lemmas.List.{map-append}
+use Rattle.rv_event.specs.Log.{events}
+use Rattle.rv_event.specs.declared.event.Entry.{Entry}
+use Rattle.rv_event.specs.declared.event.Event.{Event}
+use Rattle.rv_edges.specs.Kept.{grown}
+use Rattle.rv_cert.specs.Certificates.{IsClosedWalk}
+use Rattle.rv_event.specs.declared.memory_model.MemoryModel.{MemoryModel}
+use Rattle.rv_book.specs.Arranged.{EachLeads, at}
+use Rattle.rv_book.proofs.CallValues.{own_circle, leads_log}
+use Rattle.rv_book.proofs.arrangement.refuse.Goals as goal
+
+-- the events of a log with the entry, where the log's are known
+events-with : (log entries evidence : List Entry) (x : Entry) (happened : List Event) → log ≡ evidence →
+    evidence ≡ entries ++ x ∷ [] → events entries ≡ happened → events log ≡ happened ++ x.event ∷ []
+events-with log entries evidence x happened is with_x known =
+    ap events (is ∙ with_x) ∙ map-append (λ (y : Entry). y.event) entries (x ∷ [])
+    ∙ ap (λ (es : List Event). es ++ x.event ∷ []) known
+
+pub close-requires-clause-leads : goal.close-requires-clause-leads
+close-requires-clause-leads c =
+    subst (λ (m : MemoryModel). EachLeads m (events c.as_slice-log.result.now) c.as_slice.result.now)
+    (sym c.model.ensures.value)
+    (leads_log c.args.history.now.model (grown c.args.history.now.kept c.args.entry.now.event)
+    (events c.as_slice-log.result.now) _ c.as_slice.result.now
+    (events-with c.as_slice-log.result.now c.entries.result.now c.in_ok-evidence.evidence c.args.entry.now _
+    c.as_slice-log.ensures c.in_ok-evidence.ensures c.entries.ensures.events)
+    (c.as_slice.ensures.value ∙ c.in_ok-walk.ensures) c.requires.leads)
+
+pub returns : goal.returns
+returns c =
+    let log = events-with c.as_slice-log.result.now c.entries.result.now c.in_ok-evidence.evidence c.args.entry.now _
+    c.as_slice-log.ensures c.in_ok-evidence.ensures c.entries.ensures.events in
+    let own = own_circle c.args.history.now.model (grown c.args.history.now.kept c.args.entry.now.event)
+    (events c.as_slice-log.result.now) c.args.entry.now.event (map (at c.args.ids.now) c.args.path.now)
+    c.as_slice.result.now c.in_ok-steps.steps.items c.from_vec.result log
+    (c.as_slice.ensures.value ∙ c.in_ok-walk.ensures) c.from_vec.ensures
+    (subst (λ (m : MemoryModel). IsClosedWalk m (events c.as_slice-log.result.now) c.in_ok-steps.steps.items)
+    c.model.ensures.value c.in_ok-steps.ensures.closed) c.in_ok-steps.ensures.walked c.requires.once in (
+      c.in_ok-evidence.ensures ∙ ap (λ (xs : List Entry). xs ++ c.args.entry.now ∷ []) c.entries.ensures.value,
+      own.0,
+      own.1,
+    )

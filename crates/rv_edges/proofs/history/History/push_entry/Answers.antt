@@ -1,0 +1,158 @@
+-- The entry joins the history with the links handed in, and its hart with it.
+use Rattle.std.proofs.Common.{◌≡◌, ℕ, List, [], ◌∷◌, ◌++◌, None, refl, sym, ap, ◌∙◌, subst, length}
+use Rattle.rv_event.specs.Faults.{event_fault}
+use Rattle.rv_event.specs.Log.{events}
+use Rattle.rv_event.specs.declared.event.Entry.{Entry}
+use Rattle.rv_event.specs.declared.event.Event.{Event}
+use Rattle.rv_event.specs.declared.reason.Link.{Link}
+use Rattle.rv_hart.specs.Harts.{Hart, Follows, IsReturned, hart_with}
+use Rattle.rv_hart.specs.RuleLinks.{AreEnoughLinks}
+use Rattle.rv_versions.specs.Reserved.{IsReserved}
+use Rattle.rv_edges.specs.Kept.{Past, kept_from, happened}
+use Rattle.rv_edges.specs.Histories.{IsLinked, Joined, IsHistory, kept_of}
+use Rattle.rv_edges.specs.Indexes.{hart_from, hart_in}
+use Rattle.rv_edges.specs.OwnLinks.{OwnLinks}
+use Rattle.rv_edges.proofs.Carrying.{pushed_sides}
+use Rattle.rv_edges.proofs.Enough.{enough_is}
+use Rattle.rv_edges.proofs.Indexing.{log-is, hart-is, follows, past-indexed}
+use Rattle.rv_edges.proofs.Moving.{events-pop, found-hart, harts-push, harts-set, last_pushed}
+use Rattle.rv_edges.proofs.Sides.{kept_one, same_front}
+use Rattle.rv_edges.proofs.history.History.push_entry.Goals as goal
+use Rattle.rv_edges.proofs.history.History.push_entry.Goals.{After-push-arg-1}
+
+module _ (c : After-push-arg-1) where
+  log : events c.self.inside.versions ≡ happened c.args.self.now.kept
+  log = log-is c.self.inside.model c.self.inside.versions c.self.inside.harts.items c.self.inside.links c.self.invariant
+      c.args.self.now c.self.view_is
+
+pub push-kept-requires-clause-sound : goal.push-kept-requires-clause-sound
+push-kept-requires-clause-sound c =
+    subst (λ (l : List Event). event_fault l c.args.entry.event ≡ None) (sym (log c)) c.requires.sound
+
+pub push-kept-requires-clause-reserved : goal.push-kept-requires-clause-reserved
+push-kept-requires-clause-reserved c =
+    subst (λ (l : List Event). IsReserved l c.args.entry.event c.reserved-reserved.result)
+    (sym (log c)) c.reserved-reserved.ensures
+
+module _ (c : goal.In-Some-get_mut) where
+  last-is : c.in-Some.last.now ≡ c.args.entry
+  last-is =
+      last_pushed c.entries.result.now c.self.inside.versions c.args.entry c.in-Some.last.now
+      (c.entries.ensures.value ∙ c.in_default.ensures.pushed) (sym c.in-Some.ensures.value)
+
+  same-event : c.in-Some.last.now.event ≡ c.args.entry.event
+  same-event = ap (λ (x : Entry). x.event) last-is
+
+  here : c.in-Some-get_mut.hart.now ≡ hart_in c.args.self.now c.args.entry.event.id.hart
+  here =
+      let n = c.args.entry.event.id.hart in
+      found-hart c.self.inside.model (events c.self.inside.versions) c.open_harts.new.harts.items n
+      c.in-Some-get_mut.hart.now (λ h. c.in_ok-open_harts.ensures.same h ∙ c.self.invariant.own h)
+      c.in_ok-open_harts.ensures.open c.in-Some-get_mut.ensures.value ∙ sym (c.self.invariant.own n)
+      ∙ hart-is c.self.inside.model c.self.inside.versions c.self.inside.harts.items c.self.inside.links
+      c.self.invariant c.args.self.now c.self.view_is n
+
+pub push-joined-requires-clause-follows : goal.push-joined-requires-clause-follows
+push-joined-requires-clause-follows c =
+    subst (λ (e : Event). Follows c.in-Some-get_mut.hart.now e) (sym (same-event c))
+    (subst (λ (x : Hart). Follows x c.args.entry.event) (sym (here c))
+    (follows c.args.self.now c.args.entry.event c.requires.sound))
+
+pub push-joined-requires-clause-returned : goal.push-joined-requires-clause-returned
+push-joined-requires-clause-returned c =
+    subst (λ (e : Event). IsReturned c.in-Some-get_mut.hart.now e c.returned-returned.result) (sym (same-event c))
+    (subst (λ (x : Hart). IsReturned x c.args.entry.event c.returned-returned.result) (sym (here c))
+    c.returned-returned.ensures)
+
+pub push-joined-requires-clause-linked : goal.push-joined-requires-clause-linked
+push-joined-requires-clause-linked c =
+    let e = c.args.entry.event in
+    let past : Past = c.args.self.now in
+    let known = past-indexed c.self.inside.model c.self.inside.versions c.self.inside.harts.items c.self.inside.links
+    c.self.invariant past c.self.view_is in
+    subst (λ (a : Event). AreEnoughLinks c.in-Some-get_mut.hart.now a c.as_slice-before.result.now) (sym (same-event c))
+    (subst (λ (x : Hart). AreEnoughLinks x e c.as_slice-before.result.now) (sym (here c))
+    (subst (λ (ls : List Link). AreEnoughLinks (hart_in past e.id.hart) e ls) (sym c.as_slice-before.ensures)
+    (enough_is past.model past.kept (kept_of e c.args.around.now) known c.requires.sound c.requires.linked)))
+
+pub invariant_of-self-in-Err-joined : goal.invariant_of-self-in-Err-joined
+invariant_of-self-in-Err-joined c =
+    let n = c.args.entry.event.id.hart in
+    let model = c.self.inside.model in
+    let entries : c.pop.new.self ≡ c.self.inside.versions =
+    same_front c.pop.new.self c.self.inside.versions c.pop.result c.args.entry
+    (sym c.pop.ensures ∙ c.in_default.ensures.pushed) in
+    let links : c.drop_last-in-Err-joined.new.self ≡ c.self.inside.links =
+    same_front c.drop_last-in-Err-joined.new.self c.self.inside.links c.drop_last-in-Err-joined.ensures.0 _
+    (sym c.drop_last-in-Err-joined.ensures.1 ∙ c.in_ok-append.ensures.pushed) in
+    let log : events c.pop.new.self ≡ events c.self.inside.versions = ap events entries in
+    let own = λ (h : ℕ). c.in_ok-open_harts.ensures.same h ∙ c.self.invariant.own h in
+    record {
+      lengths = ap length log ∙ c.self.invariant.lengths ∙ sym (ap length links);
+      history =
+          subst (λ (ls : List OwnLinks). IsHistory model (kept_from (events c.pop.new.self) ls)) (sym links)
+          (subst (λ (es : List Event). IsHistory model (kept_from es c.self.inside.links)) (sym log)
+          c.self.invariant.history);
+      own = λ h.
+          harts-set model (events c.self.inside.versions) (events c.self.inside.versions) c.open_harts.new.harts.items n
+          c.push-joined.new.self own c.in_ok-open_harts.ensures.open
+          (c.in-Err-joined.ensures.unchanged
+          ∙ found-hart model (events c.self.inside.versions) c.open_harts.new.harts.items n c.in-Some-get_mut.hart.now
+          own c.in_ok-open_harts.ensures.open c.in-Some-get_mut.ensures.value) (λ k other. refl) h
+          ∙ ap (λ (es : List Event). hart_from model es h) (sym log);
+    }
+
+record Pushed (c : goal.In_default-joined) : Type 0 where
+  pub lengths : length (events c.push-kept.new.self) ≡ length c.append.new.self
+  pub history : IsHistory c.self.inside.model (kept_from (events c.push-kept.new.self) c.append.new.self)
+  pub cut :
+      kept_from (events c.push-kept.new.self) c.append.new.self
+      ≡ kept_from (events c.self.inside.versions) c.self.inside.links ++ kept_of c.args.entry.event c.args.around.now ∷ []
+
+module _ (c : goal.In_default-joined) where
+  more : events c.push-kept.new.self ≡ events c.self.inside.versions ++ c.args.entry.event ∷ []
+  more = events-pop c.push-kept.new.self c.self.inside.versions c.args.entry c.in_default.ensures.pushed
+
+  pushed : Pushed c
+  pushed =
+      let e = c.args.entry.event in
+      let k = kept_of e c.args.around.now in
+      let h = kept_from (events c.self.inside.versions) c.self.inside.links in
+      let joined : Joined c.self.inside.model h k = record {
+        sound = subst (λ (w : Past). event_fault (happened w.kept) e ≡ None) (sym c.self.view_is) c.requires.sound;
+        linked = subst (λ (w : Past). IsLinked w.model w.kept k) (sym c.self.view_is) c.requires.linked;
+      } in
+      let l : OwnLinks = record { before = c.as_slice-before.result.now; after = c.as_slice.result.now } in
+      let one : kept_one e l ≡ k = λ i. record {
+        event = e;
+        before = c.as_slice-before.ensures i;
+        after = c.as_slice.ensures i;
+      } in
+      let p = pushed_sides c.self.inside.model (events c.self.inside.versions) (events c.push-kept.new.self)
+      c.self.inside.links c.append.new.self e l k
+      c.self.invariant.lengths c.self.invariant.history joined one
+      more c.in_ok-append.ensures.pushed in
+      record { lengths = p.0; history = p.1; cut = p.2 }
+
+pub invariant_of-self-in_default-joined : goal.invariant_of-self-in_default-joined
+invariant_of-self-in_default-joined c =
+    let last = last_pushed c.entries.result.now c.self.inside.versions c.args.entry c.in-Some.last.now
+    (c.entries.ensures.value ∙ c.in_default.ensures.pushed) (sym c.in-Some.ensures.value) in
+    record {
+      lengths = (pushed c).lengths;
+      history = (pushed c).history;
+      own =
+          harts-push c.self.inside.model (events c.self.inside.versions) (events c.push-kept.new.self)
+          c.open_harts.new.harts.items c.args.entry.event c.in-Some-get_mut.hart.now c.push-joined.new.self
+          (λ h. c.in_ok-open_harts.ensures.same h ∙ c.self.invariant.own h) c.in_ok-open_harts.ensures.open (more c)
+          c.in-Some-get_mut.ensures.value
+          (c.in_default-joined.ensures.pushed
+          ∙ ap (λ (x : Entry). hart_with c.in-Some-get_mut.hart.now x.event) last);
+    }
+
+pub returns-clause-pushed : goal.returns-clause-pushed
+returns-clause-pushed c =
+    let k = kept_of c.args.entry.event c.args.around.now in
+    let log = c.in_default.ensures.pushed ∙ ap (λ (w : Past). w.log ++ c.args.entry ∷ []) c.self.view_is in
+    let kept = (pushed c).cut ∙ ap (λ (w : Past). w.kept ++ k ∷ []) c.self.view_is in
+    λ i. record { model = (c.self.view_is i).model; log = log i; kept = kept i }
