@@ -62,7 +62,8 @@ arranged_of past edges ranks ids = record {
 -- equal parts make equal arrangements
 pub arranged_same :
     {past past' : Past} {edges edges' : List (List ℕ)} {ranks ranks' : List ℕ} {ids ids' : List Id} → past ≡ past' →
-    edges ≡ edges' → ranks ≡ ranks' → ids ≡ ids' → arranged_of past edges ranks ids ≡ arranged_of past' edges' ranks' ids'
+    edges ≡ edges' → ranks ≡ ranks' → ids ≡ ids' → arranged_of past edges ranks ids ≡ arranged_of past'
+    edges' ranks' ids'
 arranged_same p e r n = λ i. arranged_of (p i) (e i) (r i) (n i)
 
 refused : (v : Arranged) (x : Entry) (a : Added) →

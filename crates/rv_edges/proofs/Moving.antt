@@ -113,7 +113,8 @@ harts-pop model front harts e was is own at same_model same_number popped =
     harts-set model (front ++ e ∷ []) front harts n is own within more (λ h other. other-push front e h other)
 
 -- the events of a log without its last entry
-pub events-pop : (log front : List Entry) (x : Entry) → log ≡ front ++ x ∷ [] → events log ≡ events front ++ x.event ∷ []
+pub events-pop : (log front : List Entry) (x : Entry) → log ≡ front ++ x ∷ [] →
+    events log ≡ events front ++ x.event ∷ []
 events-pop log front x is = ap events is ∙ map-append (λ (y : Entry). y.event) front (x ∷ [])
 
 -- the last entry of a log is the one that was added last

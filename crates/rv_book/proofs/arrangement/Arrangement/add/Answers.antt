@@ -64,4 +64,5 @@ returns-then-around-clause-added c =
     let inside = arranged_of c.self.inside.history c.self.inside.ranks.edges c.self.inside.ranks.ranks
     c.self.inside.ids.items in
     subst (λ (w : Arranged). IfOk c.refuse.result (IsAdded c.args.self.now w c.args.entry)) c.self.view_is
-    (added_refused c.args.self.now inside c.args.entry c.args.entry c.self.view_is refl c.refuse.result c.refuse.ensures)
+    (added_refused c.args.self.now inside c.args.entry c.args.entry c.self.view_is refl c.refuse.result
+    c.refuse.ensures)

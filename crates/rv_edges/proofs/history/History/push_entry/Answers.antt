@@ -107,7 +107,8 @@ record Pushed (c : goal.In_default-joined) : Type 0 where
   pub history : IsHistory c.self.inside.model (kept_from (events c.push-kept.new.self) c.append.new.self)
   pub cut :
       kept_from (events c.push-kept.new.self) c.append.new.self
-      ≡ kept_from (events c.self.inside.versions) c.self.inside.links ++ kept_of c.args.entry.event c.args.around.now ∷ []
+      ≡ kept_from (events c.self.inside.versions) c.self.inside.links ++ kept_of c.args.entry.event
+      c.args.around.now ∷ []
 
 module _ (c : goal.In_default-joined) where
   more : events c.push-kept.new.self ≡ events c.self.inside.versions ++ c.args.entry.event ∷ []

@@ -42,7 +42,8 @@ returns-then-store-event c =
     c.self.invariant now c.self.view_is in
     let known = past-indexed c.self.inside.model c.self.inside.versions c.self.inside.harts.items c.self.inside.links
     c.self.invariant now c.self.view_is in
-    let some = something (writer (events c.self.inside.versions) e.word e.read) c.in_ok-store.store c.in_ok-store.ensures in
+    let some = something (writer (events c.self.inside.versions) e.word e.read) c.in_ok-store.store
+    c.in_ok-store.ensures in
     let found = subst (λ (l : List Event). writer l e.word e.read ≡ Some some.0) is some.1 in
     let load : IsLoad e = sym c.if-not-is_load.ensures in
     let own = returned_some now.model (happened now.kept) e known some.0 found
@@ -57,7 +58,8 @@ returns-else-store-event c =
     c.self.invariant now c.self.view_is in
     let known = past-indexed c.self.inside.model c.self.inside.versions c.self.inside.harts.items c.self.inside.links
     c.self.invariant now c.self.view_is in
-    let some = something (writer (events c.self.inside.versions) e.word e.read) c.in_ok-store.store c.in_ok-store.ensures in
+    let some = something (writer (events c.self.inside.versions) e.word e.read) c.in_ok-store.store
+    c.in_ok-store.ensures in
     let found = subst (λ (l : List Event). writer l e.word e.read ≡ Some some.0) is some.1 in
     returned_other now.model (happened now.kept) e known some.0 found
     (λ same. c.if-store-event.false (sym (ap (λ (i : Id). i.hart) some.2) ∙ same))

@@ -25,7 +25,8 @@ returns-in_default c = elim c.in_default.branch [
   | in_default-via-in-Some+in-None-1 w ↦
       let r = w.in-Some.r in
       let none : w.foreign_higher_store.result ≡ None = search rules in
-      no_atomic_out_after (events c.args.self.now) c.args.event.now c.args.links.now.items c.args.reserved r w.in-Some.is
+      no_atomic_out_after (events c.args.self.now) c.args.event.now c.args.links.now.items
+      c.args.reserved r w.in-Some.is
       (subst (IsForeignHigher (events c.args.self.now) r.word r.version c.args.event.now.id.hart) none
       (w.foreign_higher_store.ensures (events c.args.self.now) r.word w.of_reserved.ensures))
 ]

@@ -15,7 +15,8 @@ returns-in_ok-push c =
     coherence_after_of (events c.args.self.now)
     (indexed_from_events (events c.args.self.now) c.requires.known.well_formed) c.args.event.now
     c.args.links.now.items c.push.new.self.items c.in-Some.store
-    (c.is_store.ensures.0 c.if-is_store.true) (c.in-Some.ensures (events c.args.self.now) c.args.event.now.word c.requires)
+    (c.is_store.ensures.0 c.if-is_store.true) (c.in-Some.ensures (events c.args.self.now)
+    c.args.event.now.word c.requires)
     (c.in_ok-push.ensures.items ∙ ap (λ (i : Id). c.args.links.now.items ++ link i Coherence ∷ []) c.id.ensures)
 
 pub returns-else-is_store : goal.returns-else-is_store

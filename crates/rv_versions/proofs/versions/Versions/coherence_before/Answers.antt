@@ -24,7 +24,8 @@ returns-clause-extended c =
 pub returns-clause-uncovered : goal.returns-clause-uncovered
 returns-clause-uncovered c store =
     uncovered_some (events c.args.self.now) c.args.event.now
-    (indexed_from_events (events c.args.self.now) c.requires.known.well_formed) c.args.event.now.wrote c.in-Some.store refl
+    (indexed_from_events (events c.args.self.now) c.requires.known.well_formed) c.args.event.now.wrote
+    c.in-Some.store refl
     (c.in-Some.ensures.found (events c.args.self.now) c.args.event.now.word c.requires)
 
 pub returns-in_default-clause-extended : goal.returns-in_default-clause-extended

@@ -15,7 +15,8 @@ returns-in_ok-push c =
     from_read_after_of (events c.args.self.now)
     (indexed_from_events (events c.args.self.now) c.requires.known.well_formed) c.args.event.now
     c.args.links.now.items c.push.new.self.items c.in-Some.store
-    (c.is_load.ensures.0 c.if-is_load.true) (c.in-Some.ensures (events c.args.self.now) c.args.event.now.word c.requires)
+    (c.is_load.ensures.0 c.if-is_load.true) (c.in-Some.ensures (events c.args.self.now)
+    c.args.event.now.word c.requires)
     (c.in_ok-push.ensures.items ∙ ap (λ (i : Id). c.args.links.now.items ++ link i FromRead ∷ []) c.id.ensures)
 
 pub returns-else-is_load : goal.returns-else-is_load

@@ -7,7 +7,8 @@ use Rattle.rv_versions.proofs.versions.Versions.unparted_from.Goals as goal
 pub returns-in-Some-foreign_lower_store-clause-parted : goal.returns-in-Some-foreign_lower_store-clause-parted
 returns-in-Some-foreign_lower_store-clause-parted c =
     parted_by_either (events c.args.self.now) c.args.event.now c.args.event.now.wrote c.in-Some.first
-    c.in-Some-foreign_lower_store.second refl (c.in-Some.ensures.found (events c.args.self.now) c.args.event.now.word c.requires)
+    c.in-Some-foreign_lower_store.second refl (c.in-Some.ensures.found (events c.args.self.now)
+    c.args.event.now.word c.requires)
     (c.in-Some-foreign_lower_store.ensures (events c.args.self.now) c.args.event.now.word c.requires)
 
 pub returns-then-first-event-clause-parted : goal.returns-then-first-event-clause-parted
