@@ -1,29 +1,24 @@
 -- What the two searches find together.
 use Rattle.std.proofs.Common.{◌≡◌, ℕ, ◌+◌, ◌<◌, ◌≤◌, true, List, ◌++◌, length, get_or, reverse, inl}
-use Rattle.std.proofs.Common.{inr, sym, ◌∙◌, arith, ap}
+use Rattle.std.proofs.Common.{sym, ◌∙◌, arith, ap}
 use Rattle.std.specs.List.{All, Contains}
 use Rattle.std.proofs.lemmas.List.Elements.{All-contains, filter_agree, filter_passes}
+use Rattle.std.proofs.lemmas.Grind.{common_steps}
 use Rattle.rv_rank.specs.declared.search.Mark.{Mark}
 use Rattle.rv_rank.specs.declared.search.Mark.TheVariants.{Free}
 use Rattle.rv_rank.specs.Graph.{IsCircle, IsTrail, IsOrder}
 use Rattle.rv_rank.specs.Ordering.{Ordering}
-use Rattle.rv_rank.specs.Marks.{mark_of, IsMarked, IsSearched, IsTraced, is_ahead, is_behind, is_ahead_of}
+use Rattle.rv_rank.specs.Marks.{mark_of, IsMarked, IsSearched, IsTraced, is_behind, is_ahead_of}
 use Rattle.rv_rank.specs.Found.{IsFound, found_ahead, found_behind}
 use Rattle.rv_rank.specs.Placing.{IsAhead, OnlyAffected}
-use Rattle.rv_rank.proofs.Marks.{cases_free, marked_within, ahead_else, ahead_marked, behind_is}
+use Rattle.rv_rank.proofs.Marks.{marked_within, ahead_else, ahead_marked, behind_is}
 use Rattle.rv_rank.proofs.Searching.{reached_marked, marked_reached}
 use Rattle.rv_rank.proofs.Tracing.{behind_marked, reaching_behind}
 
 -- a trail from a successor to a predecessor is a circle
 pub circle_from_trail : (edges : List (List ℕ)) (succs preds : List ℕ) (end : ℕ) (path : List ℕ) →
     IsTrail edges succs end path → Contains preds end → IsCircle edges preds succs path
-circle_from_trail edges succs preds end path h w = record {
-  some = h.some;
-  begins = h.begins;
-  ends = rw h.ends w;
-  steps = h.steps;
-  once = h.once;
-}
+circle_from_trail edges succs preds end path h w = grind (arith, common_steps)
 
 module _ (edges : List (List ℕ)) (order : Ordering) (preds succs : List ℕ) (low : ℕ) (ahead : List Mark)
     (o : IsOrder edges order.ranks) (h : IsSearched edges order.ranks succs low ahead (length order.ranks))
@@ -47,10 +42,7 @@ module _ (edges : List (List ℕ)) (order : Ordering) (preds succs : List ℕ) (
 
     module _ (marks : List Mark) (t : IsTraced edges order.ranks preds low ahead marks low) where
       agree : (a : ℕ) → is_ahead_of low order.ranks ahead a ≡ is_ahead_of low order.ranks marks a
-      agree a = elim (cases_free (mark_of low order.ranks ahead a)) [
-        | inl f ↦ elim (t.fresh a f) [ inl e ↦ ap is_ahead (f ∙ sym e) | inr e ↦ ap is_ahead f ∙ sym (ap is_ahead e) ]
-        | inr m ↦ ap is_ahead (sym (t.kept a m))
-      ]
+      agree a = grind (arith, common_steps)
 
       -- what the two searches have found
       pub found_both : (count : ℕ) (first list : List ℕ) →
@@ -61,8 +53,7 @@ module _ (edges : List (List ℕ)) (order : Ordering) (preds succs : List ℕ) (
           IsFound edges order preds succs low marks count list
       found_both count first list free least lowest n f e =
           let same : found_ahead low order ahead ≡ found_ahead low order marks =
-          filter_agree (is_ahead_of low order.ranks ahead) (is_ahead_of low order.ranks marks) agree
-          order.nodes in
+          search (filter_agree, agree) in
           let long : low + length marks ≡ length order.ranks = omega (arith, t.long, h.long) in
           record {
             long = long;

@@ -1,19 +1,17 @@
 -- One node more.
 use Rattle.std.proofs.Common.{◌≡◌, ℕ, ◌<◌, List, [], ◌∷◌, ◌++◌, length, get_or, inl, inr, sym, arith}
 use Rattle.std.specs.List.{All}
-use Rattle.std.proofs.lemmas.List.{length_push, get_or_push, get_or_append_left, get_or_past}
+use Rattle.std.proofs.lemmas.List.{length_push, get_or_push, get_or_append_left}
 use Rattle.std.proofs.lemmas.List.Elements.{Contains-push_cases, Contains-append_left, Contains-push, All-contains}
 use Rattle.std.proofs.lemmas.Bool.{cases_lt}
+use Rattle.std.proofs.lemmas.Grind.{common_steps}
 use Rattle.rv_rank.specs.Graph.{Edge, IsGrown}
 use Rattle.rv_rank.specs.Rows.{IsAppended}
 use Rattle.rv_rank.proofs.Lists.{contains_cases}
 
 -- an edge leads from a node
 pub edge_from : (edges : List (List ℕ)) (a b : ℕ) → Edge edges a b → a < length edges
-edge_from edges a b e = elim (cases_lt a (length edges)) [
-  | inl l ↦ l
-  | inr p ↦ let q = get_or_past edges a [] p in let f = rw q at e in absurd (omega (arith, f.1))
-]
+edge_from edges a b e = grind (arith, common_steps)
 
 -- rows that were appended are the edges of a new node
 pub grown : (old mid : List (List ℕ)) (preds succs : List ℕ) → All (λ p. p < length old) preds →

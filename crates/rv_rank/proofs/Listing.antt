@@ -1,12 +1,13 @@
 -- The nodes that pass a test, listed by rank.
 use Rattle.std.proofs.Common.{◌≡◌, ℕ, suc, ◌+◌, ◌<◌, ◌≤◌, Bool, true, false, cond, List, [], ◌∷◌, ◌++◌}
-use Rattle.std.proofs.Common.{length, get_or, take, drop, reverse, sym, ◌∙◌, arith, ap, refl, append-nil}
+use Rattle.std.proofs.Common.{length, get_or, take, drop, reverse, sym, ◌∙◌, arith, ap, refl}
 use Rattle.std.proofs.Common.{length-drop}
 use Rattle.std.specs.List.{filter}
 use Rattle.std.proofs.Math.Seq.{drop-cons}
 use Rattle.std.proofs.lemmas.List.{get_or-take, get_or-drop, length-take, reverse-append, take-append-drop}
 use Rattle.std.proofs.lemmas.List.Elements.{filter_more, filter-append}
 use Rattle.std.proofs.lemmas.List.Sums.{length-filter, count_by-le-length}
+use Rattle.std.proofs.lemmas.Grind.{common_steps}
 
 filter_same : (t u : ℕ → Bool) (xs : List ℕ) →
     ((k : ℕ) → k < length xs → t (get_or xs k 0) ≡ u (get_or xs k 0)) → filter t xs ≡ filter u xs
@@ -53,18 +54,12 @@ listed_none t xs r h = filter_none t (take r xs) (λ k l.
 pub listed_more : (t u : ℕ → Bool) (xs : List ℕ) (r : ℕ) → r < length xs →
     ((k : ℕ) → k < r → k < length xs → t (get_or xs k 0) ≡ u (get_or xs k 0)) → u (get_or xs r 0) ≡ true →
     filter t (take r xs) ++ get_or xs r 0 ∷ [] ≡ filter u (take (r + 1) xs)
-listed_more t u xs r l h e =
-    let x = get_or xs r 0 in
-    ap (λ s. s ++ x ∷ []) (filter_take_same t u xs r h) ∙
-    ap (λ b. filter u (take r xs) ++ cond b (x ∷ []) []) (sym e) ∙ sym (filter_more u xs r 0 l)
+listed_more t u xs r l h e = grind (arith, common_steps, filter_take_same, filter_more)
 
 -- one that fails, upward
 pub listed_skip : (t : ℕ → Bool) (xs : List ℕ) (r : ℕ) → r < length xs → t (get_or xs r 0) ≡ false →
     filter t (take r xs) ≡ filter t (take (r + 1) xs)
-listed_skip t xs r l e =
-    let x = get_or xs r 0 in
-    sym (append-nil (filter t (take r xs))) ∙ ap (λ b. filter t (take r xs) ++ cond b (x ∷ []) []) (sym e) ∙
-    sym (filter_more t xs r 0 l)
+listed_skip t xs r l e = grind (arith, common_steps)
 
 -- no more pass than were looked at
 pub listed_few : (t : ℕ → Bool) (xs : List ℕ) (r : ℕ) → length (filter t (take r xs)) ≤ r
@@ -75,25 +70,12 @@ pub listed_down_more : (t u : ℕ → Bool) (xs : List ℕ) (r : ℕ) → r < le
     ((k : ℕ) → r + 1 ≤ k → k < length xs → t (get_or xs k 0) ≡ u (get_or xs k 0)) → u (get_or xs r 0) ≡ true →
     reverse (filter t (drop (r + 1) xs)) ++ get_or xs r 0 ∷ [] ≡ reverse (filter u (drop r xs))
 listed_down_more t u xs r l h e =
-    let x = get_or xs r 0 in
-    let same = filter_drop_same t u xs (r + 1) h in
-    let next : suc r ≡ r + 1 = omega arith in
-    let open_up : filter u (drop r xs) ≡ x ∷ filter u (drop (r + 1) xs) =
-    ap (filter u) (drop-cons xs r 0 l ∙ ap (λ k. x ∷ drop k xs) next) ∙
-    ap (λ b. cond b (x ∷ filter u (drop (r + 1) xs)) (filter u (drop (r + 1) xs))) e in
-    ap (λ s. reverse s ++ x ∷ []) same ∙ sym (reverse-append (x ∷ []) (filter u (drop (r + 1) xs))) ∙
-    ap reverse (sym open_up)
+    grind (arith, common_steps, filter_drop_same, drop-cons, reverse-append)
 
 -- one that fails, downward
 pub listed_down_skip : (t : ℕ → Bool) (xs : List ℕ) (r : ℕ) → r < length xs → t (get_or xs r 0) ≡ false →
     reverse (filter t (drop (r + 1) xs)) ≡ reverse (filter t (drop r xs))
-listed_down_skip t xs r l e =
-    let x = get_or xs r 0 in
-    let next : suc r ≡ r + 1 = omega arith in
-    let open_up : filter t (drop r xs) ≡ filter t (drop (r + 1) xs) =
-    ap (filter t) (drop-cons xs r 0 l ∙ ap (λ k. x ∷ drop k xs) next) ∙
-    ap (λ b. cond b (x ∷ filter t (drop (r + 1) xs)) (filter t (drop (r + 1) xs))) e in
-    ap reverse (sym open_up)
+listed_down_skip t xs r l e = grind (arith, common_steps)
 
 -- no more pass than are behind
 pub listed_down_few : (t : ℕ → Bool) (xs : List ℕ) (r : ℕ) → r ≤ length xs →

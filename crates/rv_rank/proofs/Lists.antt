@@ -3,14 +3,13 @@ use Rattle.std.proofs.lemmas.Bool.{cases_eq}
 use Rattle.std.proofs.Common.{◌≡◌, ℕ, zero, suc, ◌+◌, ◌<◌, ◌⊎◌, List, [], ◌∷◌, length, get_or, take, inl, inr, arith}
 use Rattle.std.specs.List.{Contains}
 use Rattle.std.proofs.lemmas.List.{take_more}
-use Rattle.std.proofs.lemmas.List.Elements.{Contains-push_cases, Contains-append_left, Contains-push}
+use Rattle.std.proofs.lemmas.List.Elements.{Contains-append_left, Contains-push}
+use Rattle.std.proofs.lemmas.Grind.{common_steps}
 
 -- the first elements and the next
 pub Contains-take_more : (xs : List ℕ) (i x : ℕ) → i < length xs → Contains (take (i + 1) xs) x →
     Contains (take i xs) x ⊎ (get_or xs i 0 ≡ x)
-Contains-take_more xs i x l h =
-    let e = take_more xs i 0 l in
-    Contains-push_cases (take i xs) (get_or xs i 0) x (rw e at h)
+Contains-take_more xs i x l h = grind (arith, common_steps)
 
 -- the first elements stay
 pub Contains-take_kept : (xs : List ℕ) (i x : ℕ) → i < length xs → Contains (take i xs) x →

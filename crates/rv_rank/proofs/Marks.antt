@@ -1,10 +1,12 @@
 -- Marks that are kept by rank.
 use Rattle.std.proofs.Common.{◌≡◌, ◌≢◌, ℕ, ◌+◌, ◌-◌, ◌<◌, ◌≤◌, ◌⊎◌, ◌||◌, true, false, not, List}
-use Rattle.std.proofs.Common.{length, get_or, set, take, inl, inr, sym, ◌∙◌, arith, ap, refl, subst}
+use Rattle.std.proofs.Common.{length, get_or, set, take, inl, inr, sym, ◌∙◌, arith, ap, refl}
 use Rattle.std.specs.List.{Contains}
 use Rattle.std.specs.Prelude.{nat_lt}
 use Rattle.std.proofs.lemmas.List.{length-set, get_or-set_same, get_or-set_other, get_or_past, get_or_default}
 use Rattle.std.proofs.lemmas.Bool.{cases_eq, cases_lt, cond-true, cond-false, lt-ltb, le-ltb}
+use Rattle.std.proofs.lemmas.Grind.{common_steps}
+use Rattle.std.proofs.Common.{rules}
 use Rattle.rv_rank.specs.declared.search.Mark.{Mark}
 use Rattle.rv_rank.specs.declared.search.Mark.TheVariants.{Free, Start, After, Behind}
 use Rattle.rv_rank.specs.Order.{IsInverse}
@@ -99,13 +101,8 @@ mark_at-set_same low marks r m l h = mark_at-above low (set marks (r - low) m) r
 -- any other mark
 pub mark_at-set_other : (low : ℕ) (marks : List Mark) (r s : ℕ) (m : Mark) → low ≤ s → r ≢ s →
     mark_at low (set marks (s - low) m) r ≡ mark_at low marks r
-mark_at-set_other low marks r s m l n = elim (cases_lt r low) [
-  | inl b ↦ mark_at-below low (set marks (s - low) m) r b ∙ sym (mark_at-below low marks r b)
-  | inr p ↦
-      let differs : (r - low) ≢ (s - low) = λ e. n (omega arith) in
-      mark_at-above low (set marks (s - low) m) r p ∙
-      get_or-set_other marks (s - low) (r - low) m Free differs ∙ sym (mark_at-above low marks r p)
-]
+mark_at-set_other low marks r s m l n =
+    grind (arith, common_steps, cases_lt, mark_at-below, mark_at-above, get_or-set_other)
 
 -- the mark of a node is that of its rank
 pub mark_of-node : (low : ℕ) (ranks : List ℕ) (marks : List Mark) (a : ℕ) → a < length ranks →
@@ -116,25 +113,8 @@ mark_of-node low ranks marks a l = ap (mark_at low marks) (get_or_default ranks 
 pub marked_within : (low : ℕ) (ranks : List ℕ) (marks : List Mark) (a : ℕ) → low + length marks ≡ length ranks →
     IsMarked low ranks marks a → (a < length ranks) × (low ≤ get_or ranks a 0) ×
     (get_or ranks a 0 < length ranks)
-marked_within low ranks marks a long m = elim (cases_lt a (length ranks)) [
-  | inl l ↦
-      let at = mark_of-node low ranks marks a l in (
-        l,
-        elim (cases_lt (get_or ranks a 0) low) [
-          | inl b ↦ absurd
-              (m (at ∙ mark_at-below low marks (get_or ranks a 0) b))
-          | inr p ↦ p
-        ],
-        elim (cases_lt (get_or ranks a 0) (length ranks)) [
-          | inl b ↦ b
-          | inr p ↦ absurd
-              (m (at ∙ mark_at-past low marks (get_or ranks a 0) (omega arith)))
-        ],
-      )
-  | inr p ↦
-      let e = get_or_past ranks a (length ranks) p in
-      absurd (m (mark_at-past low marks (get_or ranks a (length ranks)) (omega (arith, e))))
-]
+marked_within low ranks marks a long m =
+    grind (arith, common_steps, cases_lt, mark_of-node, mark_at-below, mark_at-past, get_or_past)
 
 abbrev pub IsOnce : List ℕ → Type 0
 IsOnce ranks = (a b : ℕ) → a < length ranks → b < length ranks → get_or ranks a 0 ≡ get_or ranks b 0 → a ≡ b
@@ -160,17 +140,13 @@ pub IsSpread-more : (ranks : List ℕ) (low : ℕ) (old new : List Mark) (mark :
 IsSpread-more ranks low old new mark targets i once long marks h l b below high f =
     let t = get_or targets i 0 in
     let next = set new (get_or ranks t 0 - low) mark in
-    let same : mark_of low ranks next t ≡ mark = mark_of-node low ranks next t b ∙
-    mark_at-set_same low new (get_or ranks t 0) mark high (omega (arith, h.long)) in
+    let same : mark_of low ranks next t ≡ mark =
+    grind (arith, common_steps, mark_of-node, mark_at-set_same) in
     let other : (a : ℕ) → (a ≡ t → ⊥) → mark_of low ranks next a ≡ mark_of low ranks new a =
     λ a n. mark_of-set_other low ranks new a t mark once b below high n in
     record {
       long = length-set new (get_or ranks t 0 - low) mark ∙ h.long;
-      kept = λ a m. elim (cases_eq a t) [
-        | inl e ↦ absurd (m (sym (h.kept a m) ∙ ap (mark_of low ranks new) e ∙
-            f))
-        | inr n ↦ other a n ∙ h.kept a m
-      ];
+      kept = search (cases_eq, rules);
       found = λ a w up free. elim (cases_eq a t) [
         | inl e ↦ marks (sym same ∙ ap (mark_of low ranks next) (sym e) ∙ free)
         | inr n ↦ elim (Contains-take_more targets i a l w) [
@@ -197,39 +173,18 @@ pub IsSpread-skip : (ranks : List ℕ) (low : ℕ) (old new : List Mark) (mark :
     IsSpread ranks low old new mark (take i targets) → i < length targets →
     (low ≤ get_or ranks (get_or targets i 0) 0 → IsMarked low ranks new (get_or targets i 0)) →
     IsSpread ranks low old new mark (take (i + 1) targets)
-IsSpread-skip ranks low old new mark targets i h l f = record {
-  long = h.long;
-  kept = h.kept;
-  found = λ a w up. elim (Contains-take_more targets i a l w) [
-    | inl v ↦ h.found a v up
-    | inr e ↦ λ free. f
-        (subst (λ x. low ≤ get_or ranks x 0) (sym e) up) (ap (mark_of low ranks new) e ∙ free)
-  ];
-  only = λ a free. elim (h.only a free) [
-    | inl e ↦ inl e
-    | inr w ↦ inr (
-      w.0,
-      Contains-take_kept targets i a l w.1,
-      w.2,
-    )
-  ];
-}
+IsSpread-skip ranks low old new mark targets i h l f = grind (arith, common_steps)
 
 -- what is no target keeps its mark
 pub spread_same : (ranks : List ℕ) (low : ℕ) (old new : List Mark) (mark : Mark) (targets : List ℕ) →
     IsSpread ranks low old new mark targets → (a : ℕ) → (Contains targets a → ⊥) →
     mark_of low ranks new a ≡ mark_of low ranks old a
-spread_same ranks low old new mark targets h a n = elim (cases_free (mark_of low ranks old a)) [
-  | inl f ↦ elim (h.only a f) [ inl e ↦ e ∙ sym f | inr w ↦ absurd (n w.1) ]
-  | inr m ↦ h.kept a m
-]
+spread_same ranks low old new mark targets h a n = grind (arith, common_steps)
 
 -- the node of a rank has the mark of that rank
 pub mark_of-rank : (low : ℕ) (nodes ranks : List ℕ) (marks : List Mark) (k : ℕ) → IsInverse nodes ranks →
     k < length nodes → mark_of low ranks marks (get_or nodes k 0) ≡ mark_at low marks k
-mark_of-rank low nodes ranks marks k h l =
-    let i = h.there k l in
-    mark_of-node low ranks marks (get_or nodes k 0) i.0 ∙ ap (mark_at low marks) i.1
+mark_of-rank low nodes ranks marks k h l = grind (arith, common_steps)
 
 -- nodes below the lowest rank are free
 pub below_free : (low : ℕ) (nodes ranks : List ℕ) (marks : List Mark) (k : ℕ) → IsInverse nodes ranks →
@@ -262,20 +217,12 @@ read_marked low ranks marks a r l h e f q = not_free _ f (sym (read_of low ranks
 -- a node of a rank below the lowest is free
 pub low_free : (low : ℕ) (ranks : List ℕ) (marks : List Mark) (a : ℕ) → low + length marks ≡ length ranks →
     get_or ranks a 0 < low → mark_of low ranks marks a ≡ Free
-low_free low ranks marks a long l =
-    elim (cases_free (mark_of low ranks marks a)) [
-      | inl f ↦ f
-      | inr m ↦ absurd
-          (omega (arith, (marked_within low ranks marks a long m).1))
-    ]
+low_free low ranks marks a long l = grind (arith, common_steps, cases_free, marked_within)
 
 -- where no mark is kept, all nodes are free
 pub all_free : (low : ℕ) (ranks : List ℕ) (marks : List Mark) → ((k : ℕ) → get_or marks k Free ≡ Free) →
     (a : ℕ) → mark_of low ranks marks a ≡ Free
-all_free low ranks marks h a = elim (cases_lt (get_or ranks a (length ranks)) low) [
-  | inl b ↦ mark_at-below low marks (get_or ranks a (length ranks)) b
-  | inr p ↦ mark_at-above low marks (get_or ranks a (length ranks)) p ∙ h _
-]
+all_free low ranks marks h a = grind (arith, common_steps, cases_lt, mark_at-below, mark_at-above)
 
 -- no slot lies below the lowest rank
 pub slot_below : (low : ℕ) (marks : List Mark) (k : ℕ) → k < low → is_slot low marks k ≡ false

@@ -1,10 +1,10 @@
 -- The members of a placement, as the visits tell them.
 use Rattle.std.proofs.Common.{◌≡◌, ◌≢◌, ℕ, ◌+◌, ◌<◌, ◌≤◌, ◌||◌, Bool, true, false, List, [], ◌∷◌, ◌++◌}
-use Rattle.std.proofs.Common.{length, get_or, set, take, reverse, inl, inr, sym, ◌∙◌, arith, ap}
-use Rattle.std.proofs.Common.{length-append}
+use Rattle.std.proofs.Common.{length, get_or, set, reverse, sym, ◌∙◌, arith, ap}
 use Rattle.std.specs.List.{All, filter}
-use Rattle.std.proofs.Math.Seq.{drop-append_seam, take-append_seam}
-use Rattle.std.proofs.lemmas.List.{reverse-reverse, get_or_default}
+use Rattle.std.proofs.lemmas.List.{get_or_default}
+use Rattle.std.proofs.Common.{rules}
+use Rattle.std.proofs.lemmas.Grind.{common_steps}
 use Rattle.rv_rank.specs.declared.search.Mark.{Mark}
 use Rattle.rv_rank.specs.declared.search.Mark.TheVariants.{Free}
 use Rattle.rv_rank.specs.Order.{IsInverse}
@@ -23,11 +23,7 @@ use Rattle.rv_rank.proofs.Mending.{mended_local}
 
 members_of-found : (first back : List ℕ) (node : ℕ) →
     members_of (first ++ reverse back) (length first) node ≡ back ++ node ∷ first
-members_of-found first back node =
-    ap (λ x. reverse x ++ node ∷ take (length first) (first ++ reverse back))
-    (drop-append_seam first (reverse back)) ∙
-    ap (λ x. x ++ node ∷ take (length first) (first ++ reverse back)) (reverse-reverse back) ∙
-    ap (λ x. back ++ node ∷ x) (take-append_seam first (reverse back))
+members_of-found first back node = grind (arith, common_steps)
 
 module _ (found : Found) (nodes ranks visits : List ℕ) (inverse : IsInverse nodes ranks)
     (plan : IsPlan found nodes ranks visits) where
@@ -54,12 +50,7 @@ module _ (found : Found) (nodes ranks visits : List ℕ) (inverse : IsInverse no
 
   -- the new node was not found
   new_free : mark_of low ranks marks (length nodes) ≡ Free
-  new_free =
-      elim (cases_free (mark_of low ranks marks (length nodes))) [
-        | inl e ↦ e
-        | inr m ↦ absurd
-            (omega (arith, (marked_within low ranks marks (length nodes) long_ranks m).0, inverse.long))
-      ]
+  new_free = grind (arith, common_steps, cases_free, marked_within, long_ranks)
 
   new_b : b (length nodes) ≡ false
   new_b = ap is_behind new_free
@@ -79,24 +70,13 @@ module _ (found : Found) (nodes ranks visits : List ℕ) (inverse : IsInverse no
   above_f a l e = (marked_within low ranks marks a long_ranks (ahead_marked (mark_of low ranks marks a) e)).1
 
   first_slot : low < length nodes → f (get_or nodes low 0) ≡ true
-  first_slot l =
-      let s = plan.lowest l in
-      let i = inverse.back s.0 (omega (arith, s.1, inverse.long)) in
-      ap f (ap (λ k. get_or nodes k 0) (sym s.3) ∙ i.1) ∙ s.2
+  first_slot l = search rules
 
   same_members : members_of visits split (length nodes) ≡ filter b nodes ++ length nodes ∷ filter f nodes
-  same_members = ap (λ v. members_of v split (length nodes)) plan.listed ∙
-      ap (λ k. members_of (filter f nodes ++ reverse (filter b nodes)) k (length nodes)) plan.split ∙
-      members_of-found (filter f nodes) (filter b nodes) (length nodes)
+  same_members = grind (arith, common_steps)
 
   split_within : split ≤ length visits
-  split_within =
-      omega (
-        arith,
-        plan.split,
-        ap length plan.listed,
-        length-append (filter f nodes) (reverse (filter b nodes)),
-      )
+  split_within = grind (arith, common_steps)
 
   count_listed : length visits ≡ count_to (either_of b f) nodes (length nodes)
   count_listed = omega (
@@ -107,9 +87,7 @@ module _ (found : Found) (nodes ranks visits : List ℕ) (inverse : IsInverse no
   )
 
   count_slots : length visits ≡ count_below (is_slot low marks) (length nodes)
-  count_slots =
-      count_listed ∙
-      sym (count_below-count_to (is_slot low marks) (either_of b f) nodes (length nodes) tests (omega arith))
+  count_slots = grind (arith, common_steps, count_listed, count_below-count_to, either_of, tests)
 
   members_placed : All (λ a. a < length nodes + 1) (members_of visits split (length nodes))
   members_placed = rw same_members (λ k d l.
@@ -124,13 +102,8 @@ module _ (found : Found) (nodes ranks visits : List ℕ) (inverse : IsInverse no
 
   -- the members, each with a place
   pub roster : (ranks0 : List ℕ) → length ranks0 ≡ length nodes + 1 → IsRoster found nodes ranks0 visits
-  roster ranks0 e = record {
-    long = plan.long;
-    split = split_within;
-    count = count_slots;
-    placed = rw e members_placed;
-    apart = members_once;
-  }
+  roster ranks0 e =
+      grind (arith, common_steps, split_within, count_slots, members_placed, apart, members_once)
 
   module _ (ranks0 nodes1 ranks1 : List ℕ) (last : ℕ) (begun : ranks0 ≡ ranks ++ length nodes ∷ [])
       (is_last : last ≡ get_or (members_of visits split (length nodes)) (length visits) 0)

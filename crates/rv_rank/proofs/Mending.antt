@@ -6,6 +6,8 @@ use Rattle.std.specs.List.{filter}
 use Rattle.std.proofs.lemmas.List.{get_or-set_same, get_or-set_other, length-set, get_or_append_left}
 use Rattle.std.proofs.lemmas.List.{get_or_at, get_or-append_right, get_or_push, length_push}
 use Rattle.std.proofs.lemmas.Bool.{cases_eq, cases_lt, false≢true}
+use Rattle.std.proofs.Common.{rules}
+use Rattle.std.proofs.lemmas.Grind.{common_steps}
 use Rattle.rv_rank.specs.Order.{IsInverse}
 use Rattle.rv_rank.specs.Mended.{IsMended}
 use Rattle.rv_rank.specs.Local.{IsLocal}
@@ -59,36 +61,17 @@ module _ (b f : ℕ → Bool) (nodes ranks : List ℕ) (inverse : IsInverse node
 
   -- there is one member more than slots
   pub members_long : length members ≡ count_to (either_of b f) nodes (length nodes) + 1
-  members_long = omega (
-    arith,
-    length-append (filter b nodes) (length nodes ∷ filter f nodes),
-    count_sum b f apart nodes (length nodes),
-    count_all b nodes,
-    count_all f nodes,
-  )
+  members_long = grind (arith, common_steps, length-append, count_sum, count_all)
 
   place_back : (a : ℕ) → b a ≡ true → place a ≡ count_to b nodes (get_or ranks a 0)
-  place_back a e =
-      ap (λ t. cond t (count_to b nodes (get_or ranks a 0))
-      (cond (f a) (length (filter b nodes) + 1 + count_to f nodes (get_or ranks a 0))
-      (length (filter b nodes)))) e
+  place_back a e = grind (arith, common_steps)
 
   place_ahead : (a : ℕ) → b a ≡ false → f a ≡ true →
       place a ≡ length (filter b nodes) + 1 + count_to f nodes (get_or ranks a 0)
-  place_ahead a e g =
-      ap (λ t. cond t (count_to b nodes (get_or ranks a 0))
-      (cond (f a) (length (filter b nodes) + 1 + count_to f nodes (get_or ranks a 0))
-      (length (filter b nodes)))) e ∙
-      ap (λ t. cond t (length (filter b nodes) + 1 + count_to f nodes (get_or ranks a 0))
-      (length (filter b nodes))) g
+  place_ahead a e g = grind (arith, common_steps)
 
   place_new : place (length nodes) ≡ length (filter b nodes)
-  place_new =
-      ap (λ t. cond t (count_to b nodes (get_or ranks (length nodes) 0))
-      (cond (f (length nodes)) (length (filter b nodes) + 1 + count_to f nodes (get_or ranks (length nodes) 0))
-      (length (filter b nodes)))) new_b ∙
-      ap (λ t. cond t (length (filter b nodes) + 1 + count_to f nodes (get_or ranks (length nodes) 0))
-      (length (filter b nodes))) new_f
+  place_new = grind (arith, common_steps)
 
   not_back : (a : ℕ) → f a ≡ true → b a ≡ false
   not_back a g = elim (cases_test (b a)) [ inl e ↦ absurd (false≢true (sym (apart a e) ∙ g)) | inr e ↦ e ]
@@ -96,20 +79,18 @@ module _ (b f : ℕ → Bool) (nodes ranks : List ℕ) (inverse : IsInverse node
   -- a member is where its place says
   at_back : (a : ℕ) → a < length nodes → b a ≡ true → (place a < length members) × (get_or members (place a) 0 ≡ a)
   at_back a l e =
-      let i = inverse.back a (omega (arith, l, inverse.long)) in
-      let h = filter_at b nodes (get_or ranks a 0) i.0 (ap b i.1 ∙ e) in
-      let q = place_back a e in
-      rw q (
-        omega (arith, h.0, length-append (filter b nodes) (length nodes ∷ filter f nodes)),
-        get_or_append_left (filter b nodes) (length nodes ∷ filter f nodes) 0
-            (count_to b nodes (get_or ranks a 0)) h.0 ∙ h.1 ∙ i.1,
+      grind (
+        arith,
+        common_steps,
+        filter_at,
+        place_back,
+        length-append,
+        get_or_append_left,
+        count_to,
       )
 
   at_new : (place (length nodes) < length members) × (get_or members (place (length nodes)) 0 ≡ length nodes)
-  at_new = rw place_new (
-    omega (arith, length-append (filter b nodes) (length nodes ∷ filter f nodes)),
-    get_or_at (filter b nodes) (length nodes) (filter f nodes) 0 (length (filter b nodes)) refl,
-  )
+  at_new = grind (arith, common_steps)
 
   at_ahead : (a : ℕ) → a < length nodes → f a ≡ true → (place a < length members) × (get_or members (place a) 0 ≡ a)
   at_ahead a l e =
@@ -272,13 +253,7 @@ module _ (b f : ℕ → Bool) (nodes ranks : List ℕ) (inverse : IsInverse node
         )
 
     slot_low : (k : ℕ) → k < length nodes → either_of b f (get_or nodes k 0) ≡ true → low ≤ k
-    slot_low k l e =
-        let i = inverse.there k l in
-        let below : get_or nodes k 0 < length nodes = omega (arith, i.0, inverse.long) in
-        elim (or_cases (b (get_or nodes k 0)) (f (get_or nodes k 0)) e) [
-          | inl y ↦ omega (arith, above_b (get_or nodes k 0) below y, i.1)
-          | inr y ↦ omega (arith, above_f (get_or nodes k 0) below y, i.1)
-        ]
+    slot_low k l e = search (or_cases, rules)
 
     -- the slot of a member, or of the new node
     slot : (a : ℕ) → (place a < length members) × (get_or members (place a) 0 ≡ a) →
@@ -288,8 +263,8 @@ module _ (b f : ℕ → Bool) (nodes ranks : List ℕ) (inverse : IsInverse node
       | inl less ↦
           let o = filter_from (either_of b f) nodes (place a) (omega (arith, count_all (either_of b f) nodes)) in
           let p = filled_at o.0 o.1 o.2 in
-          let q : get_or members (count_to (either_of b f) nodes o.0) 0 ≡ a = ap (λ x. get_or members x 0) o.3 ∙
-          w.1 in (
+          let q : get_or members (count_to (either_of b f) nodes o.0) 0 ≡ a =
+          grind (arith, common_steps) in (
             o.0,
             omega (arith, o.1),
             sym (ap (λ x. get_or final_ranks x 0) q) ∙ p.1,
@@ -331,12 +306,7 @@ module _ (b f : ℕ → Bool) (nodes ranks : List ℕ) (inverse : IsInverse node
 
     -- places in order give slots in order
     slots_rise : (k l : ℕ) → count_to (either_of b f) nodes k < count_to (either_of b f) nodes l → k < l
-    slots_rise k l c =
-        elim (cases_lt k l) [
-          | inl y ↦ y
-          | inr n ↦ absurd
-              (omega (arith, count_mono (either_of b f) nodes l k n))
-        ]
+    slots_rise k l c = grind (arith, common_steps, cases_lt, count_mono)
 
     back_at : (a : ℕ) → a < length final_ranks → (get_or final_ranks a 0 < length final_nodes) ×
         (get_or final_nodes (get_or final_ranks a 0) 0 ≡ a)
@@ -403,8 +373,7 @@ module _ (b f : ℕ → Bool) (nodes ranks : List ℕ) (inverse : IsInverse node
         let high = above_b a l e in
         let first = lowest (omega (arith, high, i.0)) in
         let differs : low ≢ get_or ranks a 0 =
-        λ q. false≢true (sym (apart a e) ∙ ap f (sym i.1) ∙ ap (λ k. f (get_or nodes k 0)) (sym q) ∙
-        first) in
+        search (false≢true, rules) in
         let before = count_strict f nodes low (get_or ranks a 0) (omega (arith, high, i.0)) first (omega arith) in
         omega (arith, s.2, slots_rise s.0 (get_or ranks a 0) (omega (arith, s.4, place_back a e, sum, before)))
 

@@ -1,8 +1,9 @@
 -- Two tables, the one with the other's edges backward.
-use Rattle.std.proofs.Common.{◌≡◌, ℕ, ◌<◌, List, [], length, get_or, inl, inr, sym, arith}
+use Rattle.std.proofs.Common.{◌≡◌, ℕ, ◌<◌, List, [], length, get_or, inl, inr, arith}
 use Rattle.std.specs.List.{All}
 use Rattle.std.proofs.lemmas.List.{get_or_default}
 use Rattle.std.proofs.lemmas.List.Elements.{Contains-get_or}
+use Rattle.std.proofs.lemmas.Grind.{common_steps}
 use Rattle.rv_rank.specs.Graph.{Edge, IsGrown}
 use Rattle.rv_rank.specs.Walking.{IsMirror}
 use Rattle.rv_rank.proofs.Growth.{edge_from}
@@ -24,12 +25,7 @@ rows_within outgoing incoming h k d l j e m =
 
 -- a mirror of the mirror
 pub mirror_flip : (outgoing incoming : List (List ℕ)) → IsMirror outgoing incoming → IsMirror incoming outgoing
-mirror_flip outgoing incoming h = record {
-  long = sym h.long;
-  back = λ a b e. h.forth b a e;
-  forth =
-      λ a b e. h.back b a e;
-}
+mirror_flip outgoing incoming h = grind (arith, common_steps)
 
 -- a new node leaves the rows mirrored
 pub mirror_grown : (outgoing incoming out in_ : List (List ℕ)) (preds succs : List ℕ) →

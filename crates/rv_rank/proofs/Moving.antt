@@ -10,6 +10,8 @@ use Rattle.std.proofs.lemmas.List.Elements.{Contains-get_or}
 use Rattle.std.proofs.lemmas.List.Sums.{count_by_more_yes, count_by_more_no}
 use Rattle.std.proofs.lemmas.Slice.Zip.{get_or-zip, length-zip}
 use Rattle.std.proofs.lemmas.Bool.{cases_lt, false≢true}
+use Rattle.std.proofs.Common.{rules}
+use Rattle.std.proofs.lemmas.Grind.{common_steps}
 use Rattle.rv_rank.specs.Mended.{count_below}
 use Rattle.rv_rank.specs.Placing.{ListsOnce, moved_of}
 use Rattle.rv_rank.proofs.Counting.{cases_test}
@@ -56,18 +58,12 @@ list_without t n xs i l at h = record {
       let o = origin xs i w.0 l w.1 in
       let same : get_or xs o.0 0 ≡ a = sym o.3 ∙ contained_at (remove xs i) a w in
       let p = h.only (get_or xs o.0 0) (Contains-get_or xs o.0 0 o.1) in
-      let differs : get_or xs o.0 0 ≢ n = λ e. elim (cases_lt o.0 i) [
-        | inl b ↦ h.once o.0 i b l (e ∙ sym at)
-        | inr q ↦ h.once i o.0 (omega (arith, o.2)) o.1 (at ∙ sym e)
-      ] in
+      let differs : get_or xs o.0 0 ≢ n = search (cases_lt, rules) in
       (omega (arith, p.0, same, differs), ap t (sym same) ∙ p.1);
   once = λ j k b m e.
       let p = origin xs i j l (omega arith) in
       let q = origin xs i k l m in
-      let rise : p.0 < q.0 = elim p.4 [
-        | inl x ↦ elim q.4 [ inl y ↦ omega (arith, x.1, y.1) | inr y ↦ omega (arith, x.1, y.1) ]
-        | inr x ↦ elim q.4 [ inl y ↦ absurd (omega (arith, x.0, y.0)) | inr y ↦ omega (arith, x.1, y.1) ]
-      ] in
+      let rise : p.0 < q.0 = grind (arith, common_steps) in
       h.once p.0 q.0 rise q.1 (sym p.3 ∙ e ∙ q.3);
 }
 

@@ -8,6 +8,8 @@ use Rattle.std.proofs.lemmas.List.Elements.{All-contains, Contains-get_or, Conta
 use Rattle.std.proofs.lemmas.List.Elements.{Contains-append_right, Contains-append_cases, filter_passes}
 use Rattle.std.proofs.lemmas.List.Sorted.{Contains-permutation, IsPermutation-reverse, IsPermutation-sym}
 use Rattle.std.proofs.lemmas.Bool.{cases_eq, cases_lt, false≢true, ne_eqb, eq-eqb}
+use Rattle.std.proofs.Common.{rules}
+use Rattle.std.proofs.lemmas.Grind.{common_steps}
 use Rattle.rv_rank.specs.declared.search.Found.{Found}
 use Rattle.rv_rank.specs.declared.search.Mark.{Mark}
 use Rattle.rv_rank.specs.Graph.{Edge, here, step, IsOrder, IsGrown}
@@ -58,9 +60,7 @@ module _ (edges : List (List ℕ)) (order : Ordering) (preds succs : List ℕ) (
 
   behind_within : (a : ℕ) → b a ≡ true → (a < length order.ranks) × (low ≤ get_or order.ranks a 0) ×
       (get_or order.ranks a 0 < length order.ranks)
-  behind_within a e =
-      marked_within low order.ranks marks a h.long
-      (behind_marked _ (behind_is (mark_of low order.ranks marks a) e))
+  behind_within a e = grind (arith, common_steps, marked_within, behind_marked, behind_is)
 
   -- no node is behind and ahead
   pub apart : (a : ℕ) → b a ≡ true → f a ≡ false
@@ -288,10 +288,7 @@ module _ (edges : List (List ℕ)) (order : Ordering) (preds succs : List ℕ) (
     pub taken : (r : ℕ) → IsFreed edges order.ranks preds succs r →
         (a : ℕ) × IsMover edges order.ranks preds succs a × (get_or new a 0 ≡ r)
     taken r w =
-        let within : r < length new = elim w [
-          | inl q ↦ omega (arith, q, l.long)
-          | inr c ↦ omega (arith, o.below c.0 c.1.1, c.2, l.long)
-        ] in
+        let within : r < length new = search rules in
         let e = l.every r within in
         let a = e.0 in
         elim (cases_eq a (length order.ranks)) [
@@ -319,10 +316,7 @@ module _ (edges : List (List ℕ)) (order : Ordering) (preds succs : List ℕ) (
 
     -- without successors the new node is the highest
     pub greatest : succs ≡ [] → get_or new (length order.ranks) 0 ≡ length order.ranks
-    greatest e = elim (cases_lt low (length order.ranks)) [
-      | inl m ↦ let s = h.lowest m in absurd (let w = rw e at s.1 in omega (arith, w.1))
-      | inr p ↦ omega (arith, p, l.least_new, l.below (length order.ranks) (omega (arith, l.long)), l.long)
-    ]
+    greatest e = search (cases_lt, rules)
 
     -- and nothing was visited
     pub still : succs ≡ [] → length list ≡ 0
@@ -337,15 +331,7 @@ module _ (edges : List (List ℕ)) (order : Ordering) (preds succs : List ℕ) (
     ]
 
     changed : (a : ℕ) → (f a ≡ true) ⊎ (b a ≡ true) → a < length order.ranks → get_or order.ranks a 0 ≢ get_or new a 0
-    changed a w la =
-        elim w [
-          | inl x ↦ λ e. omega (arith, l.higher a la x, e)
-          | inr x ↦ λ e. omega (
-            arith,
-            l.lower a la x,
-            e,
-          )
-        ]
+    changed a w la = grind (arith, common_steps)
 
     -- just the visited nodes have other ranks than before
     pub moved : moved_of order.ranks new ≡ length list

@@ -1,11 +1,12 @@
 -- Rows of a table that grow at their ends.
 use Rattle.std.proofs.Common.{◌≡◌, ◌≢◌, ℕ, ◌+◌, ◌-◌, ◌<◌, ◌≤◌, List, [], ◌∷◌, ◌++◌, length, get_or, set, take}
-use Rattle.std.proofs.Common.{map, inl, inr, sym, ◌∙◌, arith, ap, refl, subst}
+use Rattle.std.proofs.Common.{map, inl, inr, sym, ◌∙◌, arith, ap, subst}
 use Rattle.std.specs.List.{All, Contains}
 use Rattle.std.proofs.lemmas.List.{get_or-set_same, get_or-set_other, length-set, map-set, set-get_or}
-use Rattle.std.proofs.lemmas.List.{get_or-map, length-map, length_push, get_or_push}
-use Rattle.std.proofs.lemmas.List.Elements.{All-nil, All-more, All-weaker}
+use Rattle.std.proofs.lemmas.List.{get_or-map, length-map}
+use Rattle.std.proofs.lemmas.List.Elements.{All-more, All-weaker}
 use Rattle.std.proofs.lemmas.Bool.{cases_eq}
+use Rattle.std.proofs.lemmas.Grind.{common_steps}
 use Rattle.rv_rank.specs.Rows.{Neighbours, outgoing_of, incoming_of, rooms_of, degree, HasRoom, KeepsRoom}
 use Rattle.rv_rank.specs.Rows.{IsAppended, EndsIn}
 use Rattle.rv_rank.proofs.Lists.{Contains-take_more, Contains-take_kept, Contains-take_last, contains_cases}
@@ -56,10 +57,7 @@ IsAppended-skip old new places item i h l v = record {
 
 -- a row ends in what was appended
 pub EndsIn-append : (row : List ℕ) (item : ℕ) → EndsIn (row ++ item ∷ []) item
-EndsIn-append row item =
-    let long = length_push row item in
-    let e : length (row ++ item ∷ []) - 1 ≡ length row = omega (arith, long) in
-    (omega (arith, long), ap (λ k. get_or (row ++ item ∷ []) k 0) e ∙ get_or_push row item 0 (length row) refl)
+EndsIn-append row item = grind (arith, common_steps)
 
 -- a row of smaller numbers doesn't end in the item
 pub not_EndsIn : (row : List ℕ) (item : ℕ) → All (λ a. a < item) row → EndsIn row item → ⊥
@@ -69,19 +67,16 @@ not_EndsIn row item h e = let b = h (length row - 1) 0 (omega (arith, e.0)) in o
 pub KeepsRoom-set : (old rows : List Neighbours) (p : ℕ) (v d : Neighbours) → KeepsRoom old rows →
     p < length rows → (get_or rows p d).room ≤ v.room → KeepsRoom old (set rows p v)
 KeepsRoom-set old rows p v d h l m a =
-    let f : Neighbours → ℕ = λ n. n.room in
-    let e : map f (set rows p v) ≡ set (map f rows) p v.room = map-set f rows p v in
-    elim (cases_eq a p) [
-      | inl q ↦
-          let here : get_or (set (map f rows) p v.room) p 0 ≡ v.room =
-          get_or-set_same (map f rows) p v.room 0 (omega (arith, length-map rows f)) in
-          let was : get_or (map f rows) p 0 ≡ (get_or rows p d).room = get_or-map f rows p d 0 l in
-          rw (q, e) (omega (arith, here, was, h p))
-      | inr n ↦
-          let there : get_or (set (map f rows) p v.room) a 0 ≡ get_or (map f rows) a 0 =
-          get_or-set_other (map f rows) p a v.room 0 n in
-          rw e (omega (arith, there, h a))
-    ]
+    grind (
+      arith,
+      common_steps,
+      map-set,
+      cases_eq,
+      get_or-set_same,
+      length-map,
+      get_or-map,
+      get_or-set_other,
+    )
 
 -- room that was made stays
 pub HasRoom-kept : (old new : List Neighbours) (more a : ℕ) → outgoing_of new ≡ outgoing_of old →
@@ -110,15 +105,7 @@ HasRoom-set rows p more v l h =
 pub HasRoom-less : (old new : List Neighbours) (places : List ℕ) (item a : ℕ) →
     IsAppended (outgoing_of old) (outgoing_of new) places item → incoming_of new ≡ incoming_of old →
     get_or (rooms_of old) a 0 ≤ get_or (rooms_of new) a 0 → a < length old → HasRoom old 2 a → HasRoom new 1 a
-HasRoom-less old new places item a h i k l room =
-    let row = get_or (outgoing_of old) a [] in
-    let few : length (get_or (outgoing_of new) a []) ≤ length row + 1 = elim (contains_cases places a) [
-      | inl w ↦
-          let e = h.here a (omega (arith, length-map old (λ n. n.outgoing))) w in
-          omega (arith, ap length e, length_push row item)
-      | inr n ↦ omega (arith, ap length (h.other a n))
-    ] in
-    rw i (omega (arith, few, k, room))
+HasRoom-less old new places item a h i k l room = grind (arith, common_steps)
 
 -- the nodes at the first i places have room for so many neighbours more
 pub record IsRoomy (old rows : List Neighbours) (places : List ℕ) (more i : ℕ) : Type 0 where
@@ -129,12 +116,7 @@ pub record IsRoomy (old rows : List Neighbours) (places : List ℕ) (more i : �
 
 -- before the first place
 pub IsRoomy-none : (old : List Neighbours) (places : List ℕ) (more : ℕ) → IsRoomy old old places more 0
-IsRoomy-none old places more = record {
-  outgoing = refl;
-  incoming = refl;
-  kept = λ a. omega arith;
-  room = All-nil (HasRoom old more);
-}
+IsRoomy-none old places more = grind (arith, common_steps)
 
 -- a node that was given room
 pub IsRoomy-set : (old rows : List Neighbours) (places : List ℕ) (more i p : ℕ) (v d : Neighbours) →
@@ -142,16 +124,7 @@ pub IsRoomy-set : (old rows : List Neighbours) (places : List ℕ) (more i p : �
     v.incoming ≡ (get_or rows p d).incoming → (get_or rows p d).room ≤ v.room →
     IsRoomy old (set rows p v) places more i
 IsRoomy-set old rows places more i p v d h l o n k =
-    let same_out = map_set_same (λ n. n.outgoing) rows p v d [] l o in
-    let same_in = map_set_same (λ n. n.incoming) rows p v d [] l n in
-    let least = KeepsRoom-set rows rows p v d (λ a. omega arith) l k in
-    record {
-      outgoing = same_out ∙ h.outgoing;
-      incoming = same_in ∙ h.incoming;
-      kept = KeepsRoom-set old rows p v d h.kept l k;
-      room = All-weaker (HasRoom rows more) (HasRoom (set rows p v) more)
-          (λ a. HasRoom-kept rows (set rows p v) more a same_out same_in (least a)) (take i places) h.room;
-    }
+    grind (arith, common_steps, map_set_same, KeepsRoom-set, All-weaker, HasRoom-kept)
 
 -- one place more has room
 pub IsRoomy-more : (old rows : List Neighbours) (places : List ℕ) (more i : ℕ) (v d : Neighbours) →
@@ -180,11 +153,7 @@ pub record IsFilling (f g : Neighbours → List ℕ) (old rows : List Neighbours
 -- before the first row
 pub Filling-none : (f g : Neighbours → List ℕ) (old : List Neighbours) (places : List ℕ) (item : ℕ) →
     IsFilling f g old old places item 0
-Filling-none f g old places item = record {
-  appended = record { long = refl; here = λ a l w. absurd (omega (arith, w.1)); other = λ a n. refl };
-  same = refl;
-  kept = λ a. omega arith;
-}
+Filling-none f g old places item = grind (arith, common_steps)
 
 module _
     (f g : Neighbours → List ℕ) (old rows : List Neighbours) (places : List ℕ) (item i : ℕ) (d : Neighbours)
@@ -207,14 +176,7 @@ module _
       + 1 ≤ get_or (rooms_of old) (get_or places i 0) 0 →
       length (f (get_or rows (get_or places i 0) d)) + length (g (get_or rows (get_or places i 0) d))
       < (get_or rows (get_or places i 0) d).room
-  room_at n room =
-      let p = get_or places i 0 in
-      let r : Neighbours → ℕ = λ n. n.room in
-      let here : f (get_or rows p d) ≡ get_or (map f old) p [] = sym row_at ∙ filling.appended.other p n in
-      let there : g (get_or rows p d) ≡ get_or (map g old) p [] =
-      sym (get_or-map g rows p d [] within) ∙ ap (λ x. get_or x p []) filling.same in
-      let k : get_or (map r rows) p 0 ≡ (get_or rows p d).room = get_or-map r rows p d 0 within in
-      rw (here, there) (omega (arith, k, filling.kept p, room))
+  room_at n room = grind (arith, common_steps)
 
   -- one row more
   pub Filling-more : (v : Neighbours) → i < length places →

@@ -2,9 +2,11 @@
 use Rattle.std.proofs.Common.{◌≡◌, ◌≢◌, ℕ, zero, suc, ◌+◌, ◌<◌, ◌≤◌, ◌⊎◌, List, [], length, get_or, inl, inr}
 use Rattle.std.proofs.Common.{sym, ◌∙◌, arith, ap, refl, subst}
 use Rattle.std.specs.List.{All}
-use Rattle.std.proofs.lemmas.List.Elements.{Contains-get_or, All-contains}
+use Rattle.std.proofs.lemmas.List.Elements.{Contains-get_or}
 use Rattle.std.proofs.lemmas.List.{get_or_past}
 use Rattle.std.proofs.lemmas.Bool.{cases_eq, cases_lt}
+use Rattle.std.proofs.lemmas.Grind.{common_steps}
+use Rattle.std.proofs.Common.{rules}
 use Rattle.rv_rank.specs.declared.search.Mark.{Mark}
 use Rattle.rv_rank.specs.declared.search.Mark.TheVariants.{Free, Start, After, Behind}
 use Rattle.rv_rank.specs.Graph.{Edge, Reaches, here, step, IsOrder}
@@ -30,16 +32,7 @@ pub IsSearched-begin : (edges : List (List ℕ)) (ranks succs : List ℕ) (low :
     low + length old ≡ length ranks → ((a : ℕ) → mark_of low ranks old a ≡ Free) →
     All (λ s. low ≤ get_or ranks s 0) succs → IsSpread ranks low old new Start succs →
     IsSearched edges ranks succs low new low
-IsSearched-begin edges ranks succs low old new l free least h =
-    let long : low + length new ≡ length ranks = omega (arith, h.long) in
-    record {
-      long = long;
-      begun = λ a w. h.found a w (All-contains (λ s. low ≤ get_or ranks s 0) succs a least w);
-      closed = λ a b below m. absurd (omega (arith, (marked_within low ranks new a long m).1));
-      start = λ a e. elim (h.only a (free a)) [ inl n ↦ cc | inr w ↦ w.1 ];
-      after = λ a u e. elim (h.only a (free a)) [ inl n ↦ cc | inr w ↦ cc ];
-      forward = λ a e. elim (h.only a (free a)) [ inl n ↦ cc | inr w ↦ cc ];
-    }
+IsSearched-begin edges ranks succs low old new l free least h = grind (arith, common_steps)
 
 -- a marked node's targets are
 pub IsSearched-more : (edges : List (List ℕ)) (ranks succs : List ℕ) (low : ℕ) (old new : List Mark) (r v : ℕ) →
@@ -64,10 +57,7 @@ IsSearched-more edges ranks succs low old new r v o h from at below m s =
               kept b (h.closed a b (omega arith) was e)
         ]
       ];
-      start = λ a e. elim (cases_free (mark_of low ranks old a)) [
-        | inl free ↦ elim (s.only a free) [ inl n ↦ cc | inr w ↦ cc ]
-        | inr was ↦ h.start a (sym (s.kept a was) ∙ e)
-      ];
+      start = search (cases_free, rules);
       after = λ a u e. elim (cases_free (mark_of low ranks old a)) [
         | inl free ↦ elim (s.only a free) [
           | inl n ↦ cc
@@ -80,28 +70,14 @@ IsSearched-more edges ranks succs low old new r v o h from at below m s =
         ]
         | inr was ↦ let p = h.after a u (sym (s.kept a was) ∙ e) in (p.0, kept u p.1)
       ];
-      forward = λ a e. elim (cases_free (mark_of low ranks old a)) [
-        | inl free ↦ elim (s.only a free) [ inl n ↦ cc | inr w ↦ cc ]
-        | inr was ↦ h.forward a (sym (s.kept a was) ∙ e)
-      ];
+      forward = search (cases_free, rules);
     }
 
 -- a free node is passed
 pub IsSearched-skip : (edges : List (List ℕ)) (ranks succs : List ℕ) (low : ℕ) (marks : List Mark) (r v : ℕ) →
     IsOrder edges ranks → IsSearched edges ranks succs low marks r → get_or ranks v 0 ≡ r → v < length ranks →
     mark_of low ranks marks v ≡ Free → IsSearched edges ranks succs low marks (r + 1)
-IsSearched-skip edges ranks succs low marks r v o h at below free = record {
-  long = h.long;
-  begun = h.begun;
-  closed = λ a b lt k e.
-      let differs : get_or ranks a 0 ≢ r =
-      λ e. k (ap (mark_of low ranks marks) (o.once a v (marked_within low ranks marks a h.long k).0 below
-      (e ∙ sym at)) ∙ free) in
-      h.closed a b (omega arith) k e;
-  start = h.start;
-  after = h.after;
-  forward = h.forward;
-}
+IsSearched-skip edges ranks succs low marks r v o h at below free = grind (arith, common_steps)
 
 -- what is reached from a marked node is marked
 pub reached_marked : (edges : List (List ℕ)) (ranks succs : List ℕ) (low : ℕ) (marks : List Mark) →

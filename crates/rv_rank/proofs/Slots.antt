@@ -1,9 +1,10 @@
 -- The slots of an order, filled one after another.
-use Rattle.std.proofs.Common.{◌≡◌, ◌≢◌, ℕ, zero, suc, ◌+◌, ◌-◌, ◌<◌, ◌≤◌, Bool, true, false, cond, List, ◌∷◌}
-use Rattle.std.proofs.Common.{length, get_or, set, take, drop, reverse, length-append, length-drop, inl, inr}
+use Rattle.std.proofs.Common.{◌≡◌, ◌≢◌, ℕ, zero, suc, ◌+◌, ◌-◌, ◌<◌, ◌≤◌, Bool, true, false, cond, List}
+use Rattle.std.proofs.Common.{length, get_or, set, inl, inr}
 use Rattle.std.proofs.Common.{sym, ◌∙◌, arith, ap, refl}
-use Rattle.std.proofs.lemmas.List.{get_or-set_same, get_or-set_other, length-set, length-reverse, length-take}
+use Rattle.std.proofs.lemmas.List.{get_or-set_same, get_or-set_other, length-set}
 use Rattle.std.proofs.lemmas.Bool.{cases_eq, false≢true}
+use Rattle.std.proofs.lemmas.Grind.{common_steps}
 use Rattle.rv_rank.specs.Mended.{count_below, members_of, IsMended}
 
 -- a count of slots goes up at one
@@ -17,12 +18,7 @@ below_no s k e = let q : k + 1 ≡ suc k =
     omega arith in rw q (ap (λ b. cond b (suc (count_below s k)) (count_below s k)) e)
 
 below_step : (s : ℕ → Bool) (k : ℕ) → count_below s k ≤ count_below s (suc k)
-below_step s k =
-    elim (s k) as (λ b. count_below s k ≤ cond b (suc (count_below s k)) (count_below s k)) [
-      | true ↦ omega
-          arith
-      | false ↦ omega arith
-    ]
+below_step s k = grind (arith, common_steps)
 
 below_along : (s : ℕ → Bool) (k d : ℕ) → count_below s k ≤ count_below s (k + d)
 below_along s k zero = let e : k + zero ≡ k = omega arith in rw e (omega arith)
@@ -60,18 +56,7 @@ below_few s (suc k) =
 pub IsMended-skip : (slot : ℕ → Bool) (members nodes ranks new_nodes new_ranks : List ℕ) (r : ℕ) →
     IsMended slot members nodes ranks new_nodes new_ranks r → slot r ≡ false →
     IsMended slot members nodes ranks new_nodes new_ranks (r + 1)
-IsMended-skip slot members nodes ranks new_nodes new_ranks r h f = record {
-  long_nodes = h.long_nodes;
-  long_ranks = h.long_ranks;
-  filled = λ k l e. elim (cases_eq k r) [
-    | inl q ↦ absurd (false≢true (sym f ∙ ap slot (sym q) ∙ e))
-    | inr
-        n ↦ h.filled k (omega arith) e
-  ];
-  spared = λ k l e. elim (cases_eq k r) [ inl q ↦ h.ahead k (omega arith) | inr n ↦ h.spared k (omega arith) e ];
-  ahead = λ k l. h.ahead k (omega arith);
-  others = h.others;
-}
+IsMended-skip slot members nodes ranks new_nodes new_ranks r h f = grind (arith, common_steps)
 
 -- a slot takes the next member
 pub IsMended-more : (slot : ℕ → Bool) (members nodes ranks new_nodes new_ranks : List ℕ) (r : ℕ) →
@@ -111,23 +96,9 @@ IsMended-more slot members nodes ranks new_nodes new_ranks r h b e m within apar
 -- below the lowest slot nothing changes
 pub IsMended-none : (slot : ℕ → Bool) (members nodes ranks : List ℕ) (low : ℕ) →
     ((k : ℕ) → k < low → slot k ≡ false) → IsMended slot members nodes ranks nodes ranks low
-IsMended-none slot members nodes ranks low below = record {
-  long_nodes = refl;
-  long_ranks = refl;
-  filled = λ k l e. absurd (false≢true (sym (below k l) ∙ e));
-  spared = λ k l e. refl;
-  ahead = λ k l. refl;
-  others = λ a n. refl;
-}
+IsMended-none slot members nodes ranks low below = grind (arith, common_steps)
 
 -- there is one member more than visits
 pub members_of-long : (visits : List ℕ) (split node : ℕ) → split ≤ length visits →
     length (members_of visits split node) ≡ length visits + 1
-members_of-long visits split node l =
-    omega (
-      arith,
-      length-append (reverse (drop split visits)) (node ∷ take split visits),
-      length-reverse (drop split visits),
-      length-drop split visits,
-      length-take split visits,
-    )
+members_of-long visits split node l = grind (arith, common_steps)

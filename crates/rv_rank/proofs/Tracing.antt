@@ -4,6 +4,8 @@ use Rattle.std.proofs.Common.{arith, ap}
 use Rattle.std.specs.List.{All, Contains}
 use Rattle.std.proofs.lemmas.List.Elements.{All-contains}
 use Rattle.std.proofs.lemmas.Bool.{cases_eq}
+use Rattle.std.proofs.Common.{rules}
+use Rattle.std.proofs.lemmas.Grind.{common_steps}
 use Rattle.rv_rank.specs.declared.search.Mark.{Mark}
 use Rattle.rv_rank.specs.declared.search.Mark.TheVariants.{Free, Behind}
 use Rattle.rv_rank.specs.Graph.{Edge, Reaches, here, step, IsOrder}
@@ -23,12 +25,8 @@ module _ (edges : List (List ℕ)) (ranks succs preds : List ℕ) (low : ℕ) (a
     long = s.long;
     kept = s.kept;
     fresh = λ a f. elim (s.only a f) [ inl e ↦ inl e | inr w ↦ inr w.0 ];
-    begun = λ a w up. elim (s.only a (All-contains (λ p. mark_of low ranks ahead p ≡ Free) preds a free w)) [
-      | inl e ↦ absurd (s.found a w up e)
-      | inr v ↦ v.0
-    ];
-    closed = λ a b high m. absurd
-        (omega (arith, (marked_within low ranks new b (omega (arith, s.long, h.long)) (behind_marked _ m)).2));
+    begun = search (All-contains, rules);
+    closed = grind (arith, common_steps, marked_within, behind_marked);
     sound = λ a m. elim (cases_free (mark_of low ranks ahead a)) [
       | inl f ↦ elim (s.only a f) [ inl e ↦ absurd (behind_marked _ m e) | inr w ↦ (w.2, (a, w.1, here)) ]
       | inr k ↦ absurd (h.forward a (sym (s.kept a k) ∙ m))

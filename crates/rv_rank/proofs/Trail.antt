@@ -4,6 +4,7 @@ use Rattle.std.proofs.Common.{reverse, inl, inr, sym, ◌∙◌, arith, ap, refl
 use Rattle.std.specs.List.{Contains}
 use Rattle.std.proofs.lemmas.List.{get_or-reverse, length-reverse, get_or_push, get_or_append_left, length_push}
 use Rattle.std.proofs.lemmas.Bool.{cases_lt}
+use Rattle.std.proofs.lemmas.Grind.{common_steps}
 use Rattle.rv_rank.specs.declared.search.Mark.{Mark}
 use Rattle.rv_rank.specs.declared.search.Mark.TheVariants.{Free, Start, After, Behind}
 use Rattle.rv_rank.specs.Graph.{Edge, IsOrder, IsTrail}
@@ -21,13 +22,7 @@ pub record IsWayBack (edges : List (List ℕ)) (low : ℕ) (ranks : List ℕ) (m
 -- the way back begins at its end
 pub IsWayBack-begin : (edges : List (List ℕ)) (low : ℕ) (ranks : List ℕ) (marks : List Mark) (end : ℕ) →
     IsMarked low ranks marks end → IsWayBack edges low ranks marks end end (end ∷ [])
-IsWayBack-begin edges low ranks marks end m = record {
-  some = omega arith;
-  first = refl;
-  last = refl;
-  marked = m;
-  steps = λ k l. absurd (omega arith);
-}
+IsWayBack-begin edges low ranks marks end m = grind (arith, common_steps)
 
 -- one step further back
 pub IsWayBack-more : (edges : List (List ℕ)) (low : ℕ) (ranks : List ℕ) (marks : List Mark) (end node from : ℕ)
@@ -48,8 +43,7 @@ IsWayBack-more edges low ranks marks end node from back h e m =
         | inl in_old ↦ let b = before (k + 1) in_old in let a = before k (omega arith) in rw (a, b) (h.steps k in_old)
         | inr at_end ↦
             let k_last : k ≡ length back - 1 = omega (arith, long, h.some) in
-            let a : get_or (back ++ from ∷ []) k 0 ≡ node = before k (omega (arith, h.some)) ∙
-            ap (λ i. get_or back i 0) k_last ∙ h.last in
+            let a : get_or (back ++ from ∷ []) k 0 ≡ node = grind (arith, common_steps) in
             let b : get_or (back ++ from ∷ []) (k + 1) 0 ≡ from = new (k + 1) (omega (arith, long, h.some)) in
             rw (a, b) e
       ];
@@ -84,9 +78,7 @@ IsTrail-reverse edges low ranks succs marks end node back o h w =
     record {
       some = omega (arith, long, h.some);
       begins = let q = at 0 h.some in let z : n - 1 - 0 ≡ n - 1 = omega arith in rw (q, z, h.last) w;
-      ends = let e : length (reverse back) - 1 ≡ n - 1 = omega (arith, long) in let z : n - 1 - (n - 1) ≡ 0 =
-          omega arith in ap (λ i. get_or (reverse back) i 0) e ∙ at (n - 1) (omega (arith, h.some)) ∙
-          ap (λ i. get_or back i 0) z ∙ h.first;
+      ends = grind (arith, common_steps);
       steps = λ k l. steps k (omega (arith, long));
       once = λ i j l b same.
           let d = j - i - 1 in

@@ -1,4 +1,5 @@
 use Rattle.std.proofs.Common.{rules, arith, length, ◌<◌, sym, ◌∙◌}
+use Rattle.std.proofs.lemmas.Grind.{common_steps}
 use Rattle.rv_rank.specs.Marks.{is_slot}
 use Rattle.rv_rank.specs.Mended.{members_of}
 use Rattle.rv_rank.proofs.Marks.{slot_below}
@@ -8,50 +9,16 @@ use Rattle.rv_rank.proofs.order.mend.Goals as goal
 use Rattle.rv_rank.proofs.order.mend.Goals.{then-is_slot, else-is_slot}
 
 pub loop-rank-init : goal.loop-rank-init
-loop-rank-init c =
-    let low = c.args.found.now.low in
-    let marks = c.args.found.now.marks.items in
-    let below = slot_below low marks in
-    record {
-      mended = IsMended-none (is_slot low marks) (members_of c.args.visits.now c.args.found.now.split
-          (length c.args.nodes.now)) c.args.nodes.now c.args.ranks.now low below;
-      next = sym (below_none (is_slot low marks) low below);
-    }
+loop-rank-init c = search (slot_below, IsMended-none, below_none)
 
 pub member-node-requires-clause-place : goal.member-node-requires-clause-place
-member-node-requires-clause-place c =
-    let slot = is_slot c.args.found.now.low c.args.found.now.marks.items in
-    omega (
-      arith,
-      c.loop-rank.invariant.next,
-      below_mono slot c.loop-rank.rank (length c.args.nodes.now)
-          (omega arith),
-      c.requires.roster.count,
-    )
+member-node-requires-clause-place c = search (below_mono, rules)
 
 pub bounds-ranks-node : goal.bounds-ranks-node
-bounds-ranks-node c =
-    let slot = is_slot c.args.found.now.low c.args.found.now.marks.items in
-    let few = below_mono slot c.loop-rank.rank (length c.args.nodes.now) (omega arith) in
-    let long = members_of-long c.args.visits.now c.args.found.now.split (length c.args.nodes.now)
-    c.requires.roster.split in
-    omega (
-      arith,
-      c.member-node.ensures,
-      c.requires.roster.placed c.loop-rank.next 0 (omega (
-        arith,
-        c.loop-rank.invariant.next,
-        few,
-        long,
-        c.requires.roster.count,
-      )),
-    )
+bounds-ranks-node c = grind (arith, common_steps, below_mono, members_of-long)
 
 pub overflow_add-next : goal.overflow_add-next
-overflow_add-next c =
-    let few = below_few (is_slot c.args.found.now.low c.args.found.now.marks.items) c.loop-rank.rank in
-    let small : c.loop-rank.next < 65536 = omega (arith, c.loop-rank.invariant.next) in
-    search rules
+overflow_add-next c = search (below_few, rules)
 
 pub loop-rank-preserved : goal.loop-rank-preserved
 loop-rank-preserved c =
@@ -72,15 +39,13 @@ loop-rank-preserved c =
           let q = rw count at p in
           let apart = rw (← long) at c.requires.roster.apart in
           rw (w.nodes-is, w.ranks-is, w.next-is, w.member-node.ensures, count) (record {
-            mended = IsMended-more slot members nodes c.args.ranks.now c.loop-rank.nodes c.loop-rank.ranks rank
-                inv.mended (omega arith) passes b q apart;
+            mended = search (IsMended-more, rules);
             next = sym (below_yes slot rank passes);
           })
       | else-is_slot w ↦
           let fails = sym c.is_slot.ensures ∙ w.if-is_slot.false in
           rw (w.nodes-is, w.ranks-is, w.next-is) (record {
-            mended = IsMended-skip slot members nodes c.args.ranks.now c.loop-rank.nodes c.loop-rank.ranks rank
-                inv.mended fails;
+            mended = search (IsMended-skip, rules);
             next = count ∙ sym (below_no slot rank fails);
           })
     ]

@@ -1,6 +1,6 @@
-use Rattle.std.proofs.Common.{arith, length, ap}
+use Rattle.std.proofs.Common.{length, ap}
 use Rattle.std.proofs.lemmas.Result.{err_from_is_err_and}
-use Rattle.rv_rank.specs.Marks.{is_ahead_of}
+use Rattle.std.proofs.Common.{rules}
 use Rattle.rv_rank.proofs.Marks.{all_free}
 use Rattle.rv_rank.proofs.Listing.{listed_all_few}
 use Rattle.rv_rank.proofs.Finding.{circle_from_trail, only_ahead, found_both}
@@ -24,19 +24,10 @@ returns-in-Some-clause-refused c =
     c.in_ok-path.path.items path c.in-Some.ensures.0
 
 pub returns-in-Some-clause-affected : goal.returns-in-Some-clause-affected
-returns-in-Some-clause-affected c =
-    only_ahead c.args.walk.now.edges c.args.order.now c.args.preds.now c.args.succs.now c.args.low
-    c.sweep_forward.new.marks c.requires.ordered c.sweep_forward.ensures.searched
-    c.sweep_forward.new.walk.visits c.sweep_forward.ensures.visits
+returns-in-Some-clause-affected c = search (only_ahead, rules)
 
 pub sweep_backward-requires-clause-few : goal.sweep_backward-requires-clause-few
-sweep_backward-requires-clause-few c = omega (
-  arith,
-  ap length c.sweep_forward.ensures.visits,
-  listed_all_few (is_ahead_of c.args.low c.args.order.now.ranks c.sweep_forward.new.marks)
-      c.args.order.now.nodes,
-  c.requires.inverse.long,
-)
+sweep_backward-requires-clause-few c = search (listed_all_few, rules)
 
 pub returns-clause-found : goal.returns-clause-found
 returns-clause-found c =

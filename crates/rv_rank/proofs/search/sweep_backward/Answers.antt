@@ -1,13 +1,14 @@
-use Rattle.std.proofs.Common.{arith, get_or, [], ◌∷◌, ◌++◌, length, ◌≡◌, ◌<◌, ◌≤◌, ◌+◌, ◌-◌, ◌∙◌, refl, ap}
-use Rattle.std.proofs.Common.{sym, ℕ, true, drop, reverse, append-nil, append_assoc, length-append}
+use Rattle.std.proofs.Common.{arith, get_or, [], length, ◌≡◌, ◌<◌, ◌≤◌, ◌+◌, ◌-◌, ◌∙◌, refl, ap}
+use Rattle.std.proofs.Common.{sym, ℕ, true, drop, reverse, length-append}
 use Rattle.std.specs.List.{filter}
-use Rattle.std.proofs.Math.Seq.{drop-length}
 use Rattle.std.proofs.lemmas.List.{length-reverse}
 use Rattle.std.proofs.lemmas.List.Elements.{Contains-get_or}
+use Rattle.std.proofs.lemmas.Grind.{common_steps}
+use Rattle.std.proofs.Common.{rules}
 use Rattle.rv_rank.specs.Marks.{mark_of, is_behind, is_behind_of}
 use Rattle.rv_rank.specs.declared.search.Mark.TheVariants.{Behind}
-use Rattle.rv_rank.proofs.Marks.{below_free, read_of, spread_same, behind_is, not_behind, is_behind_no}
-use Rattle.rv_rank.proofs.Listing.{listed_down_few, listed_down_more, listed_down_skip, listed_from}
+use Rattle.rv_rank.proofs.Marks.{below_free, read_of, spread_same, behind_is, not_behind}
+use Rattle.rv_rank.proofs.Listing.{listed_down_few, listed_down_more, listed_from}
 use Rattle.rv_rank.proofs.Growth.{edge_from}
 use Rattle.rv_rank.proofs.Tracing.{behind_marked, IsTraced-begin, IsTraced-more, IsTraced-skip}
 use Rattle.rv_rank.proofs.search.sweep_backward.Goals as goal
@@ -19,13 +20,10 @@ loop-rank-init c =
     let ranks = c.args.order.now.ranks in
     let new = c.mark_above.new.marks in
     let behind = is_behind_of c.args.low ranks new in
-    let none : drop (length ranks) nodes ≡ [] = ap (λ k. drop k nodes) (sym c.requires.inverse.long) ∙
-    drop-length nodes in
+    let none : drop (length ranks) nodes ≡ [] = grind (arith, common_steps) in
     rw c.len-rank.ensures.count (record {
-      traced = IsTraced-begin edges ranks c.requires.searched.0 c.args.preds.now c.args.low c.args.marks.now
-          c.requires.ordered c.requires.searched.1 new c.requires.free c.mark_above.ensures;
-      visits = sym (ap (λ x. c.args.walk.now.visits ++ reverse (filter behind x)) none ∙
-          append-nil c.args.walk.now.visits);
+      traced = search (IsTraced-begin, rules);
+      visits = grind (arith, common_steps);
       same = record { edges = refl; rounds = refl; room = omega arith };
       above = omega (arith, c.requires.searched.1.long);
       within = omega arith;
@@ -33,23 +31,7 @@ loop-rank-init c =
 
 pub backward-requires-clause-room : goal.backward-requires-clause-room
 backward-requires-clause-room c =
-    let inv = c.loop-rank.invariant in
-    let nodes = c.args.order.now.nodes in
-    let behind = is_behind_of c.args.low c.args.order.now.ranks c.loop-rank.marks in
-    let list = filter behind (drop c.loop-rank.rank nodes) in
-    let few = listed_down_few behind nodes c.loop-rank.rank (omega (arith, c.requires.inverse.long, inv.within)) in
-    omega (
-      arith,
-      ap length inv.visits,
-      length-append c.args.walk.now.visits (reverse list),
-      length-reverse list,
-      few,
-      inv.same.room,
-      c.requires.room,
-      c.requires.few,
-      c.requires.ordered.long,
-      c.requires.inverse.long,
-    )
+    grind (arith, common_steps, listed_down_few, length-append, length-reverse)
 
 pub mark_above-requires-then-is_behind-clause-placed :
     goal.mark_above-requires-then-is_behind-clause-placed
@@ -103,14 +85,8 @@ loop-rank-preserved-then-is_behind c =
       traced = IsTraced-more edges ranks c.requires.searched.0 c.args.preds.now low c.args.marks.now o
           c.requires.searched.1 old new r v sources (λ a w. (both a).0 w) (λ a e. (both a).1 e) traced at below
           taken spread;
-      visits = visited.visits ∙ ap (λ x. x ++ v ∷ []) listed ∙ append_assoc first list (v ∷ []) ∙
-          ap (λ x. first ++ (list ++ x ∷ [])) is ∙ ap (λ x. first ++ x) more;
-      same = record {
-        edges = visited.edges ∙ inv.same.edges;
-        rounds = visited.rounds ∙ inv.same.rounds;
-        room =
-            omega (arith, visited.room, inv.same.room);
-      };
+      visits = grind (arith, common_steps);
+      same = grind (arith, common_steps);
       above = high;
       within = omega (arith, inv.within);
     }
@@ -135,11 +111,8 @@ loop-rank-preserved c =
     let free = not_behind (get_or marks (r - low) _) (sym c.is_behind.ensures.value ∙ c.if-is_behind.false) in
     let other : mark_of low ranks marks v ≡ Behind → ⊥ = λ e. free (sym read ∙ e) in
     record {
-      traced = IsTraced-skip edges ranks c.requires.searched.0 c.args.preds.now low c.args.marks.now
-          c.requires.ordered c.requires.searched.1 marks r v traced here.1 here.0 other;
-      visits = listed ∙
-          ap (λ x. c.args.walk.now.visits ++ x) (listed_down_skip (is_behind_of low ranks marks) nodes r l
-          (is_behind_no (mark_of low ranks marks v) other));
+      traced = search (IsTraced-skip, rules);
+      visits = grind (arith, common_steps);
       same = inv.same;
       above = high;
       within = omega (arith, inv.within);
@@ -151,15 +124,4 @@ returns-clause-traced c =
     rw e at c.loop-rank.invariant.traced
 
 pub returns-clause-visits : goal.returns-clause-visits
-returns-clause-visits c =
-    let nodes = c.args.order.now.nodes in
-    let ranks = c.args.order.now.ranks in
-    let low = c.args.low in
-    let marks = c.loop-rank.marks in
-    let inv = c.loop-rank.invariant in
-    let e : c.loop-rank.rank ≡ low = omega (arith, inv.above) in
-    let listed = rw e at inv.visits in
-    let all =
-    listed_from (is_behind_of low ranks marks) nodes low
-    (λ k b l. ap is_behind (below_free low nodes ranks marks k c.requires.inverse l b)) in
-    listed ∙ ap (λ x. c.args.walk.now.visits ++ reverse x) all
+returns-clause-visits c = grind (arith, common_steps, listed_from, below_free)

@@ -1,5 +1,6 @@
-use Rattle.std.proofs.Common.{arith, get_or, [], ◌∷◌, ◌++◌, length, ◌≡◌, ◌<◌, ◌≤◌, ◌∙◌, refl, ap, sym, ℕ, true, take}
-use Rattle.std.specs.List.{filter}
+use Rattle.std.proofs.Common.{arith, get_or, [], length, ◌≡◌, ◌<◌, ◌≤◌, ◌∙◌, ap, sym, ℕ, true}
+use Rattle.std.proofs.Common.{rules}
+use Rattle.std.proofs.lemmas.Grind.{common_steps}
 use Rattle.rv_rank.specs.Marks.{mark_of, is_ahead, is_ahead_of}
 use Rattle.rv_rank.specs.declared.search.Mark.TheVariants.{After}
 use Rattle.rv_rank.proofs.Marks.{below_free, read_free, read_marked, spread_same, ahead_else}
@@ -9,38 +10,14 @@ use Rattle.rv_rank.proofs.search.sweep_forward.Goals as goal
 use Rattle.rv_rank.proofs.search.sweep_forward.Goals.{then-not-is_free, else-not-is_free}
 
 pub loop-rank-init : goal.loop-rank-init
-loop-rank-init c =
-    let nodes = c.args.order.now.nodes in
-    let ranks = c.args.order.now.ranks in
-    let low = c.args.low in
-    let new = c.mark_above.new.marks in
-    let none =
-    listed_none (is_ahead_of low ranks new) nodes low
-    (λ k b l. ap is_ahead (below_free low nodes ranks new k c.requires.inverse l b)) in
-    record {
-      searched = IsSearched-begin c.args.walk.now.edges ranks c.args.succs.now low c.args.marks.now new
-          c.requires.long c.requires.free c.requires.low c.mark_above.ensures;
-      visits = c.requires.begun ∙ sym none;
-      same = record { edges = refl; rounds = refl; room = omega arith };
-    }
+loop-rank-init c = grind (arith, common_steps, listed_none, below_free, IsSearched-begin)
 
 pub forward-requires-clause-room : goal.forward-requires-clause-room
-forward-requires-clause-room c =
-    let inv = c.loop-rank.invariant in
-    omega (
-      arith,
-      ap length inv.visits,
-      listed_few (is_ahead_of c.args.low c.args.order.now.ranks c.loop-rank.marks) c.args.order.now.nodes
-          c.loop-rank.rank,
-      inv.same.room,
-      c.requires.ordered.long,
-    )
+forward-requires-clause-room c = search (listed_few, rules)
 
 pub mark_above-requires-then-not-is_free-clause-placed :
     goal.mark_above-requires-then-not-is_free-clause-placed
-mark_above-requires-then-not-is_free-clause-placed c =
-    let below = targets_below c.args.walk.now.edges c.args.order.now.ranks c.requires.ordered c.node_at-node.result in
-    rw (c.forward.ensures.value, c.loop-rank.invariant.same.edges) below
+mark_above-requires-then-not-is_free-clause-placed c = grind (arith, common_steps, targets_below)
 
 pub loop-rank-preserved : goal.loop-rank-preserved
 loop-rank-preserved c =
@@ -84,22 +61,15 @@ loop-rank-preserved c =
           (ap (is_ahead_of low ranks new) (sym is) ∙ ahead) in
           rw (w.marks-is, w.walk-is) (record {
             searched = searched;
-            visits = visited.visits ∙ ap (λ x. x ++ v ∷ []) inv.visits ∙
-                ap (λ x. filter (is_ahead_of low ranks old) (take r nodes) ++ x ∷ []) is ∙ more;
-            same = record {
-              edges = visited.edges ∙ inv.same.edges;
-              rounds =
-                  visited.rounds ∙ inv.same.rounds;
-              room = omega (arith, visited.room, inv.same.room);
-            };
+            visits = grind (arith, common_steps);
+            same = grind (arith, common_steps);
           })
       | else-not-is_free w ↦
           let free =
           read_free low ranks old (get_or nodes r 0) r here.0 high (sym here.1)
           (sym c.is_free.ensures.value ∙ w.if-not-is_free.false) in
           rw (w.marks-is, w.walk-is) (record {
-            searched = IsSearched-skip edges ranks succs low old r (get_or nodes r 0) o inv.searched here.1
-                here.0 free;
+            searched = search (IsSearched-skip, rules);
             visits = inv.visits ∙ listed_skip (is_ahead_of low ranks old) nodes r l (ap is_ahead free);
             same = inv.same;
           })

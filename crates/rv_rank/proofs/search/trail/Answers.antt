@@ -1,33 +1,21 @@
 use Rattle.std.proofs.Common.{rules, arith, get_or, ◌≡◌, ◌-◌, ◌∙◌}
+use Rattle.std.proofs.lemmas.Grind.{common_steps}
 use Rattle.rv_rank.specs.declared.search.Mark.TheVariants.{Free, After}
-use Rattle.rv_rank.proofs.Trail.{IsWayBack-begin, IsWayBack-more, begun_at, IsTrail-reverse}
+use Rattle.rv_rank.proofs.Trail.{IsWayBack-more, begun_at, IsTrail-reverse}
 use Rattle.rv_rank.proofs.Marks.{marked_within, read_of}
 use Rattle.rv_rank.proofs.search.trail.Goals as goal
 
 pub loop-from-init : goal.loop-from-init
-loop-from-init c =
-    rw (c.in_ok-push.ensures.items, c.new-path.ensures.items) (IsWayBack-begin c.args.walk.now.edges c.args.low
-    c.args.order.now.ranks c.args.marks.now c.args.end c.requires.marked)
+loop-from-init c = grind (arith, common_steps)
 
 pub rank-requires : goal.rank-requires
-rank-requires c =
-    (marked_within c.args.low c.args.order.now.ranks c.args.marks.now c.loop-from.node c.requires.searched.long
-    c.loop-from.invariant.marked).0
+rank-requires c = search (marked_within, rules)
 
 pub overflow_sub-rank : goal.overflow_sub-rank
-overflow_sub-rank c =
-    omega (
-      arith,
-      c.rank.ensures.value,
-      (marked_within c.args.low c.args.order.now.ranks c.args.marks.now c.loop-from.node c.requires.searched.long
-          c.loop-from.invariant.marked).1,
-    )
+overflow_sub-rank c = search (marked_within, rules)
 
 pub bounds : goal.bounds
-bounds c =
-    let w = marked_within c.args.low c.args.order.now.ranks c.args.marks.now c.loop-from.node
-    c.requires.searched.long c.loop-from.invariant.marked in
-    omega (arith, c.rank.ensures.value, w.1, w.2, c.requires.searched.long)
+bounds c = search (marked_within, rules)
 
 pub loop-from-smaller : goal.loop-from-smaller
 loop-from-smaller c =

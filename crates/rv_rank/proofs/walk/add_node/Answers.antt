@@ -1,7 +1,8 @@
-use Rattle.std.proofs.Common.{arith, map, [], length, ◌<◌, ◌≡◌, ◌∙◌, ap, ◌++◌, ◌∷◌, get_or, ℕ, List}
+use Rattle.std.proofs.Common.{arith, map, [], length, ◌<◌, ◌≡◌, ◌++◌, ◌∷◌, get_or, ℕ, List}
 use Rattle.std.proofs.lemmas.List.{take_at, map_push, length-map}
 use Rattle.std.proofs.lemmas.Grind.{common_steps}
 use Rattle.std.specs.List.{All}
+use Rattle.std.proofs.Common.{rules}
 use Rattle.rv_rank.specs.Rows.{Neighbours, IsAppended}
 use Rattle.rv_rank.proofs.Growth.{grown}
 use Rattle.rv_rank.proofs.Mirror.{rows_within, mirror_flip}
@@ -27,14 +28,7 @@ add_to_successors-requires-clause-room c =
     (c.requires.succs k d l))
 
 pub add_to_successors-requires-clause-fresh : goal.add_to_successors-requires-clause-fresh
-add_to_successors-requires-clause-fresh c =
-    let old = c.args.nodes.now.items in
-    let first : c.deref_mut.result.now ≡ old = grind (arith, common_steps) in
-    let second : c.deref_mut-2.result.now ≡ c.add_to_predecessors.new.nodes = grind (arith, common_steps) in
-    let count : c.len-node.result ≡ length (map (λ n. n.incoming) old) = grind (arith, common_steps) in
-    let h = rw first at c.add_to_predecessors.ensures.incoming in
-    rw (second, h, count) (rows_within (map (λ n. n.incoming) old) (map (λ n. n.outgoing) old)
-    (mirror_flip (map (λ n. n.outgoing) old) (map (λ n. n.incoming) old) c.requires.mirror))
+add_to_successors-requires-clause-fresh c = grind (arith, common_steps, rows_within, mirror_flip)
 
 pub returns : goal.returns
 returns c =
@@ -50,8 +44,7 @@ returns c =
     let in_long = length-map old g in
     let out_count : c.len-node.result ≡ length (map f old) = grind (arith, common_steps) in
     let in_count : c.len-node.result ≡ length (map g old) = grind (arith, common_steps) in
-    let items : c.append.new.list.items ≡ new ++ own ∷ [] = c.append.ensures ∙
-    ap (λ x. x ++ own ∷ []) (take_at new _ c.args.nodes.now.len (omega arith)) in
+    let items : c.append.new.list.items ≡ new ++ own ∷ [] = search (take_at, rules) in
     let h = rw first at c.add_to_predecessors.ensures in
     let i = rw second at c.add_to_successors.ensures in
     let out : IsAppended (map f old) (map f new) c.args.preds.now (length (map f old)) =

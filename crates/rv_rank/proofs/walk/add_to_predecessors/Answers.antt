@@ -1,6 +1,7 @@
-use Rattle.std.proofs.Common.{arith, get_or, length, ◌<◌, ◌≡◌, sym, ◌∙◌}
-use Rattle.std.proofs.lemmas.List.{set-get_or, take_all}
+use Rattle.std.proofs.Common.{arith, get_or, length, ◌<◌, sym, ◌∙◌}
+use Rattle.std.proofs.lemmas.List.{set-get_or}
 use Rattle.std.proofs.lemmas.Bool.{false≢true}
+use Rattle.std.proofs.lemmas.Grind.{common_steps}
 use Rattle.rv_rank.specs.Rows.{EndsIn}
 use Rattle.rv_rank.proofs.RowTables.{Filling-more, Filling-skip, not_yet, room_at}
 use Rattle.rv_rank.proofs.walk.add_to_predecessors.Goals as goal
@@ -49,8 +50,4 @@ loop-place-preserved c =
     ]
 
 pub returns-clause-outgoing : goal.returns-clause-outgoing
-returns-clause-outgoing c =
-    let e : c.loop-place.place-index ≡ length c.args.preds.now = omega arith in
-    let whole = take_all (length c.args.preds.now) c.args.preds.now (omega arith) in
-    let h = rw e at c.loop-place.invariant.appended in
-    rw whole at h
+returns-clause-outgoing c = grind (arith, common_steps)

@@ -1,18 +1,11 @@
-use Rattle.std.proofs.Common.{arith, rules, get_or, length, ◌<◌, ◌≡◌}
+use Rattle.std.proofs.Common.{arith, rules, get_or, length, ◌<◌}
 use Rattle.std.proofs.lemmas.List.{take_all}
-use Rattle.rv_rank.proofs.RowTables.{IsRoomy-set, IsRoomy-more}
+use Rattle.std.proofs.lemmas.Grind.{common_steps}
+use Rattle.rv_rank.proofs.RowTables.{IsRoomy-more}
 use Rattle.rv_rank.proofs.walk.make_room.Goals as goal
 
 pub returns-in_err-reserve : goal.returns-in_err-reserve
-returns-in_err-reserve c =
-    let place = get_or c.args.places.now c.loop-place.place-index 0 in
-    let within : place < length c.loop-place.nodes =
-    omega (arith, c.requires c.loop-place.place-index 0 c.loop-place-test.true) in
-    let told = c.in_err-reserve.ensures in
-    let h = IsRoomy-set c.args.nodes.now c.loop-place.nodes c.args.places.now c.args.more
-    c.loop-place.place-index place c.reserve.new.self c.index-nodes-place.result c.loop-place.invariant within
-    told.outgoing told.incoming told.kept in
-    record { outgoing = h.outgoing; incoming = h.incoming; kept = h.kept; room = search rules }
+returns-in_err-reserve c = grind (arith, common_steps)
 
 pub loop-place-preserved : goal.loop-place-preserved
 loop-place-preserved c =
@@ -25,8 +18,4 @@ loop-place-preserved c =
     told.outgoing told.incoming told.kept told.room
 
 pub returns-clause-room : goal.returns-clause-room
-returns-clause-room c =
-    let e : c.loop-place.place-index ≡ length c.args.places.now = omega arith in
-    let whole = take_all (length c.args.places.now) c.args.places.now (omega arith) in
-    let h = rw e at c.loop-place.invariant.room in
-    rw whole at h
+returns-clause-room c = search (take_all, rules)

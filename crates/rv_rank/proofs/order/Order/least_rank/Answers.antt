@@ -1,6 +1,7 @@
-use Rattle.std.proofs.Common.{arith, get_or, take, length, ◌≡◌, ◌≤◌, sym, ◌∙◌, inr}
+use Rattle.std.proofs.Common.{arith, get_or, take, ◌≡◌, ◌≤◌, sym, ◌∙◌, inr}
 use Rattle.std.proofs.lemmas.List.{take_all, get_or_read}
 use Rattle.std.proofs.lemmas.List.Elements.{All-more, All-weaker, Contains-get_or}
+use Rattle.std.proofs.Common.{rules}
 use Rattle.rv_rank.proofs.order.Order.least_rank.Goals as goal
 use Rattle.rv_rank.proofs.order.Order.least_rank.Goals.{then-rank-least, else-rank-least}
 
@@ -34,8 +35,4 @@ loop-node-preserved c =
     ]
 
 pub returns-clause-least : goal.returns-clause-least
-returns-clause-least c =
-    let e : c.loop-node.node-index ≡ length c.args.nodes.now = omega arith in
-    let whole = take_all (length c.args.nodes.now) c.args.nodes.now (omega arith) in
-    let h = rw e at c.loop-node.invariant.1 in
-    rw (← c.self.view_is) (rw whole at h)
+returns-clause-least c = search (take_all, rules)

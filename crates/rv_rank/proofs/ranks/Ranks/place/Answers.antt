@@ -1,8 +1,7 @@
-use Rattle.std.proofs.Common.{rules, arith, length, reverse, ◌≡◌, ◌<◌, ◌^◌, ap, sym, ◌∙◌, length-append}
+use Rattle.std.proofs.Common.{rules, arith, length, ◌≡◌, ap, sym, ◌∙◌, length-append}
 use Rattle.std.proofs.lemmas.List.{length-reverse}
 use Rattle.std.proofs.lemmas.Result.{err_from_is_err_and}
-use Rattle.rv_rank.specs.Marks.{is_ahead_of, is_behind_of}
-use Rattle.rv_rank.specs.Found.{found_ahead, found_behind}
+use Rattle.std.proofs.lemmas.Grind.{common_steps}
 use Rattle.rv_rank.proofs.Listing.{listed_all_few}
 use Rattle.rv_rank.proofs.Placement.{found_plan, visits_only, visits_listed, ordered, spared, exchanged}
 use Rattle.rv_rank.proofs.Placement.{taken, greatest, still, moved, refused_round}
@@ -50,26 +49,7 @@ mend-requires-clause-plan c =
     c.in_ok-found.found c.search.new.walk.visits c.self.invariant c.len-node.ensures.inverse found)
 
 pub overflow_cast-visited : goal.overflow_cast-visited
-overflow_cast-visited c =
-    let order = c.self.inside.order in
-    let low = c.in_ok-found.found.low in
-    let marks = c.in_ok-found.found.marks.items in
-    let first = found_ahead low order marks in
-    let back = found_behind low order marks in
-    let room = rw (← c.self.view_is) at c.requires.room in
-    let small : length c.visits-2.result.now < 2 ^ 32 =
-    omega (
-      arith,
-      ap length (c.visits-2.ensures ∙ c.in_ok-add.ensures.visits ∙
-          c.in_ok-found.ensures.found.visits),
-      length-append first (reverse back),
-      length-reverse back,
-      listed_all_few (is_ahead_of low order.ranks marks) order.nodes,
-      listed_all_few (is_behind_of low order.ranks marks) order.nodes,
-      c.len-node.ensures.inverse.long,
-      room,
-    ) in
-    search rules
+overflow_cast-visited c = grind (arith, common_steps, length-append, length-reverse, listed_all_few)
 
 pub invariant_of-self-2 : goal.invariant_of-self-2
 invariant_of-self-2 c =
@@ -111,8 +91,7 @@ returns-clause-placed c =
       free = found.free;
       grown = grown;
       ordered = invariant_of-self-2 c;
-      spared = spared edges order preds succs low marks split list o inverse found new_edges new low_preds
-          low_succs grown local;
+      spared = search (spared, rules);
       exchanged = exchanged edges order preds succs low marks split list o inverse found new_edges new low_preds
           low_succs grown local;
       taken = taken edges order preds succs low marks split list o inverse found new_edges new low_preds
@@ -120,8 +99,7 @@ returns-clause-placed c =
       visits = rw c.in_ok-add.ensures.visits (visits_listed edges order preds succs low marks split list o
           inverse found);
       rounds = c.in_ok-add.ensures.rounds ∙ c.search.ensures.same.rounds ∙ c.in_ok-begin.ensures.rounds;
-      greatest = greatest edges order preds succs low marks split list o inverse found new_edges new low_preds
-          low_succs grown local;
+      greatest = search (greatest, rules);
       still = λ e. let none = still edges order preds succs low marks split list o inverse found new_edges new
           low_preds low_succs grown local e in (none, none);
     })

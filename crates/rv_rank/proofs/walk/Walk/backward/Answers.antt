@@ -1,5 +1,5 @@
-use Rattle.std.proofs.Common.{arith, get_or, map, [], length, ◌<◌, ◌≡◌, sym, ◌∙◌, ap, refl, ◌++◌, ◌∷◌}
-use Rattle.std.proofs.lemmas.List.{get_or-map, length-map}
+use Rattle.std.proofs.Common.{arith, get_or, map, [], length, ◌<◌, ◌≡◌, refl, ◌++◌, ◌∷◌}
+use Rattle.std.proofs.lemmas.List.{length-map}
 use Rattle.std.proofs.lemmas.Grind.{common_steps}
 use Rattle.rv_rank.proofs.walk.Walk.backward.Goals as goal
 
@@ -9,8 +9,7 @@ returns c =
     let placed = rw (← c.self.view_is) at c.requires.placed in
     let within : c.args.node < length nodes = omega (arith, placed, length-map nodes (λ n. n.outgoing)) in
     let row : c.incoming.result.now ≡ get_or (map (λ n. n.incoming) nodes) c.args.node [] =
-    c.incoming.ensures ∙ ap (λ n. n.incoming) c.index.ensures ∙
-    sym (get_or-map (λ n. n.incoming) nodes c.args.node c.index.result.now [] within) in
+    grind (arith, common_steps) in
     let pushed : c.push.new.self.items ≡ c.self.inside.visits.items ++ c.args.node ∷ [] =
     grind (arith, common_steps) in
     rw (← c.self.view_is) (
