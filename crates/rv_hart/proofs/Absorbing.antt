@@ -4,6 +4,7 @@ use Rattle.std.proofs.Common.{IsTrue, IsFalse, Some, None, Option, ◌⊎◌, in
 use Rattle.std.proofs.Common.{subst, eqb-true, eq-eqb}
 use Rattle.std.proofs.lemmas.Bool.{or_cases, or_left, or_right, and_parts, and_from, false≢true}
 use Rattle.std.proofs.lemmas.List.Elements.{Contains-push_cases, Contains-push, All-contains}
+use Rattle.std.proofs.lemmas.Grind.{common_steps}
 use Rattle.rv_event.proofs.Growing.{Any-contains, Any-from_contains, All-from_contains}
 use Rattle.rv_event.specs.Operations.{is_load, is_store, is_memory, is_exclusive, IsLoad, IsStore, IsMemory}
 use Rattle.rv_event.specs.Log.{Earlier}
@@ -100,17 +101,13 @@ module _ (h : Hart) (e : Event) (f : Fits h e) where
 
       from : IsFencedFor op h.events a ⊎ IsTrue (fence_orders e.op a.op op) → IsFencedFor op (followed h e) a
       from (inl x) =
-          let y = Any-contains (λ f. Earlier a f × IsTrue (fence_orders f.op a.op op)) h.events x in
-          Any-from_contains (λ f. Earlier a f × IsTrue (fence_orders f.op a.op op)) (followed h e) y.0
-          (old_new h e y.0 y.1) y.2
+          grind (arith, common_steps)
       from (inr x) = Any-from_contains (λ f. Earlier a f × IsTrue (fence_orders f.op a.op op)) (followed h e) e
           (Contains-push h.events e) (follows_all h e f a ca, x)
 
   -- no fence orders the new event yet
   pub fenced-never : (op : Op) → IsFencedFor op (followed h e) e → ⊥
-  fenced-never op x =
-      let y = Any-contains (λ f. Earlier e f × IsTrue (fence_orders f.op e.op op)) (followed h e) x in
-      none_after y.0 y.1 y.2.0
+  fenced-never op x = search (Any-contains, none_after)
 
 -- a fence orders an operation by whether it is a load and whether it is a store
 by_kind_R : (x y s : Bool) → (x && s) ≡ ((x && s) || (y && false))
@@ -190,12 +187,10 @@ module _ (events : List Event) (loads stores : List ℕ) (loads_are : RowIs load
   fence-joins e op first second row row' row'' is_first is_second one two s = (to, from)
     where
       by_load : (a : Event) → IsTrue first → IsLoad a → IsTrue (fence_orders e.op a.op op)
-      by_load a t l = orders_by_kind e.op a.op op ∙ or_left _ (is_store a.op && fence_orders e.op Store op)
-          (and_from (is_load a.op) (fence_orders e.op Load op) l (sym is_first ∙ t))
+      by_load a t l = grind (arith, common_steps)
 
       by_store : (a : Event) → IsTrue second → IsStore a → IsTrue (fence_orders e.op a.op op)
-      by_store a t w = orders_by_kind e.op a.op op ∙ or_right (is_load a.op && fence_orders e.op Load op) _
-          (and_from (is_store a.op) (fence_orders e.op Store op) w (sym is_second ∙ t))
+      by_store a t w = grind (arith, common_steps)
 
       at_load : IsTrue (first && has_bit loads s) → HasEvent (λ a. IsTrue (fence_orders e.op a.op op)) events s
       at_load x = let p = and_parts first (has_bit loads s) x in
@@ -302,16 +297,7 @@ module _ (h : Hart) (e : Event) (f : Fits h e) where
 
   -- an LR is one
   pub reservation-new : e.op ≡ Lr → IsReservation (followed h e) (Some e.id.seq)
-  reservation-new lr = record {
-    a = e;
-    of_list = Contains-push h.events e;
-    at = refl;
-    holds = (
-      lr,
-      All-from_contains (λ m. Earlier e m → IsFalse (is_exclusive m.op)) (followed h e)
-          (λ m c earlier. absurd (none_after h e f m c earlier)),
-    );
-  }
+  reservation-new lr = grind (arith, common_steps, Contains-push, All-from_contains, none_after)
 
   -- an SC or a failed SC ends it
   pub reservation-ended : is_exclusive e.op ≡ true → (e.op ≡ Lr → ⊥) → IsReservation (followed h e) None
@@ -397,8 +383,7 @@ module _ (h : Hart) (e : Event) (f : Fits h e) where
           )
 
       never : IsControlling (followed h e) e → ⊥
-      never x = let y = Any-contains (λ m. (m.op ≡ Branch) × DependsOn Ctrl m e) (followed h e) x.1 in
-          none_after h e f y.0 y.1 y.2.1.0
+      never x = search (Any-contains, none_after)
 
   -- what a new address depends on
   pub addresses-absorbed : (loads stores row row' : List ℕ) → RowIs loads IsLoad h.events →
@@ -435,13 +420,8 @@ module _ (h : Hart) (e : Event) (f : Fits h e) where
               ]
 
           from : IsAddressing h.events a ⊎ AddressDepends e a → IsAddressing (followed h e) a
-          from (inl x) = let y = Any-contains (λ m. DependsOn Addr m a) h.events x.1 in
-              (x.0, Any-from_contains (λ m. DependsOn Addr m a) (followed h e) y.0 (old_new h e y.0 y.1) y.2)
-          from (inr x) = (
-            x.0,
-            Any-from_contains (λ m. DependsOn Addr m a) (followed h e) e
-                (Contains-push h.events e) x.1,
-          )
+          from (inl x) = search (Any-contains, Any-from_contains, old_new)
+          from (inr x) = search (Any-from_contains, Contains-push)
 
       never : IsAddressing (followed h e) e → ⊥
       never x = let y = Any-contains (λ m. DependsOn Addr m e) (followed h e) x.1 in none_after h e f y.0 y.1 y.2.0

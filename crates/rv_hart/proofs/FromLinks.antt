@@ -1,10 +1,12 @@
 -- The row of a new event from the links into it.
 use Rattle.std.proofs.Common.{◌≡◌, ℕ, ◌+◌, ◌<◌, ◌||◌, ◌↔◌, List, [], ◌∷◌, ◌++◌, length, get_or, take}
-use Rattle.std.proofs.Common.{Contains, ◌⊎◌, inl, inr, sym, refl, ap, ◌∙◌, arith, subst, eqb-true, eq-eqb}
+use Rattle.std.proofs.Common.{Contains, ◌⊎◌, inl, inr, sym, refl, ap, ◌∙◌, arith, subst}
 use Rattle.std.proofs.Common.{◌==◌, ◌≤◌, false, zero, suc, All}
 use Rattle.std.proofs.lemmas.Bool.{or_cases, or_left, or_right}
 use Rattle.std.proofs.lemmas.List.{take_more}
-use Rattle.std.proofs.lemmas.List.Elements.{Contains-push_cases, Contains-push, Contains-append_left, All-contains}
+use Rattle.std.proofs.lemmas.List.Elements.{Contains-push_cases, Contains-push, All-contains}
+use Rattle.std.proofs.lemmas.Grind.{common_steps}
+use Rattle.std.proofs.Common.{rules}
 use Rattle.rv_event.specs.Operations.{IsMemory}
 use Rattle.rv_event.specs.Preserved.{Rule}
 use Rattle.rv_event.specs.declared.event.Id.{Id}
@@ -32,11 +34,7 @@ IsJoined rows links old row = (s : ℕ) → Has row s ↔ (Has old s ⊎ IsLinke
 
 -- before the first link nothing was joined
 pub joined-none : (rows : List (List ℕ)) (row : List ℕ) → IsJoined rows [] row row
-joined-none rows row s = (
-  λ x. inl x,
-  λ x. elim x
-      [ inl y ↦ y | inr y ↦ absurd (let c = y.is_listed in let low = c.1 in omega arith) ],
-)
+joined-none rows row s = grind (arith, common_steps)
 
 module _ (rows : List (List ℕ)) (links : List Link) (i : ℕ) (l : Link) (low : i < length links)
     (at : l ≡ get_or links i l) (old row : List ℕ) (so : IsJoined rows (take i links) old row) where
@@ -44,14 +42,7 @@ module _ (rows : List (List ℕ)) (links : List Link) (i : ℕ) (l : Link) (low 
   taken = take_more links i l low ∙ ap (λ (x : Link). take i links ++ x ∷ []) (sym at)
 
   grown : (s : ℕ) → IsLinked rows (take i links) s → IsLinked rows (take (i + 1) links) s
-  grown s x = record {
-    l = x.l;
-    rule = x.rule;
-    is_listed = subst (λ (ls : List Link). Contains ls x.l) (sym taken)
-        (Contains-append_left (take i links) (l ∷ []) x.l x.is_listed);
-    reason = x.reason;
-    has = x.has;
-  }
+  grown s x = grind (arith, common_steps)
 
   parts : (m : Link) → Contains (take (i + 1) links) m → Contains (take i links) m ⊎ (l ≡ m)
   parts m c = Contains-push_cases (take i links) l m (subst (λ (ls : List Link). Contains ls m) taken c)
@@ -78,8 +69,7 @@ module _ (rows : List (List ℕ)) (links : List Link) (i : ℕ) (l : Link) (low 
       keeps y = more s ∙ or_left (has_bit row s) (has_bit (get_or rows l.id.seq []) s) y
 
       here : (x : IsLinked rows (take (i + 1) links) s) → Contains (take i links) x.l ⊎ (l ≡ x.l) → Has row' s
-      here x (inl c) = keeps ((so s).1 (inr
-          (record { l = x.l; rule = x.rule; is_listed = c; reason = x.reason; has = x.has })))
+      here x (inl c) = search rules
       here x (inr is) = more s ∙ or_right (has_bit row s) (has_bit (get_or rows l.id.seq []) s)
           (subst (λ (m : Link). RowHas rows m.id.seq s) (sym is) x.has)
 
@@ -209,9 +199,7 @@ module _ (h : Hart) (e : Event) (rows : List (List ℕ)) (links : List Link) (g 
     -- later at most
     linked_by : (n k : ℕ) (c : Event) → length log ≤ n + c.id.seq → Rule h.model new k c e →
         IsLinked rows links c.id.seq
-    linked_by zero k c later r =
-        let low = known.below c (rule-old h e g.fits k c r) in
-        absurd (omega arith)
+    linked_by zero k c later r = grind (arith, common_steps)
     linked_by (suc n) k c later r = go (λ j m low q. linked_by n j m low q) (g.enough.carried k c cc r)
       where
         cc : Contains log c
@@ -254,10 +242,4 @@ pub row-begun : (rows : List (List ℕ)) (links : List Link) (n : ℕ) (empty on
     ((s : ℕ) → has_bit empty s ≡ false) →
     ((s : ℕ) → has_bit one s ≡ (has_bit empty s || (n == s))) → IsJoined rows links one row →
     (s : ℕ) → Has row s ↔ ((s ≡ n) ⊎ IsLinked rows links s)
-row-begun rows links n empty one row none with_n joined s = (
-  λ x. elim ((joined s).0 x) [ inl y ↦ inl (sym (eqb-true n s (sym (is s) ∙ y))) | inr y ↦ inr y ],
-  λ x. (joined s).1 (elim x [ inl y ↦ inl (is s ∙ eq-eqb n s (sym y)) | inr y ↦ inr y ]),
-)
-  where
-    is : (j : ℕ) → has_bit one j ≡ (n == j)
-    is j = with_n j ∙ ap (λ b. b || (n == j)) (none j)
+row-begun rows links n empty one row none with_n joined s = grind (arith, common_steps)

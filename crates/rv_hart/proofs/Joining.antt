@@ -2,6 +2,8 @@
 use Rattle.std.proofs.Common.{◌≡◌, ℕ, ◌+◌, ◌<◌, ◌≤◌, List, length, Contains}
 use Rattle.std.proofs.Common.{◌⊎◌, inl, inr, refl, arith, subst}
 use Rattle.std.proofs.lemmas.Bool.{cases_lt, cases_eq}
+use Rattle.std.proofs.lemmas.Grind.{common_steps}
+use Rattle.std.proofs.Common.{rules}
 use Rattle.rv_event.proofs.Conditions.{Condition-number, Condition-above}
 use Rattle.rv_event.specs.Preserved.{Rule}
 use Rattle.rv_event.specs.declared.event.Event.{Event}
@@ -21,11 +23,7 @@ pub record AreAdded (h : Hart) (e : Event) (k : ℕ) (first row : List ℕ) : Ty
 
 -- before rule 2 only rule 1 was added
 pub added-none : (h : Hart) (e : Event) (first : List ℕ) → AreAdded h e 1 first first
-added-none h e first = record {
-  sound = λ s x. inl x;
-  kept = λ s x. x;
-  each = λ j s above below o. absurd (omega arith);
-}
+added-none h e first = grind (arith, common_steps)
 
 -- one rule more
 pub added-more : (h : Hart) (e : Event) (k : ℕ) (first row row' : List ℕ) → AreAdded h e k first row →
@@ -33,11 +31,7 @@ pub added-more : (h : Hart) (e : Event) (k : ℕ) (first row row' : List ℕ) �
 added-more h e k first row row' so more = record {
   sound = λ s x. elim ((more s).0 x) [ inl y ↦ so.sound s y | inr o ↦ inr (k + 1, o) ];
   kept = λ s x. (more s).1 (inl (so.kept s x));
-  each = λ j s above below o. elim (cases_lt j (k + 1)) [
-    | inl under ↦ (more s).1 (inl (so.each j s above (omega arith) o))
-    | inr over ↦ (let same : j ≡ k + 1 = omega arith in (more s).1
-        (inr (subst (λ (n : ℕ). IsOrderedBy h e n s) same o)))
-  ];
+  each = search (cases_lt, rules);
 }
 
 -- all rules

@@ -2,8 +2,9 @@
 use Rattle.std.proofs.Common.{◌≡◌, ◌≢◌, ℕ, suc, ◌+◌, ◌-◌, ◌<◌, ◌≤◌, ◌↔◌, List, [], ◌∷◌, ◌++◌, length, get_or}
 use Rattle.std.proofs.Common.{take, Contains, All, sym, refl, ap, ◌∙◌, arith, subst, drop, take-append-drop}
 use Rattle.std.proofs.Common.{drop-cons, append_assoc, length-append}
-use Rattle.std.proofs.lemmas.List.{length_push, take_at}
+use Rattle.std.proofs.lemmas.List.{length_push}
 use Rattle.std.proofs.lemmas.List.Elements.{Contains-get_or, Contains-append_left}
+use Rattle.std.proofs.lemmas.Grind.{common_steps}
 use Rattle.rv_event.specs.declared.event.Event.{Event}
 use Rattle.rv_event.specs.declared.memory_model.MemoryModel.{MemoryModel}
 use Rattle.rv_rows.specs.Bits.{Has, has_bit}
@@ -14,19 +15,12 @@ use Rattle.rv_hart.specs.Sets.{AreSets}
 use Rattle.rv_hart.specs.Words.{AreWords}
 use Rattle.rv_hart.specs.declared.kept.Kept.{Kept}
 use Rattle.rv_hart.proofs.Knowing.{Known, known_with, fits_of, Fits, hart-push, hart-front, hart-last, deps-few}
-use Rattle.rv_rows.specs.Closure.{RowHas}
-use Rattle.rv_hart.proofs.Tying.{rows-push, rows-front, none_has}
+use Rattle.rv_hart.proofs.Tying.{rows-push, rows-front}
 
 -- what is kept of a hart, put together
 pub kept_from : (k : Kept) (h : Hart) → hart_of k ≡ h → IsHart h → RowsMean h k.rows → length k.rows ≡ length h.events →
     AreSets h k.sets → AreWords h.events k.words → IsKept k
-kept_from k h is hart rows count sets words = record {
-  hart = subst IsHart (sym is) hart;
-  rows = subst (λ (x : Hart). RowsMean x k.rows) (sym is) rows;
-  count = subst (λ (x : Hart). length k.rows ≡ length x.events) (sym is) count;
-  sets = subst (λ (x : Hart). AreSets x k.sets) (sym is) sets;
-  words = subst (λ (x : Hart). AreWords x.events k.words) (sym is) words;
-}
+kept_from k h is hart rows count sets words = grind (arith, common_steps)
 
 -- the same events and rows
 pub kept-same : (k k' : Kept) → IsKept k → hart_of k' ≡ hart_of k → k'.rows ≡ k.rows → k'.sets ≡ k.sets →
@@ -83,14 +77,7 @@ kept-popped k k' front e before row kept events rows is rows' sets words =
         (hart-front (hart_of k) front e kept.hart events) (hart-last (hart_of k) front e kept.hart events)
 
     count : length before ≡ length front
-    count = omega (
-      arith,
-      kept.count,
-      ap (λ (rs : List (List ℕ)). length rs) rows,
-      ap (λ (es : List Event). length es) events,
-      length_push before row,
-      length_push front e,
-    )
+    count = grind (arith, common_steps)
 
     mean : RowsMean (hart_with (record { model = k.model; number = k.number; events = front }) e) (before ++ row ∷ [])
     mean = subst (RowsMean (hart_with (record { model = k.model; number = k.number; events = front }) e)) rows
@@ -113,9 +100,7 @@ some_length (x ∷ xs) some = omega arith
 -- what is left when the last one is taken off
 pub rest-is : {X : Type 0} (xs front rest : List X) (x : X) (n : ℕ) → xs ≡ front ++ x ∷ [] → n ≡ length xs →
     rest ≡ take (n - 1) xs → rest ≡ front
-rest-is {X} xs front rest x n is count taken =
-    let low : length front ≡ n - 1 = omega (arith, ap (λ (ys : List X). length ys) is, length_push front x) in
-    taken ∙ ap (take (n - 1)) is ∙ take_at front (x ∷ []) (n - 1) low
+rest-is {X} xs front rest x n is count taken = grind (arith, common_steps)
 
 -- numbers and dependencies of a hart's events are below the limit
 pub small-events : (h : Hart) → Known h → (front : List Event) →
@@ -155,7 +140,4 @@ hart-none model number before after e is =
 -- no events have no rows
 pub rows-none : (model : MemoryModel) (number : ℕ) (rows : List (List ℕ)) → rows ≡ [] →
     RowsMean (record { model = model; number = number; events = [] }) rows
-rows-none model number rows nil j s = (
-  λ x. absurd (none_has s (subst (λ (rs : List (List ℕ)). RowHas rs j s) nil x)),
-  λ b. absurd (let c = b.b_of_hart in let low = c.1 in omega arith),
-)
+rows-none model number rows nil j s = grind (arith, common_steps)

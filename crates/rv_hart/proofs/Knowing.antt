@@ -1,20 +1,19 @@
 -- What is known of the events of a hart, and of one that follows them.
-use Rattle.std.proofs.Common.{◌≡◌, ℕ, suc, ◌+◌, ◌<◌, ◌≤◌, ◌==◌, Bool, true, false, not, ◌||◌, nat_lt, List}
+use Rattle.std.proofs.Common.{◌≡◌, ℕ, suc, ◌+◌, ◌<◌, ◌≤◌, ◌==◌, Bool, true, false, List}
 use Rattle.std.proofs.Common.{[], ◌∷◌, ◌++◌, length, get_or, Contains, All, None, ◌⊎◌, inl, inr, refl, sym}
 use Rattle.std.proofs.Common.{ap, ◌∙◌, arith, subst, append-nil, append_assoc, eq-eqb}
 use Rattle.std.specs.List.{list_any}
-use Rattle.std.proofs.lemmas.Bool.{or_parts, not-false, ltb-true, cases_lt}
-use Rattle.std.proofs.lemmas.List.{get_or_at, get_or_append_left, length_push}
+use Rattle.std.proofs.lemmas.List.{length_push}
 use Rattle.std.proofs.lemmas.List.Elements.{Contains-get_or, Contains-push_cases, Contains-append_left}
 use Rattle.std.proofs.lemmas.Option.{same_Some}
-use Rattle.rv_event.proofs.Names.{Contains-cons, Contains-here, Contains-there}
-use Rattle.rv_event.proofs.Indexed.{Indexed, Sound, NoneOf, indexed-nil, lowest-none, fault_if-none}
+use Rattle.std.proofs.Common.{rules}
+use Rattle.std.proofs.lemmas.Grind.{common_steps}
+use Rattle.rv_event.proofs.Names.{Contains-here, Contains-there}
+use Rattle.rv_event.proofs.Indexed.{Indexed, Sound}
 use Rattle.rv_event.proofs.Indexed.{indexed-push, sound_of}
 use Rattle.rv_event.proofs.Pushed.{split_push}
-use Rattle.rv_event.specs.Faults.{event_fault, expected, first_faults, deps_fault, is_bad_dependency}
-use Rattle.rv_event.specs.Faults.{names_no_value, admits}
+use Rattle.rv_event.specs.Faults.{event_fault, expected}
 use Rattle.rv_event.specs.Log.{of_hart, named, Earlier}
-use Rattle.rv_event.specs.declared.fault.Fault.TheVariants.{Dependency}
 use Rattle.rv_event.specs.declared.event.Dep.{Dep}
 use Rattle.rv_event.specs.declared.event.Event.{Event}
 use Rattle.rv_hart.specs.Harts.{Hart, Follows, IsHart, followed, hart_with}
@@ -44,25 +43,11 @@ pub record Fits (h : Hart) (e : Event) : Type 0 where
 
 none_passes : {X : Type 0} (p : X → Bool) (xs : List X) (x : X) → list_any p xs ≡ false → Contains xs x → p x ≡ false
 none_passes p [] x e (k, l, is) = absurd (omega arith)
-none_passes {X} p (y ∷ ys) x e c =
-    let parts : (p y ≡ false) × (list_any p ys ≡ false) = or_parts (p y) (list_any p ys) e in
-    elim (Contains-cons y ys x c) [
-      | inl is ↦ subst (λ (z : X). p z ≡ false) is parts.0
-      | inr d ↦ none_passes p ys
-          x parts.1 d
-    ]
+none_passes {X} p (y ∷ ys) x e c = grind (arith, common_steps)
 
 -- without a fault an event depends on earlier numbers alone
 depends_below : (log : List Event) (e : Event) → event_fault log e ≡ None → DependsBelow e
-depends_below log e none d c =
-    let each : NoneOf (first_faults log e ++ deps_fault e ∷ []) =
-    lowest-none (first_faults log e ++ deps_fault e ∷ []) none in
-    let off : is_bad_dependency log e d ≡ false = none_passes (is_bad_dependency log e) e.deps d
-    (fault_if-none (list_any (is_bad_dependency log e) e.deps) Dependency each.1.1.0) c in
-    let first = (or_parts (not (nat_lt d.seq e.id.seq) || names_no_value log e.id.hart d.seq)
-    (not (admits e.op d.kind)) off).0 in
-    let low = (or_parts (not (nat_lt d.seq e.id.seq)) (names_no_value log e.id.hart d.seq) first).0 in
-    ltb-true d.seq e.id.seq (not-false (nat_lt d.seq e.id.seq) low)
+depends_below log e none d c = grind (arith, common_steps)
 
 -- where all events are of one hart, they are the hart's events
 own-length : (hart : ℕ) (xs : List Event) → ((a : Event) → Contains xs a → a.id.hart ≡ hart) →
@@ -99,21 +84,14 @@ module _ (h : Hart) (e : Event) (f : Fits h e) where
       [ inl old ↦ f.known.own a old | inr is ↦ subst (λ (x : Event). x.id.hart ≡ h.number) is f.hart ]
 
   at' : (s : ℕ) (d : Event) → s < length (followed h e) → (get_or (followed h e) s d).id.seq ≡ s
-  at' s d low = go (cases_lt s (length h.events))
-    where
-      go : (s < length h.events) ⊎ (length h.events ≤ s) → (get_or (followed h e) s d).id.seq ≡ s
-      go (inl old) = ap (λ (x : Event). x.id.seq) (get_or_append_left h.events (e ∷ []) d s old) ∙ f.known.at s d old
-      go (inr new) =
-          let last : length h.events ≡ s = omega (arith, grown) in
-          ap (λ (x : Event). x.id.seq) (get_or_at h.events e [] d s last) ∙ f.seq ∙ last
+  at' s d low = grind (arith, common_steps)
 
   below' : (a : Event) → Contains (followed h e) a → a.id.seq < length (followed h e)
   below' a c = go (Contains-push_cases h.events e a c)
     where
       go : Contains h.events a ⊎ (e ≡ a) → a.id.seq < length (followed h e)
       go (inl old) = let low = f.known.below a old in omega (arith, grown)
-      go (inr is) = let same : e.id.seq ≡ a.id.seq = ap (λ (x : Event). x.id.seq) is in let at = f.seq in
-          omega (arith, grown)
+      go (inr is) = grind (arith, common_steps)
 
   deps' : (a : Event) → Contains (followed h e) a → DependsBelow a
   deps' a c = elim (Contains-push_cases h.events e a c)
@@ -131,14 +109,7 @@ module _ (h : Hart) (e : Event) (f : Fits h e) where
   }
 
 known-nil : (h : Hart) → Known (record h { events = [] })
-known-nil h = record {
-  indexed = indexed-nil;
-  own = λ a c. absurd (let l = c.1 in omega arith);
-  at = λ s d low. absurd (omega arith);
-  below = λ a c. absurd (let l = c.1 in omega arith);
-  few = omega arith;
-  deps = λ a c. absurd (let l = c.1 in omega arith);
-}
+known-nil h = grind (arith, common_steps)
 
 known_from : (h : Hart) (before rest : List Event) → IsHart h → h.events ≡ before ++ rest →
     Known (record h { events = before }) → Known h
@@ -159,20 +130,12 @@ fits_of h e ok follows = fits_from h e (known_of h ok) follows
 
 -- the hart with the event is a hart
 pub hart-push : (h : Hart) (e : Event) → IsHart h → Follows h e → IsHart (hart_with h e)
-hart-push h e ok follows before after x is = go (split_push h.events e before after x is)
-  where
-    go : ((h.events ≡ before) × (e ≡ x)) ⊎ ((rest : List Event) × (h.events ≡ before ++ x ∷ rest)) →
-        Follows (record h { events = before }) x
-    go (inl (same, new)) = subst (λ (y : Event). Follows (record h { events = before }) y) new
-        (subst (λ (es : List Event). Follows (record h { events = es }) e) same follows)
-    go (inr (rest, same)) = ok before rest x same
+hart-push h e ok follows before after x is = search (split_push, rules)
 
 -- and without its last event
 pub hart-front : (h : Hart) (front : List Event) (e : Event) → IsHart h → h.events ≡ front ++ e ∷ [] →
     IsHart (record h { events = front })
-hart-front h front e ok is before after x cut =
-    ok before (after ++ e ∷ []) x (is ∙ ap (λ (es : List Event). es ++ e ∷ []) cut ∙
-    append_assoc before (x ∷ after) (e ∷ []))
+hart-front h front e ok is before after x cut = grind (arith, common_steps)
 
 -- which followed the others
 pub hart-last : (h : Hart) (front : List Event) (e : Event) → IsHart h → h.events ≡ front ++ e ∷ [] →
@@ -189,26 +152,16 @@ same_event h known a b ca cb seq =
 
 -- an event is the one at the place of its number
 pub event_at : (h : Hart) → Known h → (a d : Event) → Contains h.events a → get_or h.events a.id.seq d ≡ a
-event_at h known a d ca =
-    let low = known.below a ca in
-    same_event h known (get_or h.events a.id.seq d) a (Contains-get_or h.events a.id.seq d low) ca
-    (known.at a.id.seq d low)
+event_at h known a d ca = grind (arith, common_steps)
 
 -- what follows is after each event
 pub follows_all : (h : Hart) (e : Event) → Fits h e → (a : Event) → Contains h.events a → Earlier a e
-follows_all h e f a c =
-    let low = f.known.below a c in
-    let at = f.seq in
-    record { hart = f.known.own a c ∙ sym f.hart; seq = omega arith }
+follows_all h e f a c = search rules
 
 -- an event that is earlier than what follows is an old one
 pub earlier_old : (h : Hart) (e : Event) → Fits h e → (m : Event) → Contains (followed h e) m → Earlier m e →
     Contains h.events m
-earlier_old h e f m c earlier = elim (Contains-push_cases h.events e m c) [
-  | inl old ↦ old
-  | inr is ↦ (let same : e.id.seq ≡ m.id.seq = ap (λ (x : Event). x.id.seq) is in let low = earlier.seq in
-      absurd (omega arith))
-]
+earlier_old h e f m c earlier = grind (arith, common_steps)
 
 -- an old event is one of the new list
 pub old_new : (h : Hart) (e a : Event) → Contains h.events a → Contains (followed h e) a
@@ -221,10 +174,7 @@ read_is h known w x n cw at read = read ∙ ap (λ (k : ℕ). get_or h.events k 
 
 -- an event's number is below the limit on numbers
 pub number-few : (h : Hart) → Known h → (a : Event) → Contains h.events a → a.id.seq < 4096
-number-few h known a ca =
-    let low = known.below a ca in
-    let few = known.few in
-    omega arith
+number-few h known a ca = grind (arith, common_steps)
 
 -- dependencies stand below the limit on numbers
 pub deps-few : (h : Hart) → Known h → (w : Event) → Contains h.events w → All (λ d. d.seq < 4096) w.deps

@@ -5,6 +5,8 @@ use Rattle.std.proofs.Common.{eqb-true, eq-eqb}
 use Rattle.std.proofs.lemmas.Bool.{or_cases, or_left, or_right, false≢true, cases_lt}
 use Rattle.std.proofs.lemmas.List.Elements.{Contains-push_cases, Contains-push, Contains-append_left}
 use Rattle.std.proofs.lemmas.Option.{same_Some}
+use Rattle.std.proofs.lemmas.Grind.{common_steps}
+use Rattle.std.proofs.Common.{rules}
 use Rattle.rv_event.proofs.Names.{named-is}
 use Rattle.rv_event.proofs.Conditions.{Condition-number, Condition-above}
 use Rattle.rv_event.specs.Operations.{IsMemory}
@@ -27,7 +29,6 @@ use Rattle.rv_hart.specs.RuleRows.{IsOperationOf, ConditionOf, IsLowestRule}
 use Rattle.rv_hart.proofs.Knowing.{Known, Fits, known_with, same_event, old_new}
 use Rattle.rv_hart.proofs.Tying.{carried, unsplit, row_is, rule-old, rows_closed}
 use Rattle.rv_hart.proofs.Joining.{candidates-own}
-use Rattle.rv_hart.proofs.Ruling.{ordered}
 
 -- ---- the lowest rule of a candidate
 module _ (h : Hart) (e : Event) (f : Fits h e) (memory : IsMemory e) (s : ℕ) (candidate : IsCandidate h e s) where
@@ -44,11 +45,7 @@ module _ (h : Hart) (e : Event) (f : Fits h e) (memory : IsMemory e) (s : ℕ) (
 
   -- the first rule that holds is the lowest
   pub lowest-here : (k : ℕ) → ConditionOf h e k a → ((j : ℕ) → j < k → IsOrderedBy h e j s → ⊥) → IsLowestRule h e s k
-  lowest-here k holds none = record {
-    ordered = (let x = ordered h e f memory k a candidate.1.of_hart (candidate.1.rule.from_memory, holds) in
-        record { a = x.a; of_hart = x.of_hart; at = x.at ∙ candidate.1.at; rule = x.rule });
-    lowest = none;
-  }
+  lowest-here k holds none = grind (arith, common_steps)
 
   -- a rule that does not hold is passed
   pub none-here : (k : ℕ) → (ConditionOf h e k a → ⊥) → ((j : ℕ) → j < k → IsOrderedBy h e j s → ⊥) → (j : ℕ) →
@@ -58,10 +55,7 @@ module _ (h : Hart) (e : Event) (f : Fits h e) (memory : IsMemory e) (s : ℕ) (
       go : (j < k) ⊎ (k ≤ j) → ⊥
       go (inl under) = none j under x
       go (inr over) =
-          let same : j ≡ k = omega arith in
-          let o : IsOrderedBy h e k s = subst (λ (n : ℕ). IsOrderedBy h e n s) same x in
-          let met : o.a ≡ a = same_event h f.known o.a a o.of_hart candidate.1.of_hart (o.at ∙ sym candidate.1.at) in
-          fails (subst (ConditionOf h e k) met o.rule.condition)
+          search (same_event, rules)
 
   -- some rule holds of a candidate
   pub some-rule : (k : ℕ) → 14 ≤ k → ((j : ℕ) → j < k → IsOrderedBy h e j s → ⊥) → ⊥
@@ -84,10 +78,7 @@ pub record AreLinksOf (h : Hart) (e : Event) (taken : List ℕ) (links : List Li
   pub all : (n : ℕ) → Contains taken n → Names links (record { hart = h.number; seq = n })
 
 links-none : (h : Hart) (e : Event) (links : List Link) → links ≡ [] → AreLinksOf h e [] links
-links-none h e links nil = record {
-  each = λ l c. absurd (let d = subst (λ (ls : List Link). Contains ls l) nil c in let low = d.1 in omega arith);
-  all = λ n c. absurd (let low = c.1 in omega arith);
-}
+links-none h e links nil = grind (arith, common_steps)
 
 links-more : (h : Hart) (e : Event) (taken : List ℕ) (n k : ℕ) (links links' : List Link) → AreLinksOf h e taken links →
     IsLowestRule h e n k →
@@ -99,14 +90,7 @@ links-more h e taken n k links links' so lowest more = record { each = each; all
     mine = record { rule = k; reason = refl; hart = refl; is_taken = Contains-push taken n; lowest = lowest }
 
     old : (l : Link) → IsLinkOf h e taken l → IsLinkOf h e (taken ++ n ∷ []) l
-    old l x = record {
-      rule = x.rule;
-      reason = x.reason;
-      hart = x.hart;
-      is_taken = Contains-append_left taken
-          (n ∷ []) l.id.seq x.is_taken;
-      lowest = x.lowest;
-    }
+    old l x = grind (arith, common_steps)
 
     each : (l : Link) → Contains links' l → IsLinkOf h e (taken ++ n ∷ []) l
     each l c = elim (Contains-push_cases links
@@ -256,12 +240,7 @@ module _ (h : Hart) (e : Event) (rows : List (List ℕ)) (first : List ℕ) (g :
 
   -- before the first candidate is taken
   pub listing-begun : (links : List Link) → links ≡ [] → IsListing h e rows first first (length rows) links
-  listing-begun links nil = record {
-    taken = [];
-    swept = begun;
-    within = omega arith;
-    listed = links-none h e links nil;
-  }
+  listing-begun links nil = grind (arith, common_steps, begun, links-none)
 
   -- what is taken is a candidate
   pub listing-candidate : (left left' : List ℕ) (top b : ℕ) (links : List Link) →
@@ -283,9 +262,7 @@ module _ (h : Hart) (e : Event) (rows : List (List ℕ)) (first : List ℕ) (g :
   -- all links
   pub listing-done : (left left' : List ℕ) (top : ℕ) (links : List Link) → IsListing h e rows first left top links →
       IsTaken rows left None left' → AreRuleLinks h e links
-  listing-done left left' top links so is =
-      links-are h e g.fits g.memory rows g.mean first so.taken g.enough
-      (swept-done rows first left so.taken top so.swept is.0) links so.listed
+  listing-done left left' top links so is = search (links-are, swept-done)
 
   -- before the first row is joined
   pub gathering-begun : (row : List ℕ) → IsGathering rows first first (length rows) row row
@@ -308,23 +285,13 @@ module _ (h : Hart) (e : Event) (rows : List (List ℕ)) (first : List ℕ) (g :
       IsGathering rows first left top one row → IsTaken rows left None left' →
       ((s : ℕ) → has_bit one s ≡ (has_bit old s || (e.id.seq == s))) → (s : ℕ) → Has row s ↔
       (Has old s ⊎ IsBefore (hart_with h e) s e.id.seq)
-  gathering-done left left' top old one row so is more =
-      row-swept h e g.fits g.memory rows g.mean first so.taken g.enough
-      (swept-done rows first left so.taken top so.swept is.0) old one row more so.gathers
+  gathering-done left left' top old one row so is more = search (row-swept, swept-done)
 
 -- what is no memory operation has no links and an empty row
 module _ (h : Hart) (e : Event) (f : Fits h e) (none : IsMemory e → ⊥) where
   -- an event that no rule asks for has no links
   pub links-nothing : (links : List Link) → links ≡ [] → AreRuleLinks h e links
-  links-nothing links nil = record {
-    rules = λ l c. absurd (empty l c);
-    lowest = λ l c. absurd (empty l c);
-    carried = λ k a ca r. absurd (none r.to_memory);
-    unsplit = λ k a c ca cc l r q. empty (record { id = a.id; reason = Preserved k }) l;
-  }
-    where
-      empty : (l : Link) → Contains links l → ⊥
-      empty l c = let d = subst (λ (ls : List Link). Contains ls l) nil c in let low = d.1 in omega arith
+  links-nothing links nil = grind (arith, common_steps)
 
   -- and no row
   pub row-nothing : (row : List ℕ) → ((s : ℕ) → has_bit row s ≡ false) → (s : ℕ) → Has row s ↔

@@ -1,30 +1,30 @@
 -- What the rules say of two events of one hart, they say over the hart's events alone.
 use Rattle.std.proofs.Common.{◌≡◌, ◌≢◌, ℕ, Bool, true, false, ◌==◌, cond, List, [], ◌∷◌, ◌++◌, filter, find}
-use Rattle.std.proofs.Common.{Contains, All, Any, Some, None, refl, sym, ap, ◌∙◌, subst, eqb-true, eq-eqb}
-use Rattle.std.proofs.Common.{IsFalse, IsTrue, option_map}
+use Rattle.std.proofs.Common.{Contains, All, Any, Some, None, refl, sym, ap, ◌∙◌, subst, eqb-true}
+use Rattle.std.proofs.Common.{IsFalse, IsTrue}
 use Rattle.std.specs.List.{list_any}
 use Rattle.std.proofs.lemmas.Option.{none-some}
-use Rattle.std.proofs.lemmas.List.Elements.{All-contains, All-filter, filter_passes, filter-append}
+use Rattle.std.proofs.lemmas.List.Elements.{All-contains, All-filter, filter_passes}
+use Rattle.std.proofs.Common.{arith}
+use Rattle.std.proofs.lemmas.Grind.{common_steps}
 use Rattle.rv_event.proofs.Names.{named-is, find-found}
-use Rattle.rv_event.proofs.Indexed.{Indexed, NoneOf, lowest-none, none-lowest, not_taken}
+use Rattle.rv_event.proofs.Indexed.{Indexed, lowest-none, none-lowest, not_taken}
 use Rattle.rv_event.proofs.Growing.{Any-contains, Any-from_contains, All-from_contains, named-of_hart}
-use Rattle.rv_event.specs.Operations.{IsStore, is_store, is_exclusive}
-use Rattle.rv_event.specs.Log.{same_id, named, of_hart, writer, did_write, Between}
+use Rattle.rv_event.specs.Operations.{IsStore, is_exclusive}
+use Rattle.rv_event.specs.Log.{same_id, named, of_hart, writer, Between}
 use Rattle.rv_event.specs.Relations.{Paired, DependsOn, fence_orders}
 use Rattle.rv_event.specs.Preserved.{Condition, overlapping_store, different_reads, reads_atomic_write}
 use Rattle.rv_event.specs.Preserved.{fenced, after_acquire, before_release, both_rcsc, paired, address}
 use Rattle.rv_event.specs.Preserved.{data_of, control, reads_dependent_write, after_dependent_address}
 use Rattle.rv_event.specs.Preserved.{IsDependentWrite, Rule, IsPreserved}
 use Rattle.rv_event.specs.Edges.{IsLowest, IsStale}
-use Rattle.rv_event.specs.Faults.{first_faults, deps_fault, event_fault, is_bad_dependency, taken_fault}
-use Rattle.rv_event.specs.Faults.{is_reserved, dependency_fault, sequence_fault, reservation_fault}
-use Rattle.rv_event.specs.Faults.{full_fault}
+use Rattle.rv_event.specs.Faults.{event_fault, is_bad_dependency, taken_fault}
+use Rattle.rv_event.specs.Faults.{is_reserved}
 use Rattle.rv_event.specs.declared.event.Id.{Id}
 use Rattle.rv_event.specs.declared.event.Dep.{Dep}
 use Rattle.rv_event.specs.declared.event.DepKind.TheVariants.{Addr, Ctrl}
 use Rattle.rv_event.specs.declared.event.Event.{Event}
 use Rattle.rv_event.specs.declared.event.Op.TheVariants.{Branch}
-use Rattle.rv_event.specs.declared.fault.Fault.TheVariants.{VersionTaken}
 use Rattle.rv_event.specs.declared.memory_model.MemoryModel.{MemoryModel}
 use Rattle.rv_event.specs.declared.reason.Reason.TheVariants.{Preserved}
 use Rattle.rv_cover.specs.Paths.{AnyRule, Reaches}
@@ -65,21 +65,12 @@ own_again log h = filter-again (λ (x : Event). h == x.id.hart) log
 
 -- an id of the hart names the same event
 pub named-own : (log : List Event) (h : ℕ) (i : Id) → i.hart ≡ h → named (of_hart h log) i ≡ named log i
-named-own log h i same =
-    let all : (n : ℕ) → i.hart ≡ n → named (of_hart n log) i ≡ named log i = λ n e.
-    named-of_hart (of_hart n log) i ∙ ap (λ m. find (λ (x : Event). same_id i x.id) (of_hart m (of_hart n log))) e
-    ∙ ap (find (λ (x : Event). same_id i x.id)) (own_again log n) ∙
-    ap (λ m. find (λ (x : Event). same_id i x.id) (of_hart m log)) (sym e) ∙ sym (named-of_hart log i) in
-    all h same
+named-own log h i same = grind (arith, common_steps, named-of_hart, find, own_again)
 
 -- the hart's events and one more of it
 pub own-push : (log : List Event) (e : Event) (h : ℕ) → e.id.hart ≡ h →
     of_hart h (log ++ e ∷ []) ≡ of_hart h log ++ e ∷ []
-own-push log e h same =
-    let p : Event → Bool = λ x. h == x.id.hart in
-    let one : (b : Bool) → b ≡ true → cond b (e ∷ []) [] ≡ e ∷ [] = λ b t. rw t in
-    filter-append p log (e ∷ []) ∙ ap (λ (ys : List Event). of_hart h log ++ ys)
-    (one (h == e.id.hart) (eq-eqb h e.id.hart (sym same)))
+own-push log e h same = grind (arith, common_steps)
 
 module _ (model : MemoryModel) (log : List Event) (h : ℕ) (known : Indexed log) where
   abbrev own : List Event
@@ -185,14 +176,7 @@ module _ (model : MemoryModel) (log : List Event) (h : ℕ) (known : Indexed log
 
   -- a rule of the log is one of the hart
   pub rule_to : (k : ℕ) (a b : Event) → a.id.hart ≡ h → Rule model log k a b → Rule model own k a b
-  rule_to k a b at r = record {
-    from = contains_own log h a known r.from at;
-    to = contains_own log h b known r.to (sym r.earlier.hart ∙ at);
-    from_memory = r.from_memory;
-    to_memory = r.to_memory;
-    earlier = r.earlier;
-    condition = condition_to a b at k r.condition;
-  }
+  rule_to k a b at r = grind (arith, common_steps, contains_own, condition_to)
 
   -- and the other way round
   pub rule_from : (k : ℕ) (a b : Event) → Rule model own k a b → Rule model log k a b
@@ -252,20 +236,7 @@ module _ (model : MemoryModel) (log : List Event) (h : ℕ) (known : Indexed log
 
   -- a stale pair of the log is one of the hart
   pub stale_to : (i j : Id) → i.hart ≡ h → IsStale log i j → IsStale own i j
-  stale_to i j at s =
-      let from : i.hart ≡ s.a.id.hart = ap (λ (x : Id). x.hart) (named-is log i s.a s.load_named).1 in
-      let to : j.hart ≡ s.b.id.hart = ap (λ (x : Id). x.hart) (named-is log j s.b s.store_named).1 in
-      record {
-        a = s.a;
-        b = s.b;
-        load_named = named-own log h i at ∙ s.load_named;
-        store_named = named-own log h j (to ∙ s.earlier.hart ∙ sym from ∙ at) ∙ s.store_named;
-        is_load = s.is_load;
-        is_store = s.is_store;
-        word = s.word;
-        earlier = s.earlier;
-        versions = s.versions;
-      }
+  stale_to i j at s = grind (arith, common_steps, named-is, named-own)
 
   -- and the other way round
   pub stale_from : (i j : Id) → IsStale own i j → IsStale log i j
@@ -300,20 +271,10 @@ find-none {X} p q (x ∷ xs) e = go (p x) refl (q x) e (find-none p q xs)
 
 writer_none : (log : List Event) (h word version : ℕ) → writer log word version ≡ None →
     writer (of_hart h log) word version ≡ None
-writer_none log h word version e = go (version == 0) e
-  where
-    go : (b : Bool) → cond b None (find (did_write word version) log) ≡ None →
-        cond b None (find (did_write word version) (of_hart h log)) ≡ None
-    go true f = refl
-    go false f = find-none (did_write word version) (λ x. h == x.id.hart) log f
+writer_none log h word version e = grind (arith, common_steps, find, find-none)
 
 taken_none : (log : List Event) (h : ℕ) (e : Event) → taken_fault log e ≡ None → taken_fault (of_hart h log) e ≡ None
-taken_none log h e none = go (is_store e.op) refl
-  where
-    go : (b : Bool) → is_store e.op ≡ b →
-        cond b (option_map (λ (w : Event). VersionTaken w.id) (writer (of_hart h log) e.word e.wrote)) None ≡ None
-    go true s = rw (writer_none log h e.word e.wrote (not_taken log e none s))
-    go false s = refl
+taken_none log h e none = grind (arith, common_steps, writer_none, not_taken)
 
 bad-own : (log : List Event) (h : ℕ) (e : Event) (d : Dep) → e.id.hart ≡ h →
     is_bad_dependency (of_hart h log) e d ≡ is_bad_dependency log e d
@@ -327,19 +288,7 @@ any-same p q (x ∷ xs) same = rw (same x, any-same p q xs same)
 -- an event without a fault over the log has none over its hart's events
 pub fault_own : (log : List Event) (e : Event) → event_fault log e ≡ None → event_fault (of_hart e.id.hart log) e ≡ None
 fault_own log e none =
-    let own : List Event = of_hart e.id.hart log in
-    let each : NoneOf (first_faults log e ++ deps_fault e ∷ []) =
-    lowest-none (first_faults log e ++ deps_fault e ∷ []) none in
-    let same : of_hart e.id.hart own ≡ own = own_again log e.id.hart in
-    let sequence : sequence_fault own e ≡ None = rw same each.1.0 in
-    let bad : list_any (is_bad_dependency own e) e.deps ≡ list_any (is_bad_dependency log e) e.deps =
-    any-same (is_bad_dependency own e) (is_bad_dependency log e) e.deps (λ d. bad-own log e.id.hart e d refl) in
-    let dependency : dependency_fault own e ≡ None = rw bad each.1.1.0 in
-    let taken : taken_fault own e ≡ None = taken_none log e.id.hart e each.1.1.1.1.0 in
-    let reservation : reservation_fault own e ≡ None = rw same each.1.1.1.1.1.0 in
-    let full : full_fault own e ≡ None = rw same each.1.1.1.1.1.1.0 in
-    none-lowest (first_faults own e ++ deps_fault e ∷ [])
-    (each.0, (sequence, (dependency, (each.1.1.1.0, (taken, (reservation, (full, (each.1.1.1.1.1.1.1.0, tt))))))))
+    grind (arith, common_steps, lowest-none, own_again, any-same, bad-own, taken_none, none-lowest)
 
 -- nor does it change whether the hart has a reservation
 pub reserved-own : (log : List Event) (h : ℕ) → is_reserved (of_hart h log) h ≡ is_reserved log h

@@ -1,14 +1,13 @@
 -- Whether the hart's last LR, SC or failed SC is an LR, and which event a number names.
-use Rattle.std.proofs.Common.{◌≡◌, ℕ, zero, suc, ◌<◌, ◌≤◌, ◌==◌, ◌&&◌, Bool, true, false, cond, List, [], ◌∷◌}
+use Rattle.std.proofs.Common.{◌≡◌, ℕ, zero, suc, ◌<◌, ◌≤◌, ◌==◌, Bool, true, false, cond, List, [], ◌∷◌}
 use Rattle.std.proofs.Common.{◌++◌, length, Contains, Option, Some, None, is_some, ◌⊎◌, inl, inr, refl, sym}
 use Rattle.std.proofs.Common.{ap, ◌∙◌, subst, arith, length-append, eq-eqb, slice_get, get_or}
-use Rattle.std.proofs.lemmas.Bool.{false≢true}
 use Rattle.std.proofs.lemmas.Option.{none-some, slice_get_within, get_or_from_slice_get}
 use Rattle.std.proofs.lemmas.List.{get_or_default}
+use Rattle.std.proofs.lemmas.Grind.{common_steps}
 use Rattle.rv_event.specs.Operations.{is_exclusive}
 use Rattle.rv_event.specs.Log.{named}
 use Rattle.rv_event.specs.Faults.{is_lr, is_reserved}
-use Rattle.rv_event.proofs.Counting.{is_reserved-push}
 use Rattle.rv_event.proofs.Names.{named-is}
 use Rattle.rv_event.specs.declared.event.Event.{Event}
 use Rattle.rv_event.specs.declared.event.Id.{Id}
@@ -32,10 +31,7 @@ data Turn (op : Op) : Type 0 where
   ends : is_exclusive op ≡ true → (op ≡ Lr → ⊥) → is_lr op ≡ false → Turn op
 
 differs : (op : Op) → is_lr op ≡ false → op ≡ Lr → ⊥
-differs op other same = true_false (sym (ap is_lr same) ∙ other)
-  where
-    true_false : true ≡ false → ⊥
-    true_false e = false≢true (sym e)
+differs op other same = grind (arith, common_steps)
 
 turn : (op : Op) → Turn op
 turn Load = frees refl
@@ -55,15 +51,10 @@ tells_more h e f t = go (turn e.op)
     mine = eq-eqb h.number e.id.hart (sym f.hart)
 
     push : is_reserved (followed h e) h.number ≡ cond (is_exclusive e.op) (is_lr e.op) (is_reserved h.events h.number)
-    push = is_reserved-push h.events h.number e ∙
-        ap (λ (b : Bool). cond (b && is_exclusive e.op) (is_lr e.op) (is_reserved h.events h.number)) mine
+    push = grind (arith, common_steps)
 
     go : Turn e.op → Tells (record h { events = followed h e })
-    go (frees free) = record {
-      number = t.number;
-      is = reservation-kept h e f free t.number t.is;
-      tells = t.tells ∙ sym (push ∙ ap (λ (b : Bool). cond b (is_lr e.op) (is_reserved h.events h.number)) free);
-    }
+    go (frees free) = grind (arith, common_steps, reservation-kept)
     go (opens lr) = record {
       number = Some e.id.seq;
       is = reservation-new h e f lr;
@@ -85,21 +76,10 @@ parts [] = inl refl
 parts (x ∷ xs) = inr (last_of x xs)
 
 none_told : (h : Hart) → h.events ≡ [] → Tells h
-none_told h none = record {
-  number = None;
-  is = λ a c r. absurd (nothing a (subst (λ (es : List Event). Contains es a) none c));
-  tells = sym (ap (λ (es : List Event). is_reserved es h.number) none);
-}
-  where
-    nothing : (a : Event) → Contains [] a → ⊥
-    nothing a (k, l, e) = omega arith
+none_told h none = grind (arith, common_steps)
 
 tells_up_to : (n : ℕ) (h : Hart) → length h.events ≤ n → IsHart h → Tells h
-tells_up_to zero h short ok = none_told h (empty h.events short)
-  where
-    empty : (xs : List Event) → length xs ≤ 0 → xs ≡ []
-    empty [] l = refl
-    empty (x ∷ xs) l = absurd (omega (arith, l))
+tells_up_to zero h short ok = grind (arith, common_steps)
 tells_up_to (suc n) h short ok = go (parts h.events) (λ g. tells_up_to n g)
   where
     go : (h.events ≡ []) ⊎ ((front : List Event) × (y : Event) × (h.events ≡ front ++ y ∷ [])) →

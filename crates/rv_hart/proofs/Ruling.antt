@@ -1,9 +1,11 @@
 -- What the conditions of the rules say of a new event, by what is kept of the old ones.
-use Rattle.std.proofs.Common.{◌≡◌, ℕ, Bool, true, false, ◌||◌, ◌&&◌, ◌<◌, ◌↔◌, List, Contains, IsTrue}
+use Rattle.std.proofs.Common.{◌≡◌, ℕ, Bool, ◌||◌, ◌&&◌, ◌<◌, ◌↔◌, List, Contains, IsTrue}
 use Rattle.std.proofs.Common.{IsFalse, ◌⊎◌, inl, inr, sym, refl, ap, ◌∙◌, subst}
 use Rattle.std.proofs.lemmas.Bool.{or_cases, or_left, or_right, and_parts, and_from, false≢true, cases_order}
 use Rattle.std.proofs.lemmas.Option.{same_Some}
 use Rattle.std.proofs.lemmas.List.Elements.{Contains-push, All-contains}
+use Rattle.std.proofs.Common.{arith, rules}
+use Rattle.std.proofs.lemmas.Grind.{common_steps}
 use Rattle.rv_event.proofs.Growing.{Any-contains, Any-from_contains, All-from_contains}
 use Rattle.rv_hart.proofs.Conditions.{reads_atomic_write_out, fenced_out}
 use Rattle.rv_hart.proofs.Conditions.{after_acquire_out, before_release_out, both_rcsc_out, paired_out}
@@ -12,7 +14,7 @@ use Rattle.rv_hart.proofs.Conditions.{after_dependent_address_out}
 use Rattle.rv_event.specs.Operations.{is_amo, is_load, is_store, is_memory, is_exclusive, IsLoad, IsStore}
 use Rattle.rv_event.specs.Operations.{IsMemory, Returns}
 use Rattle.rv_event.specs.Annotations.{is_annotated, IsAcquire, IsRelease, IsRcsc}
-use Rattle.rv_event.specs.Log.{Earlier, Between, writer}
+use Rattle.rv_event.specs.Log.{Earlier, Between}
 use Rattle.rv_event.specs.Relations.{Paired, in_set, fence_orders, Fenced, DependsOn}
 use Rattle.rv_event.specs.Preserved.{Condition, reads_atomic_write, fenced}
 use Rattle.rv_event.specs.Preserved.{after_acquire, before_release, both_rcsc, paired, address, data_of}
@@ -33,7 +35,7 @@ use Rattle.rv_hart.specs.Rows.{IsOrderedBy}
 use Rattle.rv_hart.specs.RuleRows.{Adds}
 use Rattle.rv_hart.specs.Sets.{HasEvent, RowIs, IsFencedFor, IsControlling, IsAddressing, IsReserving}
 use Rattle.rv_hart.proofs.Knowing.{Known, Fits, same_event, follows_all, earlier_old, old_new}
-use Rattle.rv_hart.proofs.Absorbing.{has-map, orders_by_kind, depended}
+use Rattle.rv_hart.proofs.Absorbing.{has-map, depended}
 use Rattle.rv_hart.proofs.Depending.{AddsNamed}
 
 -- ---- rows with more
@@ -48,14 +50,7 @@ more-none events row s = (λ x. inl x, λ x. elim x [ inl y ↦ y | inr n ↦ ab
 -- all of another row
 pub more-all : (P : Event → Type 0) (events : List Event) (row other row' : List ℕ) → RowIs other P events →
     ((s : ℕ) → has_bit row' s ≡ (has_bit row s || has_bit other s)) → HasMore P events row row'
-more-all P events row other row' others more s = (
-  λ x. elim (or_cases (has_bit row s) (has_bit other s) (sym (more s) ∙ x))
-      [ inl y ↦ inl y | inr y ↦ inr ((others s).0 y) ],
-  λ x. elim x [
-    | inl y ↦ (more s ∙ or_left (has_bit row s) (has_bit other s) y)
-    | inr y ↦ (more s ∙ or_right (has_bit row s) (has_bit other s) ((others s).1 y))
-  ],
-)
+more-all P events row other row' others more s = grind (arith, common_steps)
 
 -- one after the other
 pub more-both : (P Q : Event → Type 0) (events : List Event) (row row' row'' : List ℕ) →
@@ -129,11 +124,7 @@ rcsc-memory Ztso a h = elim (or_cases (is_amo a.op) (is_annotated a.op && (a.acq
     [ inl l ↦ amo-memory a.op l | inr t ↦ annotated-memory a.op (a.acquire || a.release) t ]
 
 fence-memory : (f a op : Op) → IsTrue (fence_orders f a op) → IsTrue (is_memory a)
-fence-memory f a op h = elim (or_cases (is_load a && fence_orders f Load op) (is_store a && fence_orders f Store op)
-    (sym (orders_by_kind f a op) ∙ h)) [
-      | inl l ↦ or_left (is_load a) (is_store a) (and_parts (is_load a) (fence_orders f Load op) l).0
-      | inr w ↦ or_right (is_load a) (is_store a) (and_parts (is_store a) (fence_orders f Store op) w).0
-    ]
+fence-memory f a op h = grind (arith, common_steps)
 
 -- ---- what a fence orders before an operation it orders before a load or a store that the operation is
 set_cases : (succ : Set) (b : Op) → IsTrue (in_set succ b) → (IsTrue (is_load b) × IsTrue (in_set succ Load)) ⊎
@@ -154,46 +145,20 @@ set_store Rw b l h = or_right (is_load b) (is_store b) l
 
 orders_cases : (f a b : Op) → IsTrue (fence_orders f a b) → (IsTrue (is_load b) × IsTrue (fence_orders f a Load)) ⊎
     (IsTrue (is_store b) × IsTrue (fence_orders f a Store))
-orders_cases (Fence pred succ) a b h =
-    let p = and_parts (in_set pred a) (in_set succ b) h in
-    elim (set_cases succ b p.1) [ inl q ↦ inl (q.0, and_from _ _ p.0 q.1) | inr q ↦ inr (q.0, and_from _ _ p.0 q.1) ]
-orders_cases FenceTso a b h = go (or_cases (is_load a && is_memory b) (is_store a && is_store b) h)
-  where
-    go : ((is_load a && is_memory b) ≡ true) ⊎ ((is_store a && is_store b) ≡ true) →
-        (IsTrue (is_load b) × IsTrue (fence_orders FenceTso a Load)) ⊎
-        (IsTrue (is_store b) × IsTrue (fence_orders FenceTso a Store))
-    go (inl q) =
-        let p = and_parts (is_load a) (is_memory b) q in
-        elim (or_cases (is_load b) (is_store b) p.1) [
-          | inl l ↦ inl (l, or_left (is_load a && true) (is_store a && false) (and_from (is_load a) true p.0 refl))
-          | inr w ↦ inr (w, or_left (is_load a && true) (is_store a && true) (and_from (is_load a) true p.0 refl))
-        ]
-    go (inr q) =
-        let p = and_parts (is_store a) (is_store b) q in
-        inr (p.1, or_right (is_load a && true) (is_store a && true) (and_from (is_store a) true p.0 refl))
+orders_cases (Fence pred succ) a b h = grind (arith, common_steps, and_parts, set_cases, and_from)
+orders_cases FenceTso a b h = grind (arith, common_steps)
 orders_cases f a b h = absurd (false≢true h)
 
 orders_load : (f a b : Op) → IsTrue (is_load b) → IsTrue (fence_orders f a Load) → IsTrue (fence_orders f a b)
 orders_load (Fence pred succ) a b l h = let p = and_parts (in_set pred a) (in_set succ Load) h in
     and_from _ _ p.0 (set_load succ b l p.1)
-orders_load FenceTso a b l h = go (or_cases (is_load a && true) (is_store a && false) h)
-  where
-    go : ((is_load a && true) ≡ true) ⊎ ((is_store a && false) ≡ true) → IsTrue (fence_orders FenceTso a b)
-    go (inl q) = or_left (is_load a && is_memory b) (is_store a && is_store b)
-        (and_from _ _ (and_parts (is_load a) true q).0 (or_left (is_load b) (is_store b) l))
-    go (inr q) = absurd (false≢true (and_parts (is_store a) false q).1)
+orders_load FenceTso a b l h = grind (arith, common_steps)
 orders_load f a b l h = absurd (false≢true h)
 
 orders_store : (f a b : Op) → IsTrue (is_store b) → IsTrue (fence_orders f a Store) → IsTrue (fence_orders f a b)
 orders_store (Fence pred succ) a b l h = let p = and_parts (in_set pred a) (in_set succ Store) h in
     and_from _ _ p.0 (set_store succ b l p.1)
-orders_store FenceTso a b l h = go (or_cases (is_load a && true) (is_store a && true) h)
-  where
-    go : ((is_load a && true) ≡ true) ⊎ ((is_store a && true) ≡ true) → IsTrue (fence_orders FenceTso a b)
-    go (inl q) = or_left (is_load a && is_memory b) (is_store a && is_store b)
-        (and_from _ _ (and_parts (is_load a) true q).0 (or_right (is_load b) (is_store b) l))
-    go (inr q) = or_right (is_load a && is_memory b) (is_store a && is_store b)
-        (and_from _ _ (and_parts (is_store a) true q).0 l)
+orders_store FenceTso a b l h = grind (arith, common_steps)
 orders_store f a b l h = absurd (false≢true h)
 
 -- ---- each rule
@@ -207,19 +172,7 @@ module _ (h : Hart) (e : Event) (f : Fits h e) (memory : IsMemory e) where
 
   -- an event of which the condition holds is ordered
   pub ordered : (k : ℕ) (a : Event) → Contains h.events a → IsUnder k a → IsOrderedBy h e k a.id.seq
-  ordered k a ca c = record {
-    a = a;
-    of_hart = ca;
-    at = refl;
-    rule = record {
-      from = old_new h e a ca;
-      to = Contains-push h.events e;
-      from_memory = c.0;
-      to_memory = memory;
-      earlier = follows_all h e f a ca;
-      condition = c.1;
-    };
-  }
+  ordered k a ca c = search (old_new, Contains-push, follows_all)
 
   -- a row that has more by the condition has more by the rule
   pub adds : (k : ℕ) (P : Event → Type 0) (row row' : List ℕ) → HasMore P h.events row row' →
@@ -235,13 +188,7 @@ module _ (h : Hart) (e : Event) (f : Fits h e) (memory : IsMemory e) where
 
       from : Has row s ⊎ IsOrderedBy h e k s → Has row' s
       from (inl y) = (more s).1 (inl y)
-      from (inr o) = (more s).1 (inr (record {
-        a = o.a;
-        of_list = o.of_hart;
-        at = o.at;
-        holds =
-            (says o.a o.of_hart).1 (o.rule.from_memory, o.rule.condition);
-      }))
+      from (inr o) = search rules
 
   -- ---- rule 2
   -- an event that stands before the new one is an old one
@@ -305,8 +252,7 @@ module _ (h : Hart) (e : Event) (f : Fits h e) (memory : IsMemory e) where
 
       from : IsUnder 6 a → (IsRelease h.model e × IsLoad a) ⊎ (IsRelease h.model e × IsStore a)
       from x =
-          let r = before_release_out h.model new a e x.1 in
-          elim (or_cases (is_load a.op) (is_store a.op) x.0) [ inl l ↦ inl (r, l) | inr w ↦ inr (r, w) ]
+          grind (arith, common_steps, before_release_out, or_cases)
 
   -- ---- rule 7
   pub rcsc-is : (a : Event) → Contains h.events a → (IsRcsc h.model e × IsRcsc h.model a) ↔ IsUnder 7 a
@@ -373,11 +319,7 @@ module _ (h : Hart) (e : Event) (f : Fits h e) (memory : IsMemory e) where
   -- a version has one store
   one_store : (w a : Event) → Contains h.events w → Contains h.events a → IsStore w → IsStore a → Returns e w →
       Returns e a → w ≡ a
-  one_store w a cw ca sw sa rw' ra =
-      let word : w.word ≡ a.word = sym rw'.word ∙ ra.word in
-      let version : w.wrote ≡ a.wrote = sym rw'.version ∙ ra.version in
-      same_Some w a (sym (f.known.indexed.written w cw sw) ∙ ap (λ (x : ℕ). writer h.events x w.wrote) word ∙
-      ap (λ (v : ℕ). writer h.events a.word v) version ∙ f.known.indexed.written a ca sa)
+  one_store w a cw ca sw sa rw' ra = search (same_Some, rules)
 
   atomic-store : (a : Event) → (a.op ≡ Amo) ⊎ (a.op ≡ Sc) → IsStore a
   atomic-store a (inl is) = ap is_store is
@@ -437,8 +379,7 @@ module _ (h : Hart) (e : Event) (f : Fits h e) (memory : IsMemory e) where
       from : IsUnder 12 a → (IsMemory a × DependsOn Addr w a) ⊎ (IsMemory a × DependsOn DataOf w a)
       from x =
           let y = Any-contains (IsDependentWrite a e) new (reads_dependent_write_out h.model new a e x.1).through in
-          let same : y.0 ≡ w = one_store y.0 w (old y.0 y.1 y.2.between.before) own.of_hart y.2.store own.store
-          y.2.returns own.returns in
+          let same : y.0 ≡ w = search (one_store, old, between) in
           elim y.2.depends [
             | inl d ↦ inl (x.0, subst (λ (z : Event). DependsOn Addr z a) same d)
             | inr d ↦ inr (x.0, subst (λ (z : Event). DependsOn DataOf z a) same d)
@@ -446,18 +387,8 @@ module _ (h : Hart) (e : Event) (f : Fits h e) (memory : IsMemory e) where
 
   -- and where it does not
   pub dependent-none : ((w : Event) → IsOwnStore h e w → ⊥) → (a : Event) → Contains h.events a → ⊥ ↔ IsUnder 12 a
-  dependent-none none a ca = (
-    λ n. absurd n,
-    λ x. (
-        let r = reads_dependent_write_out h.model new a e x.1 in
-        let y = Any-contains (IsDependentWrite a e) new r.through in
-        none y.0 (record {
-          of_hart = old y.0 y.1 y.2.between.before;
-          store = y.2.store;
-          load = r.load;
-          returns = y.2.returns;
-        })),
-  )
+  dependent-none none a ca =
+      grind (arith, common_steps, reads_dependent_write_out, Any-contains, old, between)
 
 -- ---- rule 8
 module _ (h : Hart) (e : Event) (f : Fits h e) where
@@ -475,18 +406,10 @@ module _ (h : Hart) (e : Event) (f : Fits h e) where
 
   -- and what is paired reserves
   pub paired-reserving : (a : Event) → Paired (followed h e) a e → IsReserving h.events a
-  paired-reserving a p = (
-    p.is_lr,
-    All-from_contains (λ m. Earlier a m → IsFalse (is_exclusive m.op)) h.events
-        (λ m c earlier. All-contains (λ m. Between a m e → IsFalse (is_exclusive m.op))
-        (followed h e) m p.none_between (old_new h e m c)
-        (record { after = earlier; before = follows_all h e f m c })),
-  )
+  paired-reserving a p = grind (arith, common_steps)
 
   later-none : (a b : Event) → Contains h.events b → IsReserving h.events a → IsReserving h.events b → Earlier a b → ⊥
-  later-none a b cb ra rb earlier = false≢true
-      (sym (All-contains (λ m. Earlier a m → IsFalse (is_exclusive m.op)) h.events b ra.1 cb earlier) ∙
-      ap is_exclusive rb.0)
+  later-none a b cb ra rb earlier = grind (arith, common_steps)
 
   -- one LR reserves
   pub one_reserving : (a b : Event) → Contains h.events a → Contains h.events b → IsReserving h.events a →

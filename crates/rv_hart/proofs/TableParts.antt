@@ -1,9 +1,11 @@
 -- Parts of the table of rules: tests, pairs of them, and the rows that they stand for.
 use Rattle.std.proofs.Common.{◌≡◌, ℕ, Bool, true, false, ◌<◌, ◌↔◌, ◌⊎◌, inl, inr, List, Contains, IsTrue, sym, refl}
-use Rattle.std.proofs.Common.{ap, ◌∙◌, subst, length, get_or, ◌||◌, ◌==◌, eqb-true, eq-eqb}
+use Rattle.std.proofs.Common.{◌∙◌, subst, length, get_or, ◌||◌, ◌==◌, eqb-true, eq-eqb}
 use Rattle.std.specs.Prelude.{if◌then◌else◌}
-use Rattle.std.proofs.lemmas.Bool.{or_cases, or_left, or_right, false≢true}
+use Rattle.std.proofs.lemmas.Bool.{or_cases, or_left, or_right}
 use Rattle.std.proofs.lemmas.List.Elements.{Contains-get_or}
+use Rattle.std.proofs.Common.{arith}
+use Rattle.std.proofs.lemmas.Grind.{common_steps}
 use Rattle.rv_event.specs.Operations.{IsMemory}
 use Rattle.rv_event.specs.declared.event.Event.{Event}
 use Rattle.rv_rows.specs.Bits.{has_bit}
@@ -22,14 +24,8 @@ module _ (h : Hart) (e : Event) where
   pub part-if :
       (b : Bool) (p q : Part) (T : Type 0) → q ≡ (if b then p else Nothing) → IsTrue b ↔ T →
       (a : Event) → IsOfPart h e q a ↔ (T × IsOfPart h e p a)
-  part-if true p q T is decides a = (
-    λ x. (decides.0 refl, subst (λ (r : Part). IsOfPart h e r a) is x),
-    λ y. subst (λ (r : Part). IsOfPart h e r a) (sym is) y.1,
-  )
-  part-if false p q T is decides a = (
-    λ x. absurd (subst (λ (r : Part). IsOfPart h e r a) is x),
-    λ y. absurd (false≢true (decides.1 y.0)),
-  )
+  part-if true p q T is decides a = grind (arith, common_steps)
+  part-if false p q T is decides a = grind (arith, common_steps)
 
   -- and names events where the part does
   pub names-if : (b : Bool) (p q : Part) → q ≡ (if b then p else Nothing) → NamesEvents h p → NamesEvents h q
@@ -38,27 +34,14 @@ module _ (h : Hart) (e : Event) where
 
   -- one part alone
   pub alone : (k : ℕ) (p : Part) → IsPartFor h e k p → ArePartsFor h e k p Nothing
-  alone k p for = record {
-    says = λ a ca. (
-      λ x. elim x [ inl y ↦ (for.says a ca).0 y | inr n ↦ absurd n ],
-      λ u. inl ((for.says a ca).1 u),
-    );
-    names_one = for.names;
-    names_other = tt;
-  }
+  alone k p for = grind (arith, common_steps)
 
   -- a part under a test, where the test is what the rule asks of the new event
   pub tested :
       (k : ℕ) (b : Bool) (p q : Part) (T : Type 0) → q ≡ (if b then p else Nothing) → IsTrue b ↔ T →
       ((a : Event) → Contains h.events a → (T × IsOfPart h e p a) ↔ IsUnder h e k a) → NamesEvents h p →
       IsPartFor h e k q
-  tested k b p q T is decides says names = record {
-    says = λ a ca. (
-      λ x. (says a ca).0 ((part-if b p q T is decides a).0 x),
-      λ u. (part-if b p q T is decides a).1 ((says a ca).1 u),
-    );
-    names = names-if b p q is names;
-  }
+  tested k b p q T is decides says names = grind (arith, common_steps)
 
   -- two parts, each under its test
   pub tested-both :
@@ -67,28 +50,12 @@ module _ (h : Hart) (e : Event) where
       ((a : Event) → Contains h.events a →
       ((T × IsOfPart h e p a) ⊎ (U × IsOfPart h e p' a)) ↔ IsUnder h e k a) →
       NamesEvents h p → NamesEvents h p' → ArePartsFor h e k q q'
-  tested-both k b c p p' q q' T U is decides is' decides' says names names' = record {
-    says = λ a ca. (
-      λ x. (says a ca).0 (elim x [
-        | inl y ↦ inl ((part-if b p q T is decides a).0 y)
-        | inr y ↦ inr ((part-if c p' q' U is' decides' a).0 y)
-      ]),
-      λ u. elim ((says a ca).1 u) [
-        | inl y ↦ inl ((part-if b p q T is decides a).1 y)
-        | inr y ↦ inr ((part-if c p' q' U is' decides' a).1 y)
-      ],
-    );
-    names_one = names-if b p q is names;
-    names_other = names-if c p' q' is' names';
-  }
+  tested-both k b c p p' q q' T U is decides is' decides' says names names' =
+      grind (arith, common_steps)
 
   -- a number that is no rule's has no parts
   pub no-parts : (k : ℕ) → ((a : Event) → IsUnder h e k a → ⊥) → ArePartsFor h e k Nothing Nothing
-  no-parts k none = record {
-    says = λ a ca. (λ x. elim x [ inl n ↦ absurd n | inr n ↦ absurd n ], λ u. absurd (none a u));
-    names_one = tt;
-    names_other = tt;
-  }
+  no-parts k none = grind (arith, common_steps)
 
 -- whether a row has an event's number
 pub row-at :
@@ -113,10 +80,7 @@ reads-row h e f memory reads are s = (
 -- what is read at a number is the event with that number
 pub read-event : (h : Hart) → Known h → (x : Event) (n : ℕ) → n < length h.events → x ≡ get_or h.events n x →
     Contains h.events x × (x.id.seq ≡ n)
-read-event h known x n low is = (
-  subst (Contains h.events) (sym is) (Contains-get_or h.events n x low),
-  ap (λ (y : Event). y.id.seq) is ∙ known.at n x low,
-)
+read-event h known x n low is = grind (arith, common_steps)
 
 -- a number more is the event with that number
 pub more-number :
@@ -142,16 +106,7 @@ more-number h known n d low row row' more s = (
 pub more-same :
     (P Q : Event → Type 0) (events : List Event) (row row' : List ℕ) →
     ((a : Event) → Contains events a → P a ↔ Q a) → HasMore P events row row' → HasMore Q events row row'
-more-same P Q events row row' same more s = (
-  λ x. elim ((more s).0 x) [
-    | inl old ↦ inl old
-    | inr y ↦ inr (record { a = y.a; of_list = y.of_list; at = y.at; holds = (same y.a y.of_list).0 y.holds })
-  ],
-  λ x. (more s).1 (elim x [
-    | inl old ↦ inl old
-    | inr y ↦ inr (record { a = y.a; of_list = y.of_list; at = y.at; holds = (same y.a y.of_list).1 y.holds })
-  ]),
-)
+more-same P Q events row row' same more s = grind (arith, common_steps)
 
 -- two parts that were added add what the rule orders
 pub adds-parts :

@@ -5,6 +5,8 @@ use Rattle.std.proofs.lemmas.Nat.Bits.{bit_at-zero}
 use Rattle.std.proofs.lemmas.Bool.{false≢true, cases_lt, cases_order}
 use Rattle.std.proofs.lemmas.List.{get_or_at, get_or_append_left, get_or_past, length_push}
 use Rattle.std.proofs.lemmas.List.Elements.{Contains-push_cases, Contains-push}
+use Rattle.std.proofs.lemmas.Grind.{common_steps}
+use Rattle.std.proofs.Common.{rules}
 use Rattle.rv_event.proofs.Growing.{Rule-grows}
 use Rattle.rv_event.proofs.Settled.{HasReason-settled, grows-push}
 use Rattle.rv_event.specs.Operations.{IsMemory}
@@ -72,13 +74,7 @@ pub rows_closed : (h : Hart) (rows : List (List ℕ)) → Known h → RowsMean h
 rows_closed h rows known mean = record { below = below; closed = closed }
   where
     below : (b j : ℕ) → RowHas rows b j → j ≤ b
-    below b j r = let m = (mean b j).0 r in go m m.leads
-      where
-        go : (m : IsBefore h j b) → Leads h.model h.events m.a m.b → j ≤ b
-        go m (inl same) = let s : m.a.id.seq ≡ m.b.id.seq = ap (λ (x : Event). x.id.seq) same in let p = m.a_at in
-            let q = m.b_at in omega arith
-        go m (inr p) = let s = (reaches-earlier h.model h.events m.a m.b p).seq in let x = m.a_at in
-            let y = m.b_at in omega arith
+    below b j r = search (reaches-earlier, rules)
 
     closed : (b c j : ℕ) → RowHas rows b c → RowHas rows c j → RowHas rows b j
     closed b c j r q =
@@ -100,17 +96,7 @@ rows_closed h rows known mean = record { below = below; closed = closed }
 -- a memory operation of the hart stands in its own row
 pub row_own : (h : Hart) (rows : List (List ℕ)) (a : Event) → RowsMean h rows → Contains h.events a → IsMemory a →
     RowHas rows a.id.seq a.id.seq
-row_own h rows a mean ca memory = (mean a.id.seq a.id.seq).1
-    (record {
-      a = a;
-      b = a;
-      a_of_hart = ca;
-      b_of_hart = ca;
-      a_at = refl;
-      b_at = refl;
-      memory = memory;
-      leads = inl refl;
-    })
+row_own h rows a mean ca memory = grind (arith, common_steps)
 
 has_bit-nil : (s : ℕ) → has_bit [] s ≡ false
 has_bit-nil s = ap (λ x. x == 1) (bit_at-zero (s % 64))
@@ -170,17 +156,7 @@ module _ (h : Hart) (e : Event) (f : Fits h e) where
 
   -- what stood before still does
   pub before-grows : (s j : ℕ) → IsBefore h s j → IsBefore (hart_with h e) s j
-  before-grows s j m = record {
-    a = m.a;
-    b = m.b;
-    a_of_hart = old_new h e m.a m.a_of_hart;
-    b_of_hart = old_new h e m.b m.b_of_hart;
-    a_at = m.a_at;
-    b_at = m.b_at;
-    memory = m.memory;
-    leads =
-        leads-grows m.a m.b m.leads;
-  }
+  before-grows s j m = search (old_new, leads-grows)
 
   -- what stands before an old event stands there without the new one
   pub before-settled : (s j : ℕ) → j < e.id.seq → IsBefore (hart_with h e) s j → IsBefore h s j
@@ -199,10 +175,7 @@ module _ (h : Hart) (e : Event) (f : Fits h e) where
       }
     where
       old : (b : Event) → Contains new b → b.id.seq ≡ j → Contains log b
-      old b c at = elim (Contains-push_cases log e b c) [
-        | inl c ↦ c
-        | inr is ↦ (let same : e.id.seq ≡ b.id.seq = ap (λ (y : Event). y.id.seq) is in absurd (omega arith))
-      ]
+      old b c at = grind (arith, common_steps)
 
   -- the rows with that of the new event
   pub rows-push : (rows : List (List ℕ)) (r : List ℕ) → length rows ≡ length log → RowsMean h rows →
@@ -369,16 +342,7 @@ module _ (h : Hart) (e : Event) (f : Fits h e) where
       where
         to : IsReached rows listed s ⊎ (s ≡ e.id.seq) → IsBefore (hart_with h e) s e.id.seq
         to (inl r) = row-leads s r
-        to (inr is) = record {
-          a = e;
-          b = e;
-          a_of_hart = Contains-push log e;
-          b_of_hart = Contains-push log e;
-          a_at = sym is;
-          b_at = refl;
-          memory = memory;
-          leads = inl refl;
-        }
+        to (inr is) = search (Contains-push, rules)
 
         from : IsBefore (hart_with h e) s e.id.seq → IsReached rows listed s ⊎ (s ≡ e.id.seq)
         from x = go x.leads

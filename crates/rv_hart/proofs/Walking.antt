@@ -2,7 +2,7 @@
 use Rattle.std.proofs.Common.{◌≡◌, ◌≢◌, ℕ, suc, ◌<◌, ◌≤◌, Bool, false, IsTrue, ◌||◌, ◌&&◌, ◌==◌, ◌↔◌, List}
 use Rattle.std.proofs.Common.{length, get_or, Contains, Some, None, Option, ◌⊎◌, inl, inr, sym, refl, ap, ◌∙◌}
 use Rattle.std.proofs.Common.{arith, subst, eqb-true, eq-eqb}
-use Rattle.std.proofs.lemmas.Bool.{or_cases, or_left, or_right, and_parts, and_from, false≢true, cases_order}
+use Rattle.std.proofs.lemmas.Bool.{or_cases, or_left, or_right, false≢true, cases_order}
 use Rattle.std.proofs.lemmas.List.Elements.{All-contains}
 use Rattle.rv_event.proofs.Growing.{All-from_contains}
 use Rattle.rv_event.specs.Operations.{is_load, is_store, IsLoad, IsStore, IsMemory}
@@ -16,7 +16,9 @@ use Rattle.rv_hart.specs.Rows.{IsOrderedBy, IsGenerated}
 use Rattle.rv_hart.specs.RuleRows.{RuleRowIs, IsOverlapRow}
 use Rattle.rv_hart.specs.Sets.{HasEvent}
 use Rattle.std.proofs.lemmas.List.{get_or_default}
-use Rattle.rv_hart.specs.Words.{IsOfWord, IsAbove, NamesOfWord, IsLastBelow, IsBeforeRun, IsWordLink, AreWords, link_at}
+use Rattle.std.proofs.Common.{rules}
+use Rattle.std.proofs.lemmas.Grind.{common_steps}
+use Rattle.rv_hart.specs.Words.{IsOfWord, IsAbove, NamesOfWord, IsLastBelow, IsBeforeRun, IsWordLink, AreWords}
 use Rattle.rv_hart.specs.declared.words.WordLink.{WordLink}
 use Rattle.rv_hart.specs.declared.words.Words.{Words}
 use Rattle.rv_hart.proofs.Conditions.{overlapping_store_out, different_reads_out}
@@ -51,11 +53,7 @@ module _ (h : Hart) (e : Event) (f : Fits h e) (memory : IsMemory e) where
   -- before the first operation of the word is met
   pub overlap-begin : (row : List ℕ) (o : Option ℕ) → ((s : ℕ) → has_bit row s ≡ false) →
       IsLastBelow h.events e.word (length h.events) o → IsOverlapWalk h e o row
-  overlap-begin row o none last = record {
-    names = last.names;
-    sound = λ s x. absurd (false≢true (sym (none s) ∙ x));
-    seen = λ m c w above. absurd (last.none_later m c w above (f.known.below m c));
-  }
+  overlap-begin row o none last = search (false≢true, rules)
 
   -- no other event is a store
   pub overlap-none : (row : List ℕ) → ((s : ℕ) → has_bit row s ≡ false) → (IsStore e → ⊥) → IsOverlapRow h e row
@@ -136,13 +134,7 @@ module _ (h : Hart) (e : Event) (f : Fits h e) (memory : IsMemory e) where
 
         go : (b : Event) → Contains h.events b → Rule h.model (followed h e) 1 b e → b.word ≡ e.word → (b.id.seq ≡ p) ⊎
             ((b.id.seq < p) ⊎ (p < b.id.seq)) → IsGenerated h row' b
-        go b cb r word (inl same) = record {
-          c = b;
-          of_hart = cb;
-          leads = inl refl;
-          has = subst (Has row') (sym same)
-              (here p row row' more);
-        }
+        go b cb r word (inl same) = search (here, rules)
         go b cb r word (inr (inl low)) = record {
           c = a;
           of_hart = ca;
@@ -160,29 +152,11 @@ module _ (h : Hart) (e : Event) (f : Fits h e) (memory : IsMemory e) where
           has = has;
         }
         go b cb r word (inr (inr high)) =
-            record {
-              c = b;
-              of_hart = cb;
-              leads = inl refl;
-              has = kept p row row' more b.id.seq
-                  (walk.seen b cb (r.from_memory, word) high);
-            }
+            search (kept, rules)
 
     -- the end at the first operation
     pub overlap-end : (row : List ℕ) → IsOverlapWalk h e None row → IsOverlapRow h e row
-    overlap-end row walk = record {
-      sound = walk.sound;
-      enough = λ b r. (let cb = rule-old h e f 1 b r in
-          record {
-            c = b;
-            of_hart = cb;
-            leads = inl refl;
-            has = walk.seen b cb (
-              r.from_memory,
-              (overlapping_store_out h.model (followed h e) b e r.condition).word,
-            ) tt;
-          });
-    }
+    overlap-end row walk = grind (arith, common_steps, rule-old, overlapping_store_out)
 
 -- ---- rule 2: above the walk's place is no store, and the loads that returned another version are in the row
 pub record IsReadsWalk (h : Hart) (e : Event) (next : Option ℕ) (row : List ℕ) : Type 0 where
@@ -203,12 +177,7 @@ module _ (h : Hart) (e : Event) (f : Fits h e) (memory : IsMemory e) where
   -- likewise for loads
   pub reads-begin : (row : List ℕ) (o : Option ℕ) → ((s : ℕ) → has_bit row s ≡ false) →
       IsLastBelow h.events e.word (length h.events) o → IsReadsWalk h e o row
-  reads-begin row o none last = record {
-    names = last.names;
-    sound = λ s x. absurd (false≢true (sym (none s) ∙ x));
-    plain = λ m c w above store. last.none_later m c w above (f.known.below m c);
-    seen = λ m c w above load other. absurd (last.none_later m c w above (f.known.below m c));
-  }
+  reads-begin row o none last = search (false≢true, rules)
 
   -- an event that is no load has no row of rule 2
   pub reads-none : (row : List ℕ) → ((s : ℕ) → has_bit row s ≡ false) → (IsLoad e → ⊥) → RuleRowIs h e 2 row
@@ -256,8 +225,7 @@ module _ (h : Hart) (e : Event) (f : Fits h e) (memory : IsMemory e) where
         ((m : Event) → Contains h.events m → IsOfWord a.word m → IsAbove o m.id.seq → m.id.seq < a.id.seq →
         (IsStore m → ⊥) × (m.read ≡ e.read)) → IsReadsWalk h e o row'
     reads-on o none names skipped = record {
-      names = names-low h.events e.word a.id.seq (length h.events) o (let low = f.known.below a ca in omega arith)
-          (subst (λ (w : ℕ). NamesOfWord h.events w a.id.seq o) of_word.1 names);
+      names = grind (arith, common_steps, names-low, of_word);
       sound = sound';
       plain = λ m c w above store. at_plain m c w above store (cases_order m.id.seq p);
       seen = λ m c w above l other. at_seen m c w above l other (cases_order m.id.seq p);
@@ -329,32 +297,15 @@ module _ (h : Hart) (e : Event) (f : Fits h e) (memory : IsMemory e) where
 pub met-if : (h : Hart) (e a : Event) (test : Bool) (p : ℕ) (row row' : List ℕ) → a.id.seq ≡ p → IsTrue test ↔
     (IsLoad a × (a.read ≢ e.read)) → ((s : ℕ) → has_bit row' s ≡ (has_bit row s || (test && (p == s)))) →
     IsMet h e a row row'
-met-if h e a test p row row' at decides more = record {
-  kept = λ s x. more s ∙ or_left (has_bit row s) (test && (p == s)) x;
-  here = λ l o. more a.id.seq ∙ or_right (has_bit row a.id.seq) (test && (p == a.id.seq))
-      (and_from test (p == a.id.seq) (decides.1 (l, o)) (eq-eqb p a.id.seq (sym at)));
-  only = λ s x. elim (or_cases (has_bit row s) (test && (p == s)) (sym (more s) ∙ x)) [
-    | inl y ↦ inl y
-    | inr y ↦ (let q = and_parts test (p == s) y in let d = decides.0 q.0 in inr (at ∙ eqb-true p s q.1, d.0, d.1))
-  ];
-}
+met-if h e a test p row row' at decides more = grind (arith, common_steps)
 
 -- the link that is read at an operation's number is its link
 pub read_link : (events : List Event) (words : Words) → AreWords events words → (a : Event) (l : WordLink) (n : ℕ) →
     Contains events a → IsMemory a → a.id.seq < length events → a.id.seq ≡ n → l ≡ get_or words.links.items n l →
     IsWordLink events a l
-read_link events words are a l n ca memory low at read =
-    let within : n < length words.links.items = let count = are.count in omega arith in
-    let same : link_at words.links.items a.id.seq ≡ l = ap (λ (k : ℕ). link_at words.links.items k) at ∙
-    get_or_default words.links.items n (record { previous = None; before_run = None; highest = None }) l within
-    ∙ sym read in
-    subst (IsWordLink events a) same (are.links a ca memory)
+read_link events words are a l n ca memory low at read = search (get_or_default, rules)
 
 -- a name of a word is a place of the list
 pub named-low : (h : Hart) → Known h → (word limit p : ℕ) → NamesOfWord h.events word limit (Some p) →
     (p < length h.events) × (p < 4096)
-named-low h known word limit p names =
-    let low = known.below names.1.a names.1.of_list in
-    let few = known.few in
-    let at = names.1.at in
-    (omega arith, omega arith)
+named-low h known word limit p names = grind (arith, common_steps)

@@ -5,8 +5,10 @@ use Rattle.std.proofs.Common.{arith, subst}
 use Rattle.std.proofs.lemmas.Bool.{cases_order, cases_eq, or_right}
 use Rattle.std.specs.HashMap.{get}
 use Rattle.std.proofs.lemmas.Option.{same_Some, slice_get-get_or}
-use Rattle.std.proofs.lemmas.List.{length_push, get_or_append_left, get_or_at, get_or_default}
+use Rattle.std.proofs.lemmas.List.{length_push, get_or_append_left, get_or_at}
 use Rattle.std.proofs.lemmas.List.Elements.{Contains-push_cases, Contains-push, Contains-append_left}
+use Rattle.std.proofs.Common.{rules}
+use Rattle.std.proofs.lemmas.Grind.{common_steps}
 use Rattle.rv_event.specs.Operations.{is_load, is_store, IsMemory, IsStore}
 use Rattle.rv_event.specs.declared.event.Event.{Event}
 use Rattle.rv_hart.specs.Words.{AreNumbered, IsOfWord, NamesOfWord, IsLastBelow}
@@ -17,40 +19,24 @@ use Rattle.rv_hart.specs.declared.words.Words.{Words}
 -- an event of a numbered list has a number below the list's length
 pub numbered-below : (events : List Event) → AreNumbered events → (a : Event) → Contains events a →
     a.id.seq < length events
-numbered-below events numbered a (k, low, is) =
-    let at : (get_or events k a).id.seq ≡ k = numbered k a low in
-    let same : (get_or events k a).id.seq ≡ a.id.seq = ap (λ (x : Event). x.id.seq) is in
-    omega arith
+numbered-below events numbered a (k, low, is) = grind (arith, common_steps)
 
 -- an event stands at its number
 pub numbered-at : (events : List Event) → AreNumbered events → (a d : Event) → Contains events a →
     get_or events a.id.seq d ≡ a
-numbered-at events numbered a d (k, low, is) =
-    let at : (get_or events k a).id.seq ≡ k = numbered k a low in
-    let same : a.id.seq ≡ k = ap (λ (x : Event). x.id.seq) (sym is) ∙ at in
-    ap (λ (n : ℕ). get_or events n d) same ∙ get_or_default events k d a low ∙ is
+numbered-at events numbered a d (k, low, is) = grind (arith, common_steps)
 
 -- events with one number are one
 pub numbered-same : (events : List Event) → AreNumbered events → (a b : Event) → Contains events a → Contains events b →
     a.id.seq ≡ b.id.seq → a ≡ b
-numbered-same events numbered a b ca cb same =
-    sym (numbered-at events numbered a a ca) ∙ ap (λ (n : ℕ). get_or events n a) same ∙
-    numbered-at events numbered b a cb
+numbered-same events numbered a b ca cb same = search (numbered-at, rules)
 
 -- a name holds on under a higher limit
 names-weaker : (events more : List Event) (word limit limit' : ℕ) (o : Option ℕ) →
     ((a : Event) → Contains events a → Contains more a) → limit ≤ limit' → NamesOfWord events word limit o →
     NamesOfWord more word limit' o
 names-weaker events more word limit limit' None grows le names = tt
-names-weaker events more word limit limit' (Some p) grows le names = (
-  let low = names.0 in omega arith,
-  record {
-    a = names.1.a;
-    of_list = grows names.1.a names.1.of_list;
-    at = names.1.at;
-    holds = names.1.holds;
-  },
-)
+names-weaker events more word limit limit' (Some p) grows le names = grind (arith, common_steps)
 
 -- what is named of another number's event
 names-word : (events : List Event) (word word' limit : ℕ) (o : Option ℕ) → word ≡ word' →
@@ -93,82 +79,23 @@ module _ (events : List Event) (numbered : AreNumbered events) (word p : ℕ) (a
     | inl is ↦ none (subst IsStore (sym is) s)
     | inr under ↦ before m c s (w ∙ sym last-word) under
   ]
-  highest-before (Some q) none before = (
-    (let low = before.0 in let within = numbered-below events numbered a ca in omega arith),
-    record {
-      a = before.1.a;
-      of_list = before.1.of_list;
-      at = before.1.at;
-      holds = (
-        before.1.holds.0,
-        before.1.holds.1 ∙ last-word,
-        λ m c s w low. elim (by-place m c s w) [
-          | inl is ↦ absurd (none (subst IsStore (sym is) s))
-          | inr under ↦ before.1.holds.2 m c s (w ∙ sym last-word) under
-        ],
-      );
-    },
-  )
+  highest-before (Some q) none before =
+      grind (arith, common_steps, numbered-below, last-word, by-place)
 
   -- it is the first store
   pub highest-first : IsStore a → IsHighestStore events a.word a.id.seq None →
       IsHighestStore events word (length events) (Some p)
-  highest-first store before = (
-    last.names.0,
-    record {
-      a = a;
-      of_list = ca;
-      at = at;
-      holds = (
-        store,
-        last-word,
-        λ m c s w low. elim (by-place m c s w) [
-          | inl is ↦ (let same : a.wrote ≡ m.wrote = ap (λ (x : Event). x.wrote) is in omega arith)
-          | inr under ↦ absurd (before m c s (w ∙ sym last-word) under)
-        ],
-      );
-    },
-  )
+  highest-first store before = grind (arith, common_steps, last-word, by-place)
 
   -- it is a store of a higher version
   pub highest-here : IsStore a → (q : ℕ) (b : IsHighestStore events a.word a.id.seq (Some q)) → b.1.a.wrote < a.wrote →
       IsHighestStore events word (length events) (Some p)
-  highest-here store q b higher = (
-    last.names.0,
-    record {
-      a = a;
-      of_list = ca;
-      at = at;
-      holds = (
-        store,
-        last-word,
-        λ m c s w low. elim (by-place m c s w) [
-          | inl is ↦ (let same : a.wrote ≡ m.wrote = ap (λ (x : Event). x.wrote) is in omega arith)
-          | inr under ↦ (let le = b.1.holds.2 m c s (w ∙ sym last-word) under in omega arith)
-        ],
-      );
-    },
-  )
+  highest-here store q b higher = grind (arith, common_steps, last-word, by-place)
 
   -- or of a lower one
   pub highest-there : (q : ℕ) (b : IsHighestStore events a.word a.id.seq (Some q)) → a.wrote ≤ b.1.a.wrote →
       IsHighestStore events word (length events) (Some q)
-  highest-there q b lower = (
-    (let low = b.0 in let within = numbered-below events numbered a ca in omega arith),
-    record {
-      a = b.1.a;
-      of_list = b.1.of_list;
-      at = b.1.at;
-      holds = (
-        b.1.holds.0,
-        b.1.holds.1 ∙ last-word,
-        λ m c s w low. elim (by-place m c s w) [
-          | inl is ↦ (let same : a.wrote ≡ m.wrote = ap (λ (x : Event). x.wrote) is in omega arith)
-          | inr under ↦ b.1.holds.2 m c s (w ∙ sym last-word) under
-        ],
-      );
-    },
-  )
+  highest-there q b lower = grind (arith, common_steps, numbered-below, last-word, by-place)
 
 -- ---- one more event
 module _ (events : List Event) (e : Event) (numbered : AreNumbered events) (next : e.id.seq ≡ length events) where
@@ -183,24 +110,12 @@ module _ (events : List Event) (e : Event) (numbered : AreNumbered events) (next
 
   -- an event below the new one is an old one
   settled : (m : Event) → Contains more m → m.id.seq < e.id.seq → Contains events m
-  settled m c low = elim (Contains-push_cases events e m c) [
-    | inl old ↦ old
-    | inr is ↦ (let same : e.id.seq ≡ m.id.seq = ap (λ (x : Event). x.id.seq) is in absurd (omega arith))
-  ]
+  settled m c low = grind (arith, common_steps)
 
   names-less : (word limit : ℕ) (o : Option ℕ) → limit ≤ e.id.seq → NamesOfWord more word limit o →
       NamesOfWord events word limit o
   names-less word limit None le names = tt
-  names-less word limit (Some p) le names = (
-    names.0,
-    record {
-      a = names.1.a;
-      of_list = settled names.1.a names.1.of_list
-          (let low = names.0 in let at = names.1.at in omega arith);
-      at = names.1.at;
-      holds = names.1.holds;
-    },
-  )
+  names-less word limit (Some p) le names = grind (arith, common_steps)
 
   last-grows : (word limit : ℕ) (o : Option ℕ) → limit ≤ e.id.seq → IsLastBelow events word limit o →
       IsLastBelow more word limit o
@@ -211,38 +126,17 @@ module _ (events : List Event) (e : Event) (numbered : AreNumbered events) (next
 
   last-settled : (word limit : ℕ) (o : Option ℕ) → limit ≤ e.id.seq → IsLastBelow more word limit o →
       IsLastBelow events word limit o
-  last-settled word limit o le last = record {
-    names = names-less word limit o le last.names;
-    none_later = λ m c w above low. last.none_later m (old m c) w above low;
-  }
+  last-settled word limit o le last = grind (arith, common_steps)
 
   highest-grows : (word limit : ℕ) (o : Option ℕ) → limit ≤ e.id.seq → IsHighestStore events word limit o →
       IsHighestStore more word limit o
   highest-grows word limit None le none = λ m c s w low. none m (settled m c (omega arith)) s w low
-  highest-grows word limit (Some p) le has = (
-    has.0,
-    record {
-      a = has.1.a;
-      of_list = old has.1.a has.1.of_list;
-      at = has.1.at;
-      holds = (has.1.holds.0, has.1.holds.1, λ m c s w low. has.1.holds.2 m (settled m c (omega arith)) s w low);
-    },
-  )
+  highest-grows word limit (Some p) le has = grind (arith, common_steps)
 
   highest-settled : (word limit : ℕ) (o : Option ℕ) → limit ≤ e.id.seq → IsHighestStore more word limit o →
       IsHighestStore events word limit o
   highest-settled word limit None le none = λ m c s w low. none m (old m c) s w low
-  highest-settled word limit (Some p) le has = (
-    has.0,
-    record {
-      a = has.1.a;
-      of_list = settled has.1.a has.1.of_list (let low = has.0 in let at = has.1.at in
-          omega arith);
-      at = has.1.at;
-      holds =
-          (has.1.holds.0, has.1.holds.1, λ m c s w low. has.1.holds.2 m (old m c) s w low);
-    },
-  )
+  highest-settled word limit (Some p) le has = grind (arith, common_steps, settled, old)
 
   -- a link stays when an event is added
   pub link-grows : (a : Event) (l : WordLink) → a.id.seq ≤ e.id.seq → IsWordLink events a l → IsWordLink more a l
@@ -258,55 +152,22 @@ module _ (events : List Event) (e : Event) (numbered : AreNumbered events) (next
   link-settled : (a : Event) (l : WordLink) → a.id.seq ≤ e.id.seq → IsWordLink more a l → IsWordLink events a l
   link-settled a l le link = record {
     previous = last-settled a.word a.id.seq l.previous le link.previous;
-    before_run = record {
-      names = names-less a.word a.id.seq l.before_run le link.before_run.names;
-      run = λ m c w above low. link.before_run.run m (old m c) w above low;
-    };
+    before_run = grind (arith, common_steps);
     highest = highest-settled a.word a.id.seq l.highest le link.highest;
   }
 
   -- the new event is the last of its word
   last-new : IsMemory e → IsLastBelow more e.word (length more) (Some e.id.seq)
-  last-new memory = record {
-    names = (
-      omega (arith, grown),
-      record {
-        a = e;
-        of_list = Contains-push events e;
-        at = refl;
-        holds = (memory, refl);
-      },
-    );
-    none_later = λ m c w above low. omega (arith, grown);
-  }
+  last-new memory = grind (arith, common_steps, grown, Contains-push)
 
   -- and of no other
   last-other : (word : ℕ) (o : Option ℕ) → (IsOfWord word e → ⊥) → IsLastBelow events word (length events) o →
       IsLastBelow more word (length more) o
-  last-other word o other last = record {
-    names = names-weaker events more word (length events) (length more) o old (omega (arith, grown)) last.names;
-    none_later = λ m c w above low. elim (Contains-push_cases events e m c) [
-      | inl c ↦ last.none_later m c w above (numbered-below events numbered m c)
-      | inr is ↦ other (subst (IsOfWord word) (sym is) w)
-    ];
-  }
+  last-other word o other last = grind (arith, common_steps)
 
   last-other-settled : (word : ℕ) (o : Option ℕ) → (IsOfWord word e → ⊥) → IsLastBelow more word (length more) o →
       IsLastBelow events word (length events) o
-  last-other-settled word o other last = record {
-    names = go o last.names;
-    none_later = λ m c w above low. last.none_later m (old m c) w above (omega (arith, grown));
-  }
-    where
-      go : (o : Option ℕ) → NamesOfWord more word (length more) o → NamesOfWord events word (length events) o
-      go None names = tt
-      go (Some p) names = elim (Contains-push_cases events e names.1.a names.1.of_list) [
-        | inl c ↦ (
-          let low = numbered-below events numbered names.1.a c in let at = names.1.at in omega arith,
-          record { a = names.1.a; of_list = c; at = names.1.at; holds = names.1.holds },
-        )
-        | inr is ↦ absurd (other (subst (IsOfWord word) (sym is) names.1.holds))
-      ]
+  last-other-settled word o other last = grind (arith, common_steps)
 
   -- the words with one event more
   pub words-push : (words words' : Words) (link : WordLink) → AreWords events words →
@@ -319,21 +180,17 @@ module _ (events : List Event) (e : Event) (numbered : AreNumbered events) (next
           | inl c ↦ (
               let low = numbered-below events numbered a c in
               let at : link_at (words.links.items ++ link ∷ []) a.id.seq ≡ link_at words.links.items a.id.seq =
-              get_or_append_left words.links.items (link ∷ [])
-              (record { previous = None; before_run = None; highest = None }) a.id.seq
-              (let n = are.count in omega arith) in
+              grind (arith, common_steps) in
               subst (IsWordLink more a) (sym at)
               (link-grows a (link_at words.links.items a.id.seq) (omega arith) (are.links a c memory)))
           | inr same ↦ (
               let at : link_at (words.links.items ++ link ∷ []) a.id.seq ≡ link =
-              get_or_at words.links.items link [] (record { previous = None; before_run = None; highest = None })
-              a.id.seq (are.count ∙ sym next ∙ ap (λ (x : Event). x.id.seq) same) in
+              grind (arith, common_steps) in
               let mine : IsMemory e = subst IsMemory (sym same) memory in
               subst (IsWordLink more a) (sym at)
               (subst (λ (x : Event). IsWordLink more x link) same (link-grows e link (omega arith) (new mine))))
         ]);
-    count = ap (λ (ls : List WordLink). length ls) is ∙
-        omega (arith, grown, length_push words.links.items link, are.count);
+    count = grind (arith, common_steps);
   }
 
   -- and with one less
@@ -353,13 +210,7 @@ module _ (events : List Event) (e : Event) (numbered : AreNumbered events) (next
   }
     where
       counted : length words'.links.items ≡ length events
-      counted = omega (
-        arith,
-        grown,
-        are.count,
-        ap (λ (ls : List WordLink). length ls) is,
-        length_push words'.links.items link,
-      )
+      counted = grind (arith, common_steps)
 
   -- the link that is taken off leads to the word's last operation before it
   pub pop-here : (words words' : Words) (link : WordLink) → AreWords more words →
@@ -367,16 +218,8 @@ module _ (events : List Event) (e : Event) (numbered : AreNumbered events) (next
       IsLastBelow events e.word (length events) link.previous
   pop-here words words' link are is memory =
       let counted : length words'.links.items ≡ e.id.seq =
-      omega (
-        arith,
-        grown,
-        are.count,
-        ap (λ (ls : List WordLink). length ls) is,
-        length_push words'.links.items link,
-      ) in
-      let at : link_at words.links.items e.id.seq ≡ link = ap (λ (ls : List WordLink). link_at ls e.id.seq) is ∙
-      get_or_at words'.links.items link [] (record { previous = None; before_run = None; highest = None })
-      e.id.seq counted in
+      grind (arith, common_steps) in
+      let at : link_at words.links.items e.id.seq ≡ link = grind (arith, common_steps) in
       let linked : IsWordLink more e link =
       subst (IsWordLink more e) at (are.links e (Contains-push events e) memory) in
       subst (λ (n : ℕ). IsLastBelow events e.word n link.previous) next

@@ -30,9 +30,7 @@ loop-link-preserved c =
     elim c.match-link.branch [
       | in-Preserved w ↦ (
           let more : IsJoined rows (take (i + 1) links) old w.join_into.new.row =
-          joined-more rows links i l c.loop-link-test.true at old c.loop-link.row c.loop-link.invariant
-          w.in-Preserved.field-0 w.in-Preserved.is w.join_into.new.row
-          w.join_into.ensures in
+          search (joined-more, in-Preserved) in
           subst (IsJoined rows (take (i + 1) links) old) (sym w.row-is) more)
       | in_default w ↦ subst (IsJoined rows (take (i + 1) links) old) (sym w.row-is)
           (joined-same rows links i l c.loop-link-test.true at old c.loop-link.row c.loop-link.invariant

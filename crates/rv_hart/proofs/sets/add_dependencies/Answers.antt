@@ -1,6 +1,7 @@
 use Rattle.std.proofs.Common.{◌≡◌, ◌+◌, take, sym, ◌∙◌, ◌||◌, IsTrue, subst, List, ℕ, rules, tests, get_or}
 use Rattle.std.proofs.lemmas.List.{take_all, get_or_default}
-use Rattle.std.proofs.lemmas.Bool.{false≢true}
+use Rattle.std.proofs.Common.{arith}
+use Rattle.std.proofs.lemmas.Grind.{common_steps}
 use Rattle.rv_event.specs.declared.event.Dep.{Dep}
 use Rattle.rv_event.specs.declared.event.DepKind.TheVariants.{Addr}
 use Rattle.rv_rows.specs.Bits.{has_bit}
@@ -27,16 +28,11 @@ loop-dep-preserved c =
           let memory : IsTrue (has_bit loads d.seq || has_bit stores d.seq) =
           sym w.has_either.ensures ∙ w.if-has_either.true in
           let more : AddsNamed kind loads stores (take (i + 1) items) old w.insert.new.self =
-          named-more kind loads stores items i d c.loop-dep-test.true is old c.loop-dep.row so
-          w.insert.new.self same memory w.insert.ensures in
+          search (named-more, rules) in
           subst (λ (row : List ℕ). AddsNamed kind loads stores (take (i + 1) items) old row) (sym w.row-is) more)
       | else-eq w ↦ (
           let apart : (d.kind ≡ kind) × IsTrue (has_bit loads d.seq || has_bit stores d.seq) → ⊥ =
-          elim w.else-eq.branch [
-            | else-eq-via-then-eq+else-has_either w' ↦ (λ p. false≢true
-                (sym w'.if-has_either.false ∙ w'.has_either.ensures ∙ p.1))
-            | else-eq-via-else-eq w' ↦ (λ p. search (rules, tests))
-          ] in
+          grind (arith, common_steps) in
           subst (λ (row : List ℕ). AddsNamed kind loads stores (take (i + 1) items) old row) (sym w.row-is)
           (named-same kind loads stores items i d c.loop-dep-test.true is old c.loop-dep.row so apart))
     ]

@@ -1,5 +1,7 @@
 use Rattle.std.proofs.Common.{◌≡◌, ◌<◌, ◌+◌, ◌∷◌, ◌++◌, [], List, ℕ, length, take, get_or, refl, sym, ap, ◌∙◌, subst}
-use Rattle.std.proofs.lemmas.List.{take_more, take_all}
+use Rattle.std.proofs.lemmas.List.{take_all}
+use Rattle.std.proofs.Common.{arith}
+use Rattle.std.proofs.lemmas.Grind.{common_steps}
 use Rattle.rv_event.specs.declared.event.Event.{Event}
 use Rattle.rv_hart.specs.Harts.{IsHart, Follows}
 use Rattle.rv_hart.specs.Sets.{AreSets}
@@ -21,8 +23,7 @@ loop-event-preserved c = λ h ok model is.
     subst (λ (xs : List Event). IsHart (record h { events = xs })) taken (hart-first h ok i) in
     let follows : Follows (record h { events = take i es }) e =
     subst (λ (xs : List Event). Follows (record h { events = xs }) e) taken (hart-take h ok i e low read) in
-    let more : take (i + 1) es ≡ take i es ++ e ∷ [] = take_more es i e c.loop-event-test.true ∙
-    ap (λ (x : Event). take i es ++ x ∷ []) (sym c.event-item.is) in
+    let more : take (i + 1) es ≡ take i es ++ e ∷ [] = grind (arith, common_steps) in
     let sets = c.absorb.ensures (record h { events = take i es }) first follows model
     (c.loop-event.invariant h ok model is) in
     subst (λ (xs : List Event). AreSets (record h { events = xs }) c.absorb.new.self) (sym more) sets

@@ -1,5 +1,6 @@
 -- Each part adds its events.
 use Rattle.std.proofs.Common.{◌<◌, ◌≤◌, length, sym, ◌∙◌, subst, arith}
+use Rattle.std.proofs.lemmas.Grind.{common_steps}
 use Rattle.rv_event.specs.Operations.{IsMemory}
 use Rattle.rv_event.specs.Relations.{DependsOn}
 use Rattle.rv_hart.specs.Parts.{IsIn, IsOfPart, IsUnder}
@@ -65,11 +66,7 @@ returns-in-Named c =
     c.add_dependencies.new.row are.loads are.stores c.add_dependencies.ensures)
 
 pub index-store-requires : goal.index-store-requires
-index-store-requires c =
-    let h : Hart = hart_of c.args.self.now in
-    let e : Event = c.args.event.now in
-    let low : c.in-NamedBy.number < length h.events = rw c.in-NamedBy.is at c.requires.names in
-    omega (arith, c.args.self.now.events.ok.0)
+index-store-requires c = grind (arith, common_steps)
 
 pub add_dependencies-requires-in-NamedBy : goal.add_dependencies-requires-in-NamedBy
 add_dependencies-requires-in-NamedBy c =

@@ -1,4 +1,5 @@
 use Rattle.std.proofs.Common.{◌≡◌, List, ℕ, Some, None, length, sym, subst, arith}
+use Rattle.std.proofs.Common.{rules}
 use Rattle.rv_event.specs.declared.event.Event.{Event}
 use Rattle.rv_rows.specs.Closure.{IsTaken}
 use Rattle.rv_hart.specs.Harts.{Hart}
@@ -13,13 +14,7 @@ taken-init c =
     let e : Event = c.args.event.now in
     let rows : List (List ℕ) = c.args.self.now.rows in
     let first : List ℕ = c.fill_candidates.new.row in
-    let g : Sweeping h e rows first = record {
-      fits = fits_of h e c.requires.asked.kept.hart c.requires.asked.follows;
-      memory = c.requires.asked.memory;
-      mean = c.requires.asked.kept.rows;
-      count = c.requires.asked.kept.count;
-      enough = c.fill_candidates.ensures;
-    } in
+    let g : Sweeping h e rows first = search (fits_of, rules) in
     let top : length rows ≡ c.len-top.result = sym c.len-top.ensures in
     subst (λ (n : ℕ). IsGathering rows first first n c.insert.new.self c.insert.new.self) top
     (gathering-begun h e rows first g c.insert.new.self)
@@ -30,13 +25,7 @@ take_highest-requires-clause-few c =
     let e : Event = c.args.event.now in
     let rows : List (List ℕ) = c.args.self.now.rows in
     let first : List ℕ = c.fill_candidates.new.row in
-    let g : Sweeping h e rows first = record {
-      fits = fits_of h e c.requires.asked.kept.hart c.requires.asked.follows;
-      memory = c.requires.asked.memory;
-      mean = c.requires.asked.kept.rows;
-      count = c.requires.asked.kept.count;
-      enough = c.fill_candidates.ensures;
-    } in
+    let g : Sweeping h e rows first = search (fits_of, rules) in
     rows-few h e rows first g
 
 pub take_highest-requires-clause-limit : goal.take_highest-requires-clause-limit
@@ -51,13 +40,7 @@ taken-preserved c =
     let e : Event = c.args.event.now in
     let rows : List (List ℕ) = c.args.self.now.rows in
     let first : List ℕ = c.fill_candidates.new.row in
-    let g : Sweeping h e rows first = record {
-      fits = fits_of h e c.requires.asked.kept.hart c.requires.asked.follows;
-      memory = c.requires.asked.memory;
-      mean = c.requires.asked.kept.rows;
-      count = c.requires.asked.kept.count;
-      enough = c.fill_candidates.ensures;
-    } in
+    let g : Sweeping h e rows first = search (fits_of, rules) in
     let is : IsTaken rows c.taken.left (Some c.in-Some.number) c.take_highest.new.candidates =
     rw c.in-Some.is at c.take_highest.ensures in
     gathering-more h e rows first g c.taken.left c.take_highest.new.candidates c.taken.top c.in-Some.number
@@ -70,13 +53,7 @@ returns c =
     let e : Event = c.args.event.now in
     let rows : List (List ℕ) = c.args.self.now.rows in
     let first : List ℕ = c.fill_candidates.new.row in
-    let g : Sweeping h e rows first = record {
-      fits = fits_of h e c.requires.asked.kept.hart c.requires.asked.follows;
-      memory = c.requires.asked.memory;
-      mean = c.requires.asked.kept.rows;
-      count = c.requires.asked.kept.count;
-      enough = c.fill_candidates.ensures;
-    } in
+    let g : Sweeping h e rows first = search (fits_of, rules) in
     let is : IsTaken rows c.taken.left None c.take_highest.new.candidates =
     rw c.in_default.is at c.take_highest.ensures in
     gathering-done h e rows first g c.taken.left c.take_highest.new.candidates c.taken.top c.args.row.now

@@ -1,8 +1,9 @@
 use Rattle.std.proofs.Common.{◌≡◌, ◌<◌, ◌⊎◌, ◌↔◌, IsTrue, length, sym, ap, ◌∙◌, subst, arith}
+use Rattle.std.proofs.lemmas.Grind.{common_steps}
 use Rattle.rv_event.specs.declared.event.Op.TheVariants.{Amo, Sc}
 use Rattle.rv_hart.specs.Harts.{IsOwnStore, IsReturned}
 use Rattle.rv_hart.specs.declared.parts.Part.TheVariants.{One}
-use Rattle.rv_hart.proofs.Knowing.{read_is, same_event}
+use Rattle.rv_hart.proofs.Knowing.{same_event}
 use Rattle.rv_hart.proofs.Ruling.{atomic-is, atomic-none}
 use Rattle.rv_hart.proofs.TableParts.{tested}
 use Rattle.rv_event.specs.declared.event.Event.{Event}
@@ -30,8 +31,7 @@ returns-in-Some c =
     let own : (w : Event) × IsOwnStore h e w × (w.id.seq ≡ c.in-Some.store) =
     subst (IsReturned h e) c.in-Some.is c.requires.returned in
     let w : Event = own.0 in
-    let same : c.index.result.now ≡ w = read_is h f.known w c.index.result.now c.in-Some.store own.1.of_hart own.2
-    c.index.ensures in
+    let same : c.index.result.now ≡ w = grind (arith, common_steps) in
     let test : IsTrue c.is_atomic.result ↔ ((w.op ≡ Amo) ⊎ (w.op ≡ Sc)) =
     subst (λ (x : Event). IsTrue c.is_atomic.result ↔ ((x.op ≡ Amo) ⊎ (x.op ≡ Sc))) same c.is_atomic.ensures in
     let low : w.id.seq < length h.events = f.known.below w own.1.of_hart in

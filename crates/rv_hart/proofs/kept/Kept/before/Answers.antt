@@ -1,21 +1,18 @@
-use Rattle.std.proofs.Common.{◌≡◌, List, ℕ, Some, None, length, sym, ◌∙◌, subst}
-use Rattle.std.proofs.lemmas.Bool.{false≢true}
+use Rattle.std.proofs.Common.{◌≡◌, List, ℕ, Some, None, length, sym, subst}
+use Rattle.std.proofs.Common.{arith}
+use Rattle.std.proofs.lemmas.Grind.{common_steps}
+use Rattle.std.proofs.Common.{rules}
 use Rattle.rv_event.specs.declared.event.Event.{Event}
 use Rattle.rv_rows.specs.Closure.{IsTaken}
 use Rattle.rv_hart.specs.Harts.{Hart}
 use Rattle.rv_hart.specs.Kept.{hart_of}
-use Rattle.rv_hart.proofs.Knowing.{Fits, fits_of}
+use Rattle.rv_hart.proofs.Knowing.{fits_of}
 use Rattle.rv_hart.proofs.Linking.{Sweeping, IsListing, rows-few, listing-begun, listing-candidate}
-use Rattle.rv_hart.proofs.Linking.{listing-more, listing-done, links-nothing}
+use Rattle.rv_hart.proofs.Linking.{listing-more, listing-done}
 use Rattle.rv_hart.proofs.kept.Kept.before.Goals as goal
 
 pub returns-then-not-is_memory : goal.returns-then-not-is_memory
-returns-then-not-is_memory c =
-    let h : Hart = hart_of c.args.self.now in
-    let e : Event = c.args.event.now in
-    let f : Fits h e = fits_of h e c.requires.kept.hart c.requires.follows in
-    links-nothing h e f (λ m. false≢true (sym c.if-not-is_memory.true ∙ c.is_memory.ensures.1 m))
-    c.new-links.result.items c.new-links.ensures.items
+returns-then-not-is_memory c = grind (arith, common_steps)
 
 pub taken-init : goal.taken-init
 taken-init c =
@@ -79,13 +76,7 @@ taken-preserved c =
     let e : Event = c.args.event.now in
     let rows : List (List ℕ) = c.args.self.now.rows in
     let first : List ℕ = c.fill_candidates.new.row in
-    let g : Sweeping h e rows first = record {
-      fits = fits_of h e c.requires.kept.hart c.requires.follows;
-      memory = c.is_memory.ensures.0 c.if-not-is_memory.false;
-      mean = c.requires.kept.rows;
-      count = c.requires.kept.count;
-      enough = c.fill_candidates.ensures;
-    } in
+    let g : Sweeping h e rows first = search (fits_of, rules) in
     let is : IsTaken rows c.taken.left (Some c.in-Some.number) c.take_highest.new.candidates =
     rw c.in-Some.is at c.take_highest.ensures in
     listing-more h e rows first g c.taken.left c.take_highest.new.candidates c.taken.top c.in-Some.number

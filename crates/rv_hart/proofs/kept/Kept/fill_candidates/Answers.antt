@@ -1,7 +1,8 @@
 -- The rules are added one after the other.
 use Rattle.std.proofs.Common.{◌≡◌, ◌+◌, ◌-◌, ℕ, subst, sym, arith}
+use Rattle.std.proofs.lemmas.Grind.{common_steps}
 use Rattle.rv_hart.specs.Parts.{ArePartsFor}
-use Rattle.rv_hart.proofs.Joining.{AreAdded, added-none, added-more, enough-added}
+use Rattle.rv_hart.proofs.Joining.{AreAdded, added-more, enough-added}
 use Rattle.rv_hart.proofs.TableParts.{adds-parts}
 use Rattle.rv_event.specs.declared.event.Event.{Event}
 use Rattle.rv_hart.specs.Harts.{Hart}
@@ -10,12 +11,7 @@ use Rattle.rv_hart.proofs.Knowing.{Fits, fits_of}
 use Rattle.rv_hart.proofs.kept.Kept.fill_candidates.Goals as goal
 
 pub loop-rule-init : goal.loop-rule-init
-loop-rule-init c k is =
-    let h : Hart = hart_of c.args.self.now in
-    let e : Event = c.args.event.now in
-    let one : 1 ≡ k = omega (arith, is) in
-    subst (λ (n : ℕ). AreAdded h e n c.fill_overlapping.new.row c.fill_overlapping.new.row) one
-    (added-none h e c.fill_overlapping.new.row)
+loop-rule-init c k is = grind (arith, common_steps)
 
 pub loop-rule-preserved : goal.loop-rule-preserved
 loop-rule-preserved c k is =

@@ -1,5 +1,6 @@
 use Rattle.std.proofs.Common.{◌≡◌, length, sym, ◌∙◌, subst, ℕ, Option, Some, arith}
 use Rattle.std.proofs.lemmas.Bool.{false≢true}
+use Rattle.std.proofs.lemmas.Grind.{common_steps}
 use Rattle.rv_event.specs.Operations.{IsStore}
 use Rattle.rv_event.specs.declared.event.Event.{Event}
 use Rattle.rv_hart.specs.Harts.{Hart}
@@ -37,17 +38,7 @@ insert-requires c =
     (named-low h f.known e.word (length h.events) c.in-Some.number walk.names).1
 
 pub index-met-requires : goal.index-met-requires
-index-met-requires c =
-    let h : Hart = hart_of c.args.self.now in
-    let e : Event = c.args.event.now in
-    let f : Fits h e = fits_of h e c.requires.asked.kept.hart c.requires.asked.follows in
-    let walk : IsOverlapWalk h e (Some c.in-Some.number) c.met.row =
-    subst (λ (o : Option ℕ). IsOverlapWalk h e o c.met.row) c.in-Some.is c.met.invariant in
-    omega (
-      arith,
-      (named-low h f.known e.word (length h.events) c.in-Some.number walk.names).0,
-      c.args.self.now.events.ok.0,
-    )
+index-met-requires c = grind (arith, common_steps)
 
 pub returns-then-is_store : goal.returns-then-is_store
 returns-then-is_store c =

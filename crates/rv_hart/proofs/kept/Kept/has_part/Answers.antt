@@ -1,6 +1,7 @@
 -- Each part is asked for an operation.
-use Rattle.std.proofs.Common.{◌<◌, ℕ, length, sym, ◌∙◌, subst, arith, eqb-true, eq-eqb}
+use Rattle.std.proofs.Common.{◌<◌, length, sym, ◌∙◌, subst, arith}
 use Rattle.std.proofs.lemmas.Bool.{false≢true}
+use Rattle.std.proofs.lemmas.Grind.{common_steps}
 use Rattle.rv_event.specs.Relations.{DependsOn}
 use Rattle.rv_hart.specs.Parts.{IsIn, IsUnder}
 use Rattle.rv_hart.proofs.Knowing.{number-few, same_event}
@@ -45,22 +46,13 @@ returns-in-In c =
     c.requires.met.of_hart c.set.ensures c.has-in-In.ensures)
 
 pub returns-in-One : goal.returns-in-One
-returns-in-One c =
-    let n : ℕ = c.in-One.number in
-    let at : ℕ = c.args.met.now.id.seq in
-    rw c.in-One.is (λ t. sym (eqb-true n at t), λ p. eq-eqb n at (sym p))
+returns-in-One c = grind (arith, common_steps)
 
 pub returns-in-Named : goal.returns-in-Named
-returns-in-Named c =
-    rw c.in-Named.is
-    (λ t. (c.requires.met.memory, c.depends_on.ensures.0 t), λ p. c.depends_on.ensures.1 p.1)
+returns-in-Named c = grind (arith, common_steps)
 
 pub index-store-requires : goal.index-store-requires
-index-store-requires c =
-    let h : Hart = hart_of c.args.self.now in
-    let e : Event = c.args.event.now in
-    let low : c.in-NamedBy.number < length h.events = rw c.in-NamedBy.is at c.requires.names in
-    omega (arith, c.args.self.now.events.ok.0)
+index-store-requires c = grind (arith, common_steps)
 
 pub returns-in-NamedBy : goal.returns-in-NamedBy
 returns-in-NamedBy c =

@@ -1,5 +1,6 @@
 use Rattle.std.proofs.Common.{◌≡◌, ◌<◌, ◌↔◌, IsTrue, length, sym, ◌∙◌, subst, arith}
 use Rattle.std.proofs.lemmas.Bool.{false≢true}
+use Rattle.std.proofs.lemmas.Grind.{common_steps}
 use Rattle.rv_hart.specs.RuleRows.{IsOperationOf, ConditionOf}
 use Rattle.rv_hart.proofs.Knowing.{read_is}
 use Rattle.rv_hart.proofs.Linking.{candidate-operation, none-first, lowest-here, none-here, some-rule}
@@ -20,11 +21,7 @@ index-met-requires c =
     omega (arith, c.args.self.now.events.ok.0)
 
 pub loop-rule-init : goal.loop-rule-init
-loop-rule-init c =
-    let h : Hart = hart_of c.args.self.now in
-    let e : Event = c.args.event.now in
-    let f : Fits h e = fits_of h e c.requires.asked.kept.hart c.requires.asked.follows in
-    none-first h e f c.requires.asked.memory c.args.number c.requires.candidate
+loop-rule-init c = search (fits_of, none-first)
 
 pub is_condition-requires-clause-met : goal.is_condition-requires-clause-met
 is_condition-requires-clause-met c =
@@ -46,8 +43,7 @@ returns-then-is_condition c =
     let same : c.index-met.result.now ≡ o.a = read_is h f.known o.a c.index-met.result.now c.args.number o.of_hart
     o.at c.index-met.ensures in
     let test : IsTrue c.is_condition.result ↔ ConditionOf h e c.loop-rule.rule o.a =
-    subst (λ (x : Event). IsTrue c.is_condition.result ↔ ConditionOf h e c.loop-rule.rule x) same
-    c.is_condition.ensures in
+    grind (arith, common_steps) in
     lowest-here h e f c.requires.asked.memory c.args.number c.requires.candidate c.loop-rule.rule
     (test.0 c.if-is_condition.true) c.loop-rule.invariant
 
@@ -60,15 +56,9 @@ loop-rule-preserved c =
     let same : c.index-met.result.now ≡ o.a = read_is h f.known o.a c.index-met.result.now c.args.number o.of_hart
     o.at c.index-met.ensures in
     let test : IsTrue c.is_condition.result ↔ ConditionOf h e c.loop-rule.rule o.a =
-    subst (λ (x : Event). IsTrue c.is_condition.result ↔ ConditionOf h e c.loop-rule.rule x) same
-    c.is_condition.ensures in
+    grind (arith, common_steps) in
     none-here h e f c.requires.asked.memory c.args.number c.requires.candidate c.loop-rule.rule
     (λ x. false≢true (sym c.if-is_condition.false ∙ test.1 x)) c.loop-rule.invariant
 
 pub unreachable-requires : goal.unreachable-requires
-unreachable-requires c =
-    let h : Hart = hart_of c.args.self.now in
-    let e : Event = c.args.event.now in
-    let f : Fits h e = fits_of h e c.requires.asked.kept.hart c.requires.asked.follows in
-    some-rule h e f c.requires.asked.memory c.args.number c.requires.candidate c.loop-rule.rule (omega arith)
-    c.loop-rule.invariant
+unreachable-requires c = search (fits_of, some-rule)

@@ -1,11 +1,13 @@
 -- Each line of the table has what its rule says.
 use Rattle.std.proofs.Common.{◌<◌, ℕ, sym, subst, arith}
+use Rattle.std.proofs.Common.{rules}
+use Rattle.std.proofs.lemmas.Grind.{common_steps}
 use Rattle.rv_event.proofs.Conditions.{Condition-number}
 use Rattle.rv_event.specs.Operations.{IsLoad, IsStore}
 use Rattle.rv_event.specs.Annotations.{IsRelease, IsRcsc}
 use Rattle.rv_hart.specs.Harts.{followed}
 use Rattle.rv_hart.specs.Parts.{ArePartsFor}
-use Rattle.rv_hart.specs.declared.parts.Part.TheVariants.{Nothing, Reads, In, Named}
+use Rattle.rv_hart.specs.declared.parts.Part.TheVariants.{Nothing, In, Named}
 use Rattle.rv_hart.specs.declared.parts.SetName.TheVariants as set
 use Rattle.rv_event.specs.declared.event.DepKind.TheVariants.{Addr, DataOf}
 use Rattle.rv_hart.proofs.TableParts.{alone, tested, tested-both, no-parts}
@@ -18,22 +20,10 @@ use Rattle.rv_hart.proofs.Knowing.{Fits, fits_of}
 use Rattle.rv_hart.proofs.kept.Kept.parts.Goals as goal
 
 pub returns-in-2 : goal.returns-in-2
-returns-in-2 c =
-    let h : Hart = hart_of c.args.self.now in
-    let e : Event = c.args.event.now in
-    let f : Fits h e = fits_of h e c.requires.asked.kept.hart c.requires.asked.follows in
-    let m = c.requires.asked.memory in
-    subst (λ k. ArePartsFor h e k _ _) (sym c.in-2.is)
-    (alone h e 2 Reads (record { says = λ a ca. (λ x. x, λ x. x); names = tt }))
+returns-in-2 c = grind (arith, common_steps)
 
 pub returns-in-3 : goal.returns-in-3
-returns-in-3 c =
-    let h : Hart = hart_of c.args.self.now in
-    let e : Event = c.args.event.now in
-    let f : Fits h e = fits_of h e c.requires.asked.kept.hart c.requires.asked.follows in
-    let m = c.requires.asked.memory in
-    subst (λ k. ArePartsFor h e k c.atomic_part.result Nothing) (sym c.in-3.is)
-    (alone h e 3 c.atomic_part.result c.atomic_part.ensures)
+returns-in-3 c = search rules
 
 pub returns-in-4 : goal.returns-in-4
 returns-in-4 c =
@@ -78,13 +68,7 @@ returns-in-7 c =
     (IsRcsc h.model e) c.part_if-rcsc.ensures c.is_rcsc.ensures (rcsc-is h e f m) tt))
 
 pub returns-in-8 : goal.returns-in-8
-returns-in-8 c =
-    let h : Hart = hart_of c.args.self.now in
-    let e : Event = c.args.event.now in
-    let f : Fits h e = fits_of h e c.requires.asked.kept.hart c.requires.asked.follows in
-    let m = c.requires.asked.memory in
-    subst (λ k. ArePartsFor h e k c.paired_part.result Nothing) (sym c.in-8.is)
-    (alone h e 8 c.paired_part.result c.paired_part.ensures)
+returns-in-8 c = search rules
 
 pub returns-in-9 : goal.returns-in-9
 returns-in-9 c =
@@ -116,13 +100,7 @@ returns-in-11 c =
     (control-is h e f m) tt))
 
 pub returns-in-12 : goal.returns-in-12
-returns-in-12 c =
-    let h : Hart = hart_of c.args.self.now in
-    let e : Event = c.args.event.now in
-    let f : Fits h e = fits_of h e c.requires.asked.kept.hart c.requires.asked.follows in
-    let m = c.requires.asked.memory in
-    subst (λ k. ArePartsFor h e k c.sources_of_write.result.0 c.sources_of_write.result.1) (sym c.in-12.is)
-    c.sources_of_write.ensures
+returns-in-12 c = grind (arith, common_steps)
 
 pub returns-in-13 : goal.returns-in-13
 returns-in-13 c =

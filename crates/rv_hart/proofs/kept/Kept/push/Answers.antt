@@ -1,4 +1,5 @@
 use Rattle.std.proofs.Common.{◌≡◌, ◌++◌, ◌∷◌, List, [], length, refl, sym, ap, ◌∙◌, subst, arith}
+use Rattle.std.proofs.lemmas.Grind.{common_steps}
 use Rattle.rv_event.specs.declared.event.Event.{Event}
 use Rattle.rv_rows.specs.Flat.{IsPushed}
 use Rattle.rv_hart.specs.Harts.{Hart, hart_with}
@@ -39,22 +40,17 @@ returns-in_err-push-clause-kept c =
 
 pub push-requires-2-clause-numbered : goal.push-requires-2-clause-numbered
 push-requires-2-clause-numbered c =
-    let is : c.as_slice.result.now ≡ c.args.self.now.events.items = c.as_slice.ensures.value ∙
-    c.reserve.ensures.items in
+    let is : c.as_slice.result.now ≡ c.args.self.now.events.items = grind (arith, common_steps) in
     subst AreNumbered (sym is) (known_of (hart_of c.args.self.now) c.requires.kept.hart).at
 
 pub push-requires-2-clause-next : goal.push-requires-2-clause-next
 push-requires-2-clause-next c =
-    let is : c.as_slice.result.now ≡ c.args.self.now.events.items = c.as_slice.ensures.value ∙
-    c.reserve.ensures.items in
+    let is : c.as_slice.result.now ≡ c.args.self.now.events.items = grind (arith, common_steps) in
     (fits_of (hart_of c.args.self.now) c.args.event.now c.requires.kept.hart c.requires.follows).seq ∙
     ap (λ (es : List Event). length es) (sym is)
 
 pub push-requires-2-clause-words : goal.push-requires-2-clause-words
-push-requires-2-clause-words c =
-    let is : c.as_slice.result.now ≡ c.args.self.now.events.items = c.as_slice.ensures.value ∙
-    c.reserve.ensures.items in
-    subst (λ (es : List Event). AreWords es c.args.self.now.words) (sym is) c.requires.kept.words
+push-requires-2-clause-words c = grind (arith, common_steps)
 
 pub returns-in-Err-clause-kept : goal.returns-in-Err-clause-kept
 returns-in-Err-clause-kept c =
@@ -84,9 +80,8 @@ returns-clause-kept c =
     let e : Event = c.args.event.now in
     let hart : List Event → Hart = λ es. record { model = k.model; number = k.number; events = es } in
     let is : c.as_slice.result.now ≡ k.events.items = c.as_slice.ensures.value ∙ c.reserve.ensures.items in
-    let events : c.push_reserved.new.self.items ≡ k.events.items ++ e ∷ [] = c.push_reserved.ensures.items ∙
-    ap (λ (es : List Event). es ++ c.in_ok-copy.copy ∷ []) c.reserve.ensures.items ∙
-    ap (λ (x : Event). k.events.items ++ x ∷ []) c.in_ok-copy.ensures in
+    let events : c.push_reserved.new.self.items ≡ k.events.items ++ e ∷ [] =
+    grind (arith, common_steps) in
     let pushed : IsPushed k.rows c.fill_row.new.row c.push.new.self = c.in_ok-push.ensures.pushed in
     kept-pushed k _ e pushed.last c.requires.kept c.requires.follows (ap hart events) pushed.is_last
     (means-same (hart_with (hart_of k) e) e.id.seq c.fill_row.new.row pushed.last pushed.same c.fill_row.ensures)

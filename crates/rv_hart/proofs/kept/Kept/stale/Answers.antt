@@ -1,5 +1,6 @@
 use Rattle.std.proofs.Common.{◌≡◌, List, Some, None, length, sym, ap, ◌∙◌, subst, arith}
 use Rattle.std.proofs.lemmas.Bool.{false≢true}
+use Rattle.std.proofs.lemmas.Grind.{common_steps}
 use Rattle.rv_event.specs.Edges.{IsStale}
 use Rattle.rv_event.specs.declared.event.Event.{Event}
 use Rattle.rv_hart.specs.Harts.{Hart, followed}
@@ -35,8 +36,7 @@ returns-then-event-store c =
     let e : Event = c.args.event.now in
     let f : Fits h e = fits_of h e c.requires.kept.hart c.requires.follows in
     let high : IsHighestStore h.events e.word (length h.events) (Some c.in_ok-number.number) =
-    subst (λ (es : List Event). IsHighestStore es e.word (length es) (Some c.in_ok-number.number))
-    c.as_slice.ensures.value c.in_ok-number.ensures in
+    grind (arith, common_steps) in
     let same : c.index-store.result.now ≡ high.1.a =
     read_is h f.known high.1.a c.index-store.result.now c.in_ok-number.number high.1.of_list high.1.at
     c.index-store.ensures in
@@ -50,8 +50,7 @@ returns-else-event-store c =
     let e : Event = c.args.event.now in
     let f : Fits h e = fits_of h e c.requires.kept.hart c.requires.follows in
     let high : IsHighestStore h.events e.word (length h.events) (Some c.in_ok-number.number) =
-    subst (λ (es : List Event). IsHighestStore es e.word (length es) (Some c.in_ok-number.number))
-    c.as_slice.ensures.value c.in_ok-number.ensures in
+    grind (arith, common_steps) in
     let same : c.index-store.result.now ≡ high.1.a =
     read_is h f.known high.1.a c.index-store.result.now c.in_ok-number.number high.1.of_list high.1.at
     c.index-store.ensures in

@@ -1,26 +1,23 @@
-use Rattle.std.proofs.Common.{◌≡◌, List, ℕ, Some, None, length, sym, ap, ◌∙◌, subst, arith}
+use Rattle.std.proofs.Common.{◌≡◌, List, ℕ, Some, length, sym, ap, ◌∙◌, subst, arith}
 use Rattle.std.proofs.lemmas.Bool.{false≢true}
+use Rattle.std.proofs.lemmas.Grind.{common_steps}
+use Rattle.std.proofs.Common.{rules}
 use Rattle.rv_event.specs.Operations.{IsStore}
 use Rattle.rv_event.specs.declared.event.Event.{Event}
 use Rattle.rv_hart.specs.Words.{IsLastBelow, IsWordLink, IsHighestStore}
-use Rattle.rv_hart.proofs.Wording.{numbered-below, numbered-read, wrote-same, highest-none, highest-before}
+use Rattle.rv_hart.proofs.Wording.{numbered-below, numbered-read, wrote-same, highest-before}
 use Rattle.rv_hart.proofs.Wording.{highest-first, highest-here, highest-there}
 use Rattle.rv_hart.proofs.Walking.{read_link}
 use Rattle.rv_hart.proofs.words.Words.highest_store.Goals as goal
 
 pub returns-in_err-number : goal.returns-in_err-number
-returns-in_err-number c =
-    let last : IsLastBelow c.args.events.now c.args.word (length c.args.events.now) None =
-    subst (IsLastBelow c.args.events.now c.args.word (length c.args.events.now))
-    (sym c.last.ensures ∙ c.in_err-number.was) (c.requires.words.lasts c.args.word) in
-    rw c.from_residual.ensures (highest-none c.args.events.now c.args.word c.requires.numbered last)
+returns-in_err-number c = grind (arith, common_steps)
 
 pub returns-then-not-is_store : goal.returns-then-not-is_store
 returns-then-not-is_store c =
     let es : List Event = c.args.events.now in
     let number : ℕ = c.in_ok-number.number in
-    let last : IsLastBelow es c.args.word (length es) (Some number) = subst (IsLastBelow es c.args.word (length es))
-    (sym c.last.ensures ∙ c.in_ok-number.was) (c.requires.words.lasts c.args.word) in
+    let last : IsLastBelow es c.args.word (length es) (Some number) = grind (arith, common_steps) in
     let a : Event = last.names.1.a in
     let ca = last.names.1.of_list in
     let at = last.names.1.at in
@@ -36,8 +33,7 @@ pub returns-in_default : goal.returns-in_default
 returns-in_default c =
     let es : List Event = c.args.events.now in
     let number : ℕ = c.in_ok-number.number in
-    let last : IsLastBelow es c.args.word (length es) (Some number) = subst (IsLastBelow es c.args.word (length es))
-    (sym c.last.ensures ∙ c.in_ok-number.was) (c.requires.words.lasts c.args.word) in
+    let last : IsLastBelow es c.args.word (length es) (Some number) = grind (arith, common_steps) in
     let a : Event = last.names.1.a in
     let ca = last.names.1.of_list in
     let at = last.names.1.at in
@@ -54,8 +50,7 @@ pub returns-then-events-store : goal.returns-then-events-store
 returns-then-events-store c =
     let es : List Event = c.args.events.now in
     let number : ℕ = c.in_ok-number.number in
-    let last : IsLastBelow es c.args.word (length es) (Some number) = subst (IsLastBelow es c.args.word (length es))
-    (sym c.last.ensures ∙ c.in_ok-number.was) (c.requires.words.lasts c.args.word) in
+    let last : IsLastBelow es c.args.word (length es) (Some number) = grind (arith, common_steps) in
     let a : Event = last.names.1.a in
     let ca = last.names.1.of_list in
     let at = last.names.1.at in
@@ -68,8 +63,7 @@ returns-then-events-store c =
     let high : IsHighestStore es a.word a.id.seq (Some c.in-Some.store) =
     subst (IsHighestStore es a.word a.id.seq) c.in-Some.is link.highest in
     let other : c.index-events-store.result ≡ high.1.a =
-    numbered-read es c.requires.numbered high.1.a c.index-events-store.result c.in-Some.store high.1.of_list
-    high.1.at c.index-events-store.is in
+    search (numbered-read, rules) in
     highest-here es c.requires.numbered c.args.word number a ca at last store c.in-Some.store high
     (omega (
       arith,
@@ -83,8 +77,7 @@ pub returns-else-events-store : goal.returns-else-events-store
 returns-else-events-store c =
     let es : List Event = c.args.events.now in
     let number : ℕ = c.in_ok-number.number in
-    let last : IsLastBelow es c.args.word (length es) (Some number) = subst (IsLastBelow es c.args.word (length es))
-    (sym c.last.ensures ∙ c.in_ok-number.was) (c.requires.words.lasts c.args.word) in
+    let last : IsLastBelow es c.args.word (length es) (Some number) = grind (arith, common_steps) in
     let a : Event = last.names.1.a in
     let ca = last.names.1.of_list in
     let at = last.names.1.at in
@@ -97,8 +90,7 @@ returns-else-events-store c =
     let high : IsHighestStore es a.word a.id.seq (Some c.in-Some.store) =
     subst (IsHighestStore es a.word a.id.seq) c.in-Some.is link.highest in
     let other : c.index-events-store.result ≡ high.1.a =
-    numbered-read es c.requires.numbered high.1.a c.index-events-store.result c.in-Some.store high.1.of_list
-    high.1.at c.index-events-store.is in
+    search (numbered-read, rules) in
     highest-there es c.requires.numbered c.args.word number a ca at last c.in-Some.store high
     (omega (
       arith,

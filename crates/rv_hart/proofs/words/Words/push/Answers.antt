@@ -1,9 +1,10 @@
 use Rattle.std.proofs.Common.{◌≡◌, ◌++◌, ◌∷◌, [], List, ℕ, length, nat_eq, Option, sym, ap, ◌∙◌}
 use Rattle.std.proofs.lemmas.Bool.{ne_eqb, false≢true}
 use Rattle.std.specs.HashMap.{get}
+use Rattle.std.proofs.Common.{arith}
+use Rattle.std.proofs.lemmas.Grind.{common_steps}
 use Rattle.rv_event.specs.declared.event.Event.{Event}
 use Rattle.rv_hart.specs.Words.{IsLastBelow}
-use Rattle.rv_hart.specs.declared.words.WordLink.{WordLink}
 use Rattle.rv_hart.specs.declared.words.Words.{Words}
 use Rattle.rv_hart.proofs.Wording.{words-push, lasts-memory, lasts-same}
 use Rattle.rv_hart.proofs.words.Words.push.Goals as goal
@@ -34,12 +35,7 @@ lasts c =
 
 links : (c : goal.After-push_reserved) → c.push_reserved.new.self.items ≡ c.args.self.now.links.items ++
     c.link_of-link.result ∷ []
-links c =
-    let same : c.if-is_memory.self.links.items ≡ c.args.self.now.links.items = elim c.if-is_memory.branch [
-      | then-is_memory+in_ok-insert w ↦ (ap (λ (x : Words). x.links.items) w.self-is ∙ c.reserve.ensures.items)
-      | else-is_memory w ↦ (ap (λ (x : Words). x.links.items) w.self-is ∙ c.reserve.ensures.items)
-    ] in
-    c.push_reserved.ensures.items ∙ ap (λ (ls : List WordLink). ls ++ c.link_of-link.result ∷ []) same
+links c = grind (arith, common_steps)
 
 pub returns-clause-pushed : goal.returns-clause-pushed
 returns-clause-pushed c =
