@@ -5,9 +5,6 @@ use Rattle.rv_rank.proofs.Trail.{IsWayBack-more, begun_at, IsTrail-reverse}
 use Rattle.rv_rank.proofs.Marks.{marked_within, read_of}
 use Rattle.rv_rank.proofs.search.trail.Goals as goal
 
-pub loop-from-init : goal.loop-from-init
-loop-from-init c = grind (arith, common_steps)
-
 pub rank-requires : goal.rank-requires
 rank-requires c = search (marked_within, rules)
 

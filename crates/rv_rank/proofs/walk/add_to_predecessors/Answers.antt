@@ -48,6 +48,3 @@ loop-place-preserved c =
           c.loop-place.nodes c.args.preds.now c.args.node c.loop-place.place-index d
           c.loop-place.invariant within c.loop-place-test.true c.requires.fresh ends)
     ]
-
-pub returns-clause-outgoing : goal.returns-clause-outgoing
-returns-clause-outgoing c = grind (arith, common_steps)

@@ -4,9 +4,6 @@ use Rattle.std.proofs.lemmas.Grind.{common_steps}
 use Rattle.rv_rank.proofs.RowTables.{IsRoomy-more}
 use Rattle.rv_rank.proofs.walk.make_room.Goals as goal
 
-pub returns-in_err-reserve : goal.returns-in_err-reserve
-returns-in_err-reserve c = grind (arith, common_steps)
-
 pub loop-place-preserved : goal.loop-place-preserved
 loop-place-preserved c =
     let place = get_or c.args.places.now c.loop-place.place-index 0 in
