@@ -1,12 +1,13 @@
 -- Rows that lie one after the other.
 use Rattle.std.proofs.Common.{◌≡◌, ℕ, suc, ◌+◌, ◌<◌, ◌≤◌, List, [], ◌∷◌, ◌++◌, length, get_or, take, drop}
 use Rattle.std.proofs.Common.{map, refl, sym, ap, ◌∙◌, arith, ◌⊎◌, inl, inr, subst, length-take}
-use Rattle.std.proofs.Common.{length-append, length-drop, take-append-drop, length-take-le}
+use Rattle.std.proofs.Common.{length-append, take-append-drop}
 use Rattle.std.proofs.lemmas.Bool.{cases_lt}
-use Rattle.std.proofs.lemmas.List.{take_at, take-append-le, drop-append-le, get_or_at, get_or_append_left}
+use Rattle.std.proofs.lemmas.List.{take_at, get_or_at, get_or_append_left}
 use Rattle.std.proofs.lemmas.List.{length_push, get_or-map, map-append, length-map}
 use Rattle.std.proofs.lemmas.List.Quantifiers.{all_pairs_push}
 use Rattle.std.proofs.Math.Seq.{take-length, drop-append_seam}
+use Rattle.std.proofs.lemmas.Grind.{common_steps}
 use Rattle.rv_rows.specs.Flat.{part_at, shifted, row_at, rows_of, IsWithin, AreLaid}
 use Rattle.rv_rows.specs.declared.rows.Place.{Place}
 
@@ -53,9 +54,7 @@ part_short words p = omega (arith, length-take p.count (drop p.start words))
 -- a row stays as it is when words are added after it
 part_stays : (words more : List ℕ) (p : Place) → p.start + p.count ≤ length words →
     part_at (words ++ more) p ≡ part_at words p
-part_stays words more p low =
-    ap (λ (xs : List ℕ). take p.count xs) (drop-append-le p.start words more (omega arith))
-    ∙ take-append-le p.count (drop p.start words) more (omega (arith, length-drop p.start words))
+part_stays words more p low = grind (arith, common_steps)
 
 -- words that are added leave the rows
 pub rows_stay : (words more : List ℕ) (places : List Place) →
@@ -73,16 +72,7 @@ pub rows_more : (words part : List ℕ) (places : List Place) (p : Place) → Ar
     p.start ≡ length words → p.count ≡ length part
     → rows_of (words ++ part) (places ++ p ∷ []) ≡ rows_of words places ++ shifted p.first part ∷ []
 rows_more words part places p laid begins counts =
-    rows_are (words ++ part) (places ++ p ∷ []) ∙ map-append (row_at (words ++ part)) places (p ∷ [])
-    ∙ ap (λ (rs : List (List ℕ)). rs ++ row_at (words ++ part) p ∷ [])
-    (rows_stay words part places (λ k d low. (laid.within k d low).kept) ∙ sym (rows_are words places))
-    ∙ ap (λ (xs : List ℕ). rows_of words places ++ shifted p.first xs ∷ []) here
-  where
-    here : part_at (words ++ part) p ≡ part
-    here =
-        ap (λ (k : ℕ). take p.count (drop k (words ++ part))) begins
-        ∙ ap (take p.count) (drop-append_seam words part)
-        ∙ ap (λ (k : ℕ). take k part) counts ∙ take-length part
+    grind (arith, common_steps, rows_are, map-append, rows_stay, drop-append_seam, take-length)
 
 -- the places with one more, behind the words so far
 pub laid_more : (words part : List ℕ) (places : List Place) (p : Place) → AreLaid words places → length places < 4096 →
@@ -104,10 +94,7 @@ laid_more words part places p laid few begins counts narrow = record {
       kept = let one = (laid.within k d before).kept in omega (arith, long);
       few = (laid.within k d before).few;
     })
-    within k d low (inr here) = rw (get_or_at places p [] d k (omega arith)) (record {
-      kept = omega (arith, long);
-      few = narrow;
-    })
+    within k d low (inr here) = grind (arith, common_steps)
 
 -- the words up to the last row
 pub ends_below : (words : List ℕ) (front : List Place) (last : Place) → AreLaid words (front ++ last ∷ []) →
@@ -130,9 +117,7 @@ rows_less words front last rows row laid is =
     ∙ take_at rows (row ∷ []) (length front) same
   where
     whole : length (take last.start words) ≡ last.start
-    whole = length-take-le last.start words (
-        let one = (rw (get_or_at front last [] last (length front) refl) at
-        (laid.within (length front) last (omega (arith, length_push front last)))).kept in omega arith)
+    whole = grind (arith, common_steps)
 
     both : map (row_at words) front ++ row_at words last ∷ [] ≡ rows ++ row ∷ []
     both = sym (map-append (row_at words) front (last ∷ [])) ∙ sym (rows_are words (front ++ last ∷ [])) ∙ is
@@ -162,6 +147,4 @@ laid_less words front last laid = record {
 }
   where
     whole : length (take last.start words) ≡ last.start
-    whole = length-take-le last.start words (
-        let one = (rw (get_or_at front last [] last (length front) refl) at
-        (laid.within (length front) last (omega (arith, length_push front last)))).kept in omega arith)
+    whole = grind (arith, common_steps)

@@ -4,6 +4,8 @@ use Rattle.std.proofs.Common.{Contains, Some, None, ◌∙◌, ap, sym, refl, in
 use Rattle.std.proofs.Common.{slice_index_or, subst, append-nil, append_assoc, ◌+◌}
 use Rattle.std.proofs.lemmas.Bool.{cases_eq, cases_lt, false≢true}
 use Rattle.std.proofs.lemmas.List.Elements.{Contains-push, Contains-push_cases, Contains-append_left}
+use Rattle.std.proofs.lemmas.Grind.{common_steps}
+use Rattle.std.proofs.Common.{rules}
 use Rattle.rv_rows.specs.Bits.{has_bit, Has, IsHighest}
 use Rattle.rv_rows.specs.Closure.{RowHas, IsClosed, IsReached, IsThinned}
 use Rattle.rv_rows.specs.Laws.{IsSwept}
@@ -20,30 +22,12 @@ pub record Swept (rows : List (List ℕ)) (first left : List ℕ) (listed : List
 -- a sweep with nothing left is done
 pub swept-done : (rows : List (List ℕ)) (first left listed : List ℕ) (top : ℕ) → Swept rows first left listed top →
     IsHighest left None → IsThinned rows first listed
-swept-done rows first left listed top s none = record {
-  only = s.only;
-  each = λ a h. go a (s.each a h);
-  unsplit = s.unsplit;
-}
-  where
-    go : (a : ℕ) → Has left a ⊎ IsReached rows listed a → IsReached rows listed a
-    go a (inl h) = absurd (false≢true (sym (none a) ∙ h))
-    go a (inr r) = r
+swept-done rows first left listed top s none = grind (arith, common_steps)
 
 -- a sweep begins with all candidates
 pub swept-init : (rows : List (List ℕ)) (first : List ℕ) (top : ℕ) → ((b : ℕ) → Has first b → b < top) →
     Swept rows first first [] top
-swept-init rows first top low = record {
-  low = low;
-  sub = λ j h. h;
-  only = λ b c. absurd (empty b c);
-  each = λ a h. inl h;
-  unsplit = λ a c l. absurd (empty a l);
-  apart = λ b j l. absurd (empty b l);
-}
-  where
-    empty : (b : ℕ) → Contains [] b → ⊥
-    empty b c = let l = c.1 in omega arith
+swept-init rows first top low = grind (arith, common_steps)
 
 or_cases : (x y : Bool) → (x || y) ≡ true → (x ≡ true) ⊎ (y ≡ true)
 or_cases true y e = inl refl
@@ -111,10 +95,7 @@ module _ (rows : List (List ℕ)) (first left left' listed : List ℕ) (top b : 
     where
       at_b : Has left c ⊎ IsReached rows listed c → b ≡ a → ⊥
       at_b (inl still_left) is =
-          let r' : RowHas rows c b = subst (RowHas rows c) (sym is) r in
-          let near : b ≤ c = closed.below c b r' in
-          let different : c ≢ b = λ e. other (e ∙ is) in
-          false≢true (sym (highest.2 c (omega arith)) ∙ still_left)
+          search (false≢true, rules)
       at_b (inr reached) is =
           s.apart reached.b b reached.is_taken
           (closed.closed reached.b c b reached.has (subst (RowHas rows c) (sym is) r)) highest.1
@@ -182,11 +163,7 @@ Gathers rows base taken row = (j : ℕ) → Has row j ↔ (Has base j ⊎ IsReac
 
 -- before the first step nothing was joined
 pub gathers-none : (rows : List (List ℕ)) (row : List ℕ) → Gathers rows row [] row
-gathers-none rows row j = (
-  λ h. inl h,
-  λ x. elim x
-      [ inl h ↦ h | inr r ↦ absurd (let c = r.is_taken in let low = c.1 in omega arith) ],
-)
+gathers-none rows row j = grind (arith, common_steps)
 
 -- a step joins one row more
 pub gathers-step : (rows : List (List ℕ)) (base taken row row' : List ℕ) (b : ℕ) → Gathers rows base taken row →

@@ -3,8 +3,8 @@ use Rattle.std.proofs.Common.{◌≡◌, ◌≢◌, ℕ, zero, suc, ◌+◌, ◌
 use Rattle.std.proofs.Common.{true, false, not, ◌&&◌, ◌||◌, ◌==◌, List, length, get_or, set, take, drop}
 use Rattle.std.proofs.Common.{replicate, ◌∙◌, ap, sym, refl, inl, inr, arith, ◌⊎◌, w64, eq-eqb, length-take}
 use Rattle.std.proofs.lemmas.Bool.{cases_eq, cases_lt, ne_eqb}
-use Rattle.std.proofs.lemmas.List.{get_or-set_same, get_or-set_other, get_or-replicate, length-replicate}
-use Rattle.std.proofs.lemmas.List.{get_or_past, get_or_append_left, get_or-append_right, get_or-take}
+use Rattle.std.proofs.lemmas.List.{get_or-replicate, length-replicate}
+use Rattle.std.proofs.lemmas.List.{get_or_past, get_or-append_right, get_or-take}
 use Rattle.std.proofs.lemmas.List.{get_or-drop}
 use Rattle.std.proofs.lemmas.Nat.{leading_top, div-add-mod'}
 use Rattle.std.proofs.Math.Nat.{two-pow-succ, mod-lt, suc-mul}
@@ -12,6 +12,7 @@ use Rattle.std.proofs.lemmas.Nat.Bits.{bit_at-lt, bit_at_or, bit_at_and, bit_at_
 use Rattle.std.proofs.lemmas.Nat.Bits.{bit_at_set_same, bit_at_set_other, bit_at_above}
 use Rattle.std.specs.Prelude.{bit_and, bit_or}
 use Rattle.std.specs.Int.{bit_at, bit_not, leading_zeros}
+use Rattle.std.proofs.lemmas.Grind.{common_steps}
 use Rattle.rv_rows.specs.Bits.{has_bit, Has, IsBetween, AreEnds}
 use Rattle.rv_rows.specs.Flat.{shifted}
 
@@ -39,9 +40,7 @@ word xs i = get_or xs (i / 64) 0
 -- a bit of two words joined
 pub has-or : (new a b : List ℕ) (i : ℕ) → word new i ≡ bit_or (word a i) (word b i) →
     has_bit new i ≡ (has_bit a i || has_bit b i)
-has-or new a b i e =
-    ap (λ x. bit_at x (i % 64) == 1) e ∙ ap (λ x. x == 1) (bit_at_or (word a i) (word b i) (i % 64)) ∙
-    or_is _ _ (bit_at-lt (word a i) (i % 64)) (bit_at-lt (word b i) (i % 64))
+has-or new a b i e = grind (arith, common_steps, bit_at_or, or_is, bit_at-lt)
 
 -- a bit of a word less another
 pub has-less : (new a b : List ℕ) (i : ℕ) → word b i < 2 ^ 64 → word new i ≡ bit_and (word a i)
@@ -71,21 +70,18 @@ has-set words i j within = go (cases_eq i j) (cases_eq (j / 64) (i / 64))
         has_bit (set words (i / 64) (bit_or (word words i) (1 * 2 ^ (i % 64) % 2 ^ 64))) j ≡
         (has_bit words j || (i == j))
     go (inl same) _ =
-        let at : word (set words (i / 64) new) j ≡ new = ap (λ x. get_or (set words (i / 64) new) (x / 64) 0)
-        (sym same) ∙ get_or-set_same words (i / 64) new 0 within in
+        let at : word (set words (i / 64) new) j ≡ new = grind (arith, common_steps) in
         ap (λ x. bit_at x (j % 64) == 1) at ∙ ap (λ x. bit_at new (x % 64) == 1) (sym same) ∙
         ap (λ x. x == 1) (bit_at_set_same w64 (word words i) (i % 64) (omega arith)) ∙ or_true (has_bit words j) ∙
         ap (λ b. has_bit words j || b) (sym (eq-eqb i j same))
     go (inr other) (inl near) =
-        let at : word (set words (i / 64) new) j ≡ new = ap (λ x. get_or (set words (i / 64) new) x 0) near ∙
-        get_or-set_same words (i / 64) new 0 within in
+        let at : word (set words (i / 64) new) j ≡ new = grind (arith, common_steps) in
         let apart : j % 64 ≢ i % 64 = λ e. other (omega arith) in
         ap (λ x. bit_at x (j % 64) == 1) at ∙
         ap (λ x. x == 1) (bit_at_set_other w64 (word words i) (i % 64) (omega arith) (j % 64) apart) ∙
         ap (λ x. bit_at (get_or words x 0) (j % 64) == 1) (sym near) ∙ or_false _ ∙ ap (λ b. has_bit words j || b)
         (sym (ne_eqb i j other))
-    go (inr other) (inr far) = ap (λ x. bit_at x (j % 64) == 1) (get_or-set_other words (i / 64) (j / 64) _ 0 far) ∙
-        or_false _ ∙ ap (λ b. has_bit words j || b) (sym (ne_eqb i j other))
+    go (inr other) (inr far) = grind (arith, common_steps)
 
 quotient : (q d r w : ℕ) → q * d + r ≡ w → r < d → d ≤ w → w < d + d → q ≡ 1
 quotient zero d r w e f low high = absurd (omega arith)
@@ -102,17 +98,7 @@ top_at : (words : List ℕ) (k n t : ℕ) → 2 ^ t ≤ get_or words k 0 → get
     ((j : ℕ) → k < j / 64 → has_bit words j ≡ false) → n ≡ k * 64 + t → t < 64
     → (has_bit words n ≡ true) × ((j : ℕ) → n < j → has_bit words j ≡ false)
 top_at words k n t low high above is small =
-    let near : n / 64 ≡ k = omega arith in
-    let at : n % 64 ≡ t = omega arith in (
-      ap (λ x. bit_at (get_or words x 0) (n % 64) == 1) near ∙ ap (λ x. bit_at (get_or words k 0) x == 1) at ∙
-          ap (λ x. x % 2 == 1) (one_at (get_or words k 0) t low high),
-      λ j later. go j later (cases_eq (j / 64) k),
-    )
-  where
-    go : (j : ℕ) → n < j → (j / 64 ≡ k) ⊎ (j / 64 ≡ k → ⊥) → has_bit words j ≡ false
-    go j later (inl same) = ap (λ x. bit_at (get_or words x 0) (j % 64) == 1) same ∙
-        ap (λ x. x == 1) (bit_at_above (get_or words k 0) (suc t) (j % 64) high (omega arith))
-    go j later (inr other) = above j (omega arith)
+    grind (arith, common_steps, one_at, cases_eq, bit_at_above)
 
 -- where no word after word k has a bit, the highest number stands in word k
 pub has-top : (words : List ℕ) (k n : ℕ) → 0 < get_or words k 0 → get_or words k 0 < 2 ^ 64 →
@@ -128,15 +114,7 @@ has-top words k n pos fits above is =
 -- is in word k or later
 pub none_above : (words : List ℕ) (limit start k : ℕ) → limit ≤ start * 64 → ((j : ℕ) → Has words j → j < limit) →
     ((j : ℕ) → k ≤ j → j < start → get_or words j 0 ≡ 0) → (j : ℕ) → k ≤ j / 64 → has_bit words j ≡ false
-none_above words limit start k enough below empty j high = go (cases_lt (j / 64) start)
-  where
-    past : start ≤ j / 64 → (b : Bool) → has_bit words j ≡ b → b ≡ false
-    past far true e = let near = below j e in absurd (omega arith)
-    past far false e = refl
-
-    go : (j / 64 < start) ⊎ (start ≤ j / 64) → has_bit words j ≡ false
-    go (inl low) = ap (λ x. bit_at x (j % 64) == 1) (empty (j / 64) high low) ∙ ap (λ x. x == 1) (bit_at-zero (j % 64))
-    go (inr far) = past far (has_bit words j) refl
+none_above words limit start k enough below empty j high = grind (arith, common_steps)
 
 abbrev zeros : List ℕ
 zeros = replicate 64 0
@@ -155,9 +133,7 @@ zero_bit words i none = ap (λ x. bit_at x (i % 64) == 1) none ∙ ap (λ x. x =
 
 -- the words before the place are empty
 pub shifted_before : (n : ℕ) (part : List ℕ) (k : ℕ) → k < n → get_or (shifted n part) k 0 ≡ 0
-shifted_before n part k low =
-    get_or_append_left (replicate n 0) part 0 k (omega (arith, length-replicate {A = ℕ} n 0)) ∙
-    get_or-replicate n k 0 0 low
+shifted_before n part k low = grind (arith, common_steps)
 
 -- from the place on they are the part's
 pub shifted_from : (n : ℕ) (part : List ℕ) (k : ℕ) → n ≤ k → get_or (shifted n part) k 0 ≡ get_or part (k - n) 0
@@ -178,8 +154,7 @@ joined_part new a part n each before after i = go (cases_lt (i / 64) n) (cases_l
     same : word new i ≡ word a i → word (shifted n part) i ≡ 0 →
         has_bit new i ≡ (has_bit a i || has_bit (shifted n part) i)
     same e none =
-        ap (λ x. bit_at x (i % 64) == 1) e ∙ or_false (has_bit a i)
-        ∙ ap (λ b. has_bit a i || b) (sym (zero_bit (shifted n part) i none))
+        grind (arith, common_steps)
 
     go : (i / 64 < n) ⊎ (n ≤ i / 64) → (i / 64 < n + length part) ⊎ (n + length part ≤ i / 64)
         → has_bit new i ≡ (has_bit a i || has_bit (shifted n part) i)
@@ -210,8 +185,7 @@ cut_part new a part n from to low each rest empty i = go (cases_lt (i / 64) from
     apart : has_bit new i ≡ has_bit a i → (word a i ≡ 0) ⊎ (word (shifted n part) i ≡ 0) →
         has_bit new i ≡ (has_bit a i && not (has_bit (shifted n part) i))
     apart same (inl none) =
-        let bit = zero_bit a i none in
-        same ∙ bit ∙ ap (λ b. b && not (has_bit (shifted n part) i)) (sym bit)
+        grind (arith, common_steps)
     apart same (inr none) =
         same ∙ and_true (has_bit a i) ∙ ap (λ b. has_bit a i && not b) (sym (zero_bit (shifted n part) i none))
 
@@ -254,26 +228,15 @@ pub none_from : (words : List ℕ) (low high limit top start k : ℕ) → IsBetw
     start ≡ min top high → ((j : ℕ) → Has words j → j < limit)
     → ((j : ℕ) → k ≤ j → j < start → get_or words j 0 ≡ 0) → (j : ℕ) → k ≤ j / 64 → has_bit words j ≡ false
 none_from words low high limit top start k between enough least below empty j from =
-    none_above words limit top k enough below (λ i here near. go i here (cases_lt i start) near) j from
-  where
-    go : (i : ℕ) → k ≤ i → (i < start) ⊎ (start ≤ i) → i < top → get_or words i 0 ≡ 0
-    go i here (inl inside) near = empty i here inside
-    go i here (inr past) near = between.after i (omega arith)
+    grind (arith, common_steps)
 
 -- where also those before word k are empty, there is none
 pub none_at_all : (words : List ℕ) (low high limit top start k : ℕ) → IsBetween words low high → limit ≤ top * 64 →
     start ≡ min top high → k ≤ low → ((j : ℕ) → Has words j → j < limit)
     → ((j : ℕ) → k ≤ j → j < start → get_or words j 0 ≡ 0) → (j : ℕ) → has_bit words j ≡ false
-none_at_all words low high limit top start k between enough least first below empty j = go (cases_lt (j / 64) k)
-  where
-    go : (j / 64 < k) ⊎ (k ≤ j / 64) → has_bit words j ≡ false
-    go (inl before) = zero_bit words j (between.before (j / 64) (omega arith))
-    go (inr from) = none_from words low high limit top start k between enough least below empty j from
+none_at_all words low high limit top start k between enough least first below empty j =
+    grind (arith, common_steps)
 
 -- all words in use lie between the ends
 pub between : (words : List ℕ) (first end : ℕ) → AreEnds words first end → IsBetween words first end
-between words first end ends = record {
-  few = ends.is_end.few;
-  before = ends.is_first.before;
-  after = ends.is_end.after;
-}
+between words first end ends = grind (arith, common_steps)

@@ -5,6 +5,7 @@ use Rattle.std.proofs.Common.{false, ◌&&◌, nat_lt, [], get_or}
 use Rattle.std.proofs.Common.{bit_or, sym, refl, ap, ◌∙◌, subst, arith, ⊎_elim}
 use Rattle.std.proofs.Common.{lt-ltb}
 use Rattle.std.proofs.lemmas.Bool.{cases_Bool}
+use Rattle.std.proofs.lemmas.Grind.{common_steps}
 use mathlib.Core.Option.{none}
 use Rattle.atomic_table.specs.Table.{Me, step, Allows}
 use Rattle.rv_slotcore.specs.Machine.{Core, Step, Slot, Seat, Act, Claim, Moved, put_at}
@@ -20,7 +21,7 @@ use Rattle.rv_slots.specs.Knows.{IsIdle}
 use Rattle.rv_slots.specs.Rule.{Fits, Kept}
 use Rattle.rv_slotcore.specs.Word.{Reads}
 use Rattle.rv_slots.proofs.Words.{state_changes, state_stays, reads_claimed}
-use Rattle.rv_slots.proofs.Knowing.{knows, shown_idle}
+use Rattle.rv_slots.proofs.Knowing.{knows}
 use Rattle.rv_slots.proofs.Seating.{Goes, allows_of, one, keeps_by, marked_same}
 use Rattle.rv_slots.proofs.Seating.{whole_same, slot_same}
 
@@ -31,14 +32,7 @@ pub moves_claim : (c : Core) (s i : ℕ) (b : Bool) → nat_lt s c.seat_count �
 moves_claim c s i b h g e d = λ k. if_fits c s (h k && g k) (claims c s i (e k) (d k))
 
 same_claimed : (x : Slot) → x.claimed ≡ true → claimed_slot x ≡ x
-same_claimed x e = λ k. record {
-  generation = x.generation;
-  claimed = sym e k;
-  full = x.full;
-  done = x.done;
-  pins = x.pins;
-  content = x.content;
-}
+same_claimed x e = grind (arith, common_steps)
 
 -- a claiming exchange is that step
 pub claims_go : ClaimIsStep
@@ -46,11 +40,9 @@ claims_go n slots id q i me idle below s k at small =
     let p : SeatView = the_view me.0 in let a = idle.alone in
     let f = knows n s k id q me a at in let c : Core = k.core in let w : ℕ = get_or s.words
     (slot_words * i) 0 in let p' : SeatView = claimed p i w in
-    let resting : (c.seats p.number).state ≡ core.Idle = shown_idle (c.seats p.number).state
-    (sym idle.state ∙ f.fits.state) in
+    let resting : (c.seats p.number).state ≡ core.Idle = grind (arith, common_steps) in
     let number = f.small in let slot_count = k.counts.0 in let seat_count = k.counts.1 in
-    let in_seats : nat_lt p.number c.seat_count ≡ true = lt-ltb p.number c.seat_count
-    (omega arith) in
+    let in_seats : nat_lt p.number c.seat_count ≡ true = grind (arith, common_steps) in
     let in_slots : nat_lt i c.slot_count ≡ true = lt-ltb i c.slot_count (omega arith) in
     let reads = k.table.states i below in
     let kept : Goes n s k (record { seat = p.number; act = core.Claim i }) (slot_words * i)

@@ -2,9 +2,9 @@
 use Rattle.rv_slotcore.specs.Places.{done_bit, generation_bit, last_generation, seats_at_most}
 use Rattle.rv_slotcore.specs.Places.{slot_words}
 use Rattle.std.proofs.Common.{◌≡◌, ◌≢◌, ◌⊎◌, ℕ, ◌+◌, ◌*◌, ◌/◌, ◌^◌, ◌<◌, ◌≤◌, Bool}
-use Rattle.std.proofs.Common.{true, false, ◌&&◌, nat_lt, List, [], ◌∷◌, get_or}
+use Rattle.std.proofs.Common.{true, false, nat_lt, List, [], ◌∷◌, get_or}
 use Rattle.std.proofs.Common.{bit_or, Contains, sym, refl, ap, ◌∙◌}
-use Rattle.std.proofs.Common.{subst, arith, inl, inr, ⊎_elim, lt-ltb}
+use Rattle.std.proofs.Common.{subst, arith, ⊎_elim, lt-ltb}
 use mathlib.Core.Option.{none}
 use Rattle.atomic_table.specs.Table.{Me, step, Allows}
 use Rattle.rv_slotcore.specs.Machine.{Core, Step, Slot, Seat, Act, Moved, put_at, with_both}
@@ -18,16 +18,18 @@ use Rattle.rv_slots.specs.Rule.{Kept, Marked}
 use Rattle.rv_slots.specs.Rule.{HasMark}
 use Rattle.rv_slots.proofs.Words.{state_changes, loads}
 use Rattle.rv_slots.proofs.Words.{reads_done, reads_free}
-use Rattle.rv_slots.proofs.Knowing.{knows, shown_idle, shown_pinned}
-use Rattle.rv_slots.proofs.Knowing.{in_head, in_tail, in_cons}
+use Rattle.rv_slots.proofs.Knowing.{knows, shown_pinned}
+use Rattle.rv_slots.proofs.Knowing.{in_head, in_tail}
 use Rattle.rv_slots.proofs.Seating.{Goes, allows_of, one, keeps_by, marked_same}
 use Rattle.rv_slots.proofs.Seating.{whole_same, field_same}
 use Rattle.std.proofs.Common.{eqb, ◌==◌, true≢false, eq-eqb, ne_eqb}
 use Rattle.std.proofs.lemmas.Bool.{cases_lt}
+use Rattle.std.proofs.lemmas.Grind.{common_steps}
+use Rattle.std.proofs.Common.{rules}
 use prog.Atomic.{either}
 use Rattle.atomic_table.proofs.Lists.{exchanged}
 use Rattle.rv_slotcore.proofs.Words.{one_word, word_reads}
-use Rattle.rv_slots.specs.Lines.{the_view, finished, freed, free_marks, done_told, free_told}
+use Rattle.rv_slots.specs.Lines.{the_view, finished, freed, done_told, free_told}
 use Rattle.rv_slots.specs.Steps.{DoneIsStep, FreeIsStep, of_seat}
 use Rattle.rv_slots.specs.Knows.{IsIdle, IsPinned}
 
@@ -57,12 +59,7 @@ module _ (F : SeatView → List Mark) (seat : ℕ → SeatView) (s : ℕ) (p' : 
   -- a mark is the new one or an old one
   pub mark_origin : (t : ℕ) (z : Mark) → Contains (F (put_at seat s p' t)) z → (m ≡ z) ⊎ Contains
       (F (seat t)) z
-  mark_origin t z = put_cases (λ v. Contains (F v) z → (m ≡ z) ⊎ Contains (F (seat t)) z) seat s t
-      p'
-      (λ e c. ⊎_elim (λ d. inl d)
-      (λ d. inr (subst (λ (u : ℕ). Contains (F (seat u)) z) (sym e) d))
-      (in_cons m z (F (seat s)) (subst (λ (l : List Mark). Contains l z) more c)))
-      (λ _ c. inr c)
+  mark_origin t z = grind (arith, common_steps)
 
 -- a finishing exchange is the machine's step
 pub finishes_go : DoneIsStep
@@ -71,8 +68,7 @@ finishes_go n slots id q i me holds below s k at small = let a = holds.alone in
     let f = knows n s k id q me a at in let c : Core = k.core in let w : ℕ = get_or s.words
     (slot_words * i) 0 in
     let number = f.small in let slot_count = k.counts.0 in let seat_count = k.counts.1 in
-    let in_seats : nat_lt p.number c.seat_count ≡ true = lt-ltb p.number c.seat_count
-    (omega arith) in
+    let in_seats : nat_lt p.number c.seat_count ≡ true = grind (arith, common_steps) in
     let p' : SeatView = finished p i w in let reads = k.table.states i below in let x : Slot =
     core.done_slot (c.slots i) in let g : ℕ = (c.slots i).generation in
     let was = shown_pinned (c.seats p.number).state i _ (sym holds.state ∙ f.fits.state) in
@@ -81,20 +77,10 @@ finishes_go n slots id q i me holds below s k at small = let a = holds.alone in
     let still = mark_still (λ z. z.dones) k.seat p.number p' (mark i g) dones in let new =
     mark_new (λ z. z.dones) k.seat p.number p' (mark i g) dones in let origin = mark_origin
     (λ z. z.dones) k.seat p.number p' (mark i g) dones in
-    let frees : (t : ℕ) → (put_at k.seat p.number p' t).frees ≡ (k.seat t).frees = field_same
-    (λ z. z.frees) k.seat p.number p' (ap (λ (z : SeatView). z.frees) (sym f.is)) in
+    let frees : (t : ℕ) → (put_at k.seat p.number p' t).frees ≡ (k.seat t).frees =
+    grind (arith, common_steps) in
     let marked : Marked (put_at c.slots i x) (put_at k.seat p.number p') = record {
-      marks = λ m. put_cases (λ z. z.done ≡ true → (t : ℕ) × (t < seats_at_most) × HasMark
-          (put_at k.seat p.number p' t).dones m z.generation) c.slots i m x
-          (λ e _. (
-            p.number,
-            f.small,
-            subst
-                (λ (u : ℕ). HasMark (put_at k.seat p.number p' p.number).dones u g)
-                (sym e) new,
-          ))
-          (λ _ d. let o = k.marked.marks m d in
-          (o.0, o.1, still o.0 (mark m (c.slots m).generation) o.2));
+      marks = grind (arith, common_steps);
       marked = λ t m h l c'. put_cases
           (λ z. (h ≤ z.generation) × (h ≡ z.generation → z.done ≡ true)) c.slots i m x
           (λ e. (
@@ -139,9 +125,7 @@ moves_free : (c : Core) (s i seen : ℕ) (b : Bool) → nat_lt s c.seat_count �
     → (seen / 2 ^ generation_bit == last_generation) ≡ false → (core.word_of (c.slots i) == seen)
     ≡ b
     → moves c s (core.Free i seen) ≡ core.frees_if c s i true false b
-moves_free c s i seen b h g e fit low same =
-    (λ k. if_fits c s (h k && g k) (core.frees c s i seen (e k))) ∙
-    (λ k. core.frees_if c s i (fit k) (low k) (same k))
+moves_free c s i seen b h g e fit low same = grind (arith, common_steps)
 
 -- a freeing exchange is the machine's step
 pub frees_go : FreeIsStep
@@ -150,28 +134,23 @@ frees_go n slots id q i seen me idle below fit low s k at small = let a = idle.a
     let f = knows n s k id q me a at in let c : Core = k.core in let w : ℕ = get_or s.words
     (slot_words * i) 0 in
     let number = f.small in let slot_count = k.counts.0 in let seat_count = k.counts.1 in
-    let in_seats : nat_lt p.number c.seat_count ≡ true = lt-ltb p.number c.seat_count
-    (omega arith) in
+    let in_seats : nat_lt p.number c.seat_count ≡ true = grind (arith, common_steps) in
     let p' : SeatView = freed p i seen w in let reads = k.table.states i below in let next : ℕ =
     (seen / 2 ^ generation_bit + 1) * 2 ^ generation_bit in
     let in_slots : nat_lt i c.slot_count ≡ true = lt-ltb i c.slot_count (omega arith) in
-    let resting : (c.seats p.number).state ≡ core.Idle = shown_idle (c.seats p.number).state
-    (sym idle.state ∙ f.fits.state) in
-    let last : (seen / 2 ^ generation_bit == last_generation) ≡ false = ne_eqb
-    (seen / 2 ^ generation_bit) last_generation low in
-    let own : core.word_of (c.slots i) ≡ w = one_word (core.word_of (c.slots i)) w (c.slots i)
-    (word_reads (c.slots i)) reads in
+    let resting : (c.seats p.number).state ≡ core.Idle = grind (arith, common_steps) in
+    let last : (seen / 2 ^ generation_bit == last_generation) ≡ false =
+    grind (arith, common_steps) in
+    let own : core.word_of (c.slots i) ≡ w = search (one_word, word_reads) in
     let kept : Goes n s k (record { seat = p.number; act = core.Free i seen }) (slot_words * i)
     (either (eqb w seen) next w) id [] p' = exchanged w seen next
     (λ z. Goes n s k (record { seat = p.number; act = core.Free i seen })
     (slot_words * i) z id [] p')
     (λ hit. let x : Slot = core.freed_slot (c.slots i) in let g : ℕ = (c.slots i).generation
     in
-    let gen : seen / 2 ^ generation_bit ≡ g = ap (λ (z : ℕ). z / 2 ^ generation_bit)
-    (sym hit) ∙ reads.generation in
+    let gen : seen / 2 ^ generation_bit ≡ g = grind (arith, common_steps) in
     let frees : p'.frees ≡ mark i g ∷ (k.seat p.number).frees =
-    (λ j. free_marks p i (gen j) (eq-eqb w seen hit j)) ∙
-    (λ j. mark i g ∷ (sym f.is j).frees) in
+    search (eq-eqb, rules) in
     let still = mark_still (λ z. z.frees) k.seat p.number p' (mark i g) frees in let new =
     mark_new (λ z. z.frees) k.seat p.number p' (mark i g) frees in let origin =
     mark_origin (λ z. z.frees) k.seat p.number p' (mark i g) frees in
@@ -191,8 +170,7 @@ frees_go n slots id q i seen me idle below fit low s k at small = let a = idle.a
       marked = λ t m h l c'. let o = k.marked.marked t m h l
           (subst (λ (z : List Mark). HasMark z m h) (dones t) c') in put_cases
           (λ z. (h ≤ z.generation) × (h ≡ z.generation → z.done ≡ true)) c.slots i m x
-          (λ e. let is : (c.slots m).generation ≡ g = ap
-          (λ (u : ℕ). (c.slots u).generation) e in let most = o.0 in
+          (λ e. let is : (c.slots m).generation ≡ g = grind (arith, common_steps) in let most = o.0 in
           (omega arith, λ d. absurd (omega arith))) (λ _. o);
       freed = λ m h. put_cases (λ z. h < z.generation → (t : ℕ) × (t < seats_at_most)
           × HasMark (put_at k.seat p.number p' t).frees m h) c.slots i m x
@@ -217,8 +195,7 @@ frees_go n slots id q i seen me idle below fit low s k at small = let a = idle.a
           (λ ne. absurd (ne (sym (ap (λ (z : Mark). z.slot) d)))))
           (λ old. let o = k.marked.older t m h l old in put_cases
           (λ z. h < z.generation) c.slots i m x
-          (λ e. let is : (c.slots m).generation ≡ g = ap
-          (λ (u : ℕ). (c.slots u).generation) e in omega arith) (λ _. o))
+          (λ e. let is : (c.slots m).generation ≡ g = grind (arith, common_steps) in omega arith) (λ _. o))
           (origin t (mark m h) c');
     } in
     keeps_by n s id (slot_words * i) next p p' k f.here refl (with_slot c i x)
@@ -230,8 +207,7 @@ frees_go n slots id q i seen me idle below fit low s k at small = let a = idle.a
     (reads_free (seen / 2 ^ generation_bit) (c.slots i) gen) refl)
     (record { state = f.fits.state; records = f.fits.records }) (λ t ne. refl) marked
     (whole_same k.seat p.number p' k.whole (ap (λ (z : SeatView). z.records) (sym f.is))))
-    (λ miss. let frees : p'.frees ≡ p.frees = ap (free_marks p i (seen / 2 ^ generation_bit))
-    (ne_eqb w seen miss) in
+    (λ miss. let frees : p'.frees ≡ p.frees = search (ne_eqb, rules) in
     keeps_by n s id (slot_words * i) w p p' k f.here refl c
     (record { seat = p.number; act = core.Free i seen })
     (ap (λ (m : Moved). m.0)

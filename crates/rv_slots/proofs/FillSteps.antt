@@ -5,6 +5,8 @@ use Rattle.std.proofs.Common.{◌≡◌, ℕ, zero, suc, ◌+◌, ◌*◌, ◌/�
 use Rattle.std.proofs.Common.{true, ◌&&◌, nat_lt, List, [], ◌∷◌, get_or}
 use Rattle.std.proofs.Common.{set, bit_or, Option, Some, None, Contains, sym, refl, ap, ◌∙◌}
 use Rattle.std.proofs.Common.{subst, arith, lt-ltb}
+use Rattle.std.proofs.Common.{rules}
+use Rattle.std.proofs.lemmas.Grind.{common_steps}
 use mathlib.Core.Option.{none}
 use Rattle.atomic_table.specs.Table.{Me, step, Allows}
 use Rattle.rv_slotcore.specs.Machine.{Core, Step, Slot, Seat, Act, Moved, put_at, with_both}
@@ -18,7 +20,7 @@ use Rattle.rv_slots.specs.Rule.{Fits, Kept}
 use Rattle.rv_slots.specs.Rule.{WordsFit}
 use Rattle.rv_slots.proofs.Words.{state_changes, content_changes, reads_full}
 use Rattle.rv_slots.proofs.Knowing.{knows}
-use Rattle.rv_slots.proofs.Knowing.{shown_filling, safe_of, in_head}
+use Rattle.rv_slots.proofs.Knowing.{safe_of, in_head}
 use Rattle.rv_slots.proofs.Seating.{Goes, allows_of, one, keeps_by, marked_same}
 use Rattle.rv_slots.proofs.Seating.{whole_same, slot_same}
 use Rattle.rv_slots.specs.Lines.{the_view, put_line, published, put_in, put_told, publish_told}
@@ -38,11 +40,9 @@ puts_go n slots id q i j v me fills below within s k at small = let a = fills.al
     let f = knows n s k id q me a at in let c : Core = k.core in let w : ℕ = get_or s.words
     (slot_words * i) 0 in
     let number = f.small in let slot_count = k.counts.0 in let seat_count = k.counts.1 in
-    let in_seats : nat_lt p.number c.seat_count ≡ true = lt-ltb p.number c.seat_count
-    (omega arith) in
+    let in_seats : nat_lt p.number c.seat_count ≡ true = grind (arith, common_steps) in
     let pp : List (Option ℕ) = put_in p.state in let p' : SeatView = put_line p i j v in
-    let was : (c.seats p.number).state ≡ core.Filling i pp = shown_filling
-    (c.seats p.number).state i pp (sym fills.state ∙ f.fits.state) in
+    let was : (c.seats p.number).state ≡ core.Filling i pp = grind (arith, common_steps) in
     let r : Seat = in_state (c.seats p.number) (core.Filling i (set pp j (Some v))) in
     let x : Slot = core.written_slot (c.slots i) j v in
     let kept : Goes n s k (record { seat = p.number; act = core.Put j v })
@@ -87,12 +87,10 @@ publishes_go n slots id q i me fills all text below s k at small = let a = fills
     let f = knows n s k id q me a at in let c : Core = k.core in let w : ℕ = get_or s.words
     (slot_words * i) 0 in
     let number = f.small in let slot_count = k.counts.0 in let seat_count = k.counts.1 in
-    let in_seats : nat_lt p.number c.seat_count ≡ true = lt-ltb p.number c.seat_count
-    (omega arith) in
+    let in_seats : nat_lt p.number c.seat_count ≡ true = grind (arith, common_steps) in
     let pp : List (Option ℕ) = put_in p.state in let p' : SeatView = published p i w in let safe =
     safe_of n s k in let reads = k.table.states i below in
-    let was : (c.seats p.number).state ≡ core.Filling i pp = shown_filling
-    (c.seats p.number).state i pp (sym fills.state ∙ f.fits.state) in
+    let was : (c.seats p.number).state ≡ core.Filling i pp = grind (arith, common_steps) in
     let made : core.Record = record {
       slot = i;
       generation = (c.slots i).generation;
@@ -112,15 +110,7 @@ publishes_go n slots id q i me fills all text below s k at small = let a = fills
     (subst (λ z. Fits p' z) (sym (put_here c.seats p.number r))
     (record {
       state = refl;
-      records = (
-        record {
-          slot = refl;
-          generation = reads.generation;
-          long = (safe.filling.fills p.number i pp was).2;
-          words = put_fits pp;
-        },
-        f.fits.records,
-      );
+      records = search (put_fits, rules);
     }))
     (λ t ne. put_else c.seats p.number t r ne)
     (marked_same c.slots (put_at c.slots i x) k.seat p.number p' k.marked

@@ -4,7 +4,7 @@ use Rattle.rv_chunk.specs.Chunks.{is_chunk_text}
 use Rattle.std.proofs.Common.{◌≡◌, ◌⊎◌, ℕ, zero, suc, ◌+◌, ◌*◌, ◌<◌}
 use Rattle.std.proofs.Common.{true, ◌&&◌, nat_lt, List, [], ◌∷◌, length, get_or}
 use Rattle.std.proofs.Common.{set, Option, Some, None, Contains, sym, refl, ap, ◌∙◌}
-use Rattle.std.proofs.Common.{subst, arith, inl, inr, ⊎_elim, lt-ltb}
+use Rattle.std.proofs.Common.{subst, arith, ⊎_elim, lt-ltb}
 use Rattle.std.proofs.lemmas.Bool.{cases_Bool}
 use mathlib.Core.Option.{none}
 use Rattle.atomic_table.specs.Table.{Me, step, Allows}
@@ -23,11 +23,12 @@ use Rattle.rv_slots.proofs.Knowing.{safe_of, in_head, in_tail, in_cons}
 use Rattle.rv_slots.proofs.Knowing.{fit_there}
 use Rattle.rv_slots.proofs.Seating.{Goes, allows_of, one, keeps_by, marked_same}
 use Rattle.std.proofs.Common.{length-set, get_or-set_other, drop}
-use Rattle.std.proofs.lemmas.Grind.{get_or-set_at}
+use Rattle.std.proofs.Common.{rules}
+use Rattle.std.proofs.lemmas.Grind.{common_steps}
 use mathlib.Core.Logic.{dite}
 use native.Mathlib.Decide.{ℕ_discrete}
 use Rattle.rv_slotcore.proofs.Invariant.{whole_is}
-use Rattle.rv_slots.specs.Lines.{the_view, got, got_in, get_told, known, pin_words, IsText}
+use Rattle.rv_slots.specs.Lines.{the_view, got, get_told, known, pin_words, IsText}
 use Rattle.rv_slots.specs.Steps.{GetIsStep, of_seat}
 use Rattle.rv_slots.specs.Knows.{IsPinned, pin_record, pinned_at}
 
@@ -52,8 +53,7 @@ fits_more r q j w f e = let wide = f.long in record {
   long = length-set r.words j (Some w) ∙ f.long;
   words = λ k v h. dite (ℕ_discrete k j)
       (λ d. ⊎_elim
-      (λ low. let s : Some w ≡ Some v = sym (get_or-set_at r.words j k (Some w) None d low)
-      ∙ h in let same : w ≡ v = cc in ap (λ (u : ℕ). get_or q.content u 0) d ∙ (e ∙ same))
+      (λ low. let s : Some w ≡ Some v = grind (arith, common_steps) in let same : w ≡ v = cc in ap (λ (u : ℕ). get_or q.content u 0) d ∙ (e ∙ same))
       (λ high. f.words k v
       (sym (ap (λ (l : List (Option ℕ)). get_or l k None)
       (Rattle.std.proofs.lemmas.List.set_past r.words j (Some w) high)) ∙ h))
@@ -78,14 +78,7 @@ whole_with : (seat : ℕ → SeatView) (s : ℕ) (p' : SeatView) (r r' : Record)
     (put_at seat s p')
 whole_with seat s p' r r' rs m l was is slot gen all text =
     let origin : (t : ℕ) (z : Record) → Contains (put_at seat s p' t).records z →
-    ((r' ≡ z) × (t ≡ s)) ⊎ Contains (seat t).records z = λ t z. put_cases
-    (λ v. Contains v.records z → ((r' ≡ z) × (t ≡ s)) ⊎ Contains (seat t).records z) seat s t
-    p'
-    (λ e c. ⊎_elim (λ d. inl (d, e))
-    (λ d. inr (subst (λ (u : ℕ). Contains (seat u).records z) (sym e)
-    (subst (λ (y : List Record). Contains y z) (sym was) (in_tail r z rs d))))
-    (in_cons r' z rs (subst (λ (y : List Record). Contains y z) is c)))
-    (λ _ c. inr c) in
+    ((r' ≡ z) × (t ≡ s)) ⊎ Contains (seat t).records z = grind (arith, common_steps) in
     let still : (t : ℕ) (z : Record) → Contains (seat t).records z → core.all_put z.words ≡ true →
     (y : Record) × Contains (put_at seat s p' t).records y × (y.slot ≡ z.slot) ×
     (y.generation ≡ z.generation) × (core.all_put y.words ≡ true) =
@@ -140,8 +133,7 @@ gets_go n slots id q i j me holds below within s k at small = let a = holds.alon
     let f = knows n s k id q me a at in let c : Core = k.core in let w : ℕ = get_or s.words
     (slot_words * i + (1 + j)) 0 in
     let number = f.small in let slot_count = k.counts.0 in let seat_count = k.counts.1 in
-    let in_seats : nat_lt p.number c.seat_count ≡ true = lt-ltb p.number c.seat_count
-    (omega arith) in
+    let in_seats : nat_lt p.number c.seat_count ≡ true = grind (arith, common_steps) in
     let p' : SeatView = got p i j w in let safe = safe_of n s k in
     let was = shown_pinned (c.seats p.number).state i (pinned_at p.state)
     (sym holds.state ∙ f.fits.state) in
@@ -152,14 +144,10 @@ gets_go n slots id q i j me holds below within s k at small = let a = holds.alon
       generation = pinned_at p.state;
       content = was.0;
     } in
-    let both : RecordsFit (r ∷ rs) (made ∷ law.3) = subst
-    (λ (z : List Record × List core.Record). RecordsFit z.0 z.1)
-    (λ u. (holds.records u, law.4 u)) f.fits.records in
-    let is : get_or was.0 j 0 ≡ w = ap (λ (l : List ℕ). get_or l j 0) (sym law.2) ∙ sym
-    (k.table.contents i j below within) in
+    let both : RecordsFit (r ∷ rs) (made ∷ law.3) = grind (arith, common_steps) in
+    let is : get_or was.0 j 0 ≡ w = search rules in
     let more = fits_more r made j w both.0 is in
-    let records_are : p'.records ≡ with_word r j w ∷ rs = ap
-    (λ (l : List Record). got_in l j w) holds.records in
+    let records_are : p'.records ≡ with_word r j w ∷ rs = grind (arith, common_steps) in
     let text : core.all_put (set r.words j (Some w)) ≡ true → is_chunk_text
     (core.put_words (set r.words j (Some w))) ≡ true = λ all.
     let o = k.whole.whole p.number r f.small
@@ -171,10 +159,8 @@ gets_go n slots id q i j me holds below within s k at small = let a = holds.alon
     (subst (λ (l : List core.Record). Contains l made) (sym law.4) (in_head made law.3))
     (sym there.2.slot ∙ (o.4 ∙ both.0.slot))
     (sym there.2.generation ∙ (o.5 ∙ both.0.generation)) in
-    let wide : length was.0 ≡ 58 = ap (λ (l : List ℕ). length l) (sym law.2)
-    ∙ safe.filling.long i in
-    let mine : core.put_words (set r.words j (Some w)) ≡ was.0 = whole_is
-    (set r.words j (Some w)) was.0 all (more.long ∙ sym wide) more.words in
+    let wide : length was.0 ≡ 58 = search rules in
+    let mine : core.put_words (set r.words j (Some w)) ≡ was.0 = search (whole_is, rules) in
     let theirs : core.put_words o.1.words ≡ there.0.content =
     whole_is o.1.words there.0.content o.6
     (there.2.long ∙ sym (ap (λ (l : List ℕ). length l) agree ∙ wide)) there.2.words in
@@ -188,9 +174,7 @@ gets_go n slots id q i j me holds below within s k at small = let a = holds.alon
     (loads n s.words c.slots (slot_words * i + (1 + j)) k.table)
     (record {
       state = f.fits.state;
-      records = subst
-          (λ (z : List Record × List core.Record). RecordsFit z.0 z.1)
-          (λ u. (sym records_are u, sym law.4 u)) (more, both.1);
+      records = grind (arith, common_steps);
     })
     (λ t ne. refl)
     (marked_same c.slots c.slots k.seat p.number p' k.marked (λ u. refl) (λ u. refl)

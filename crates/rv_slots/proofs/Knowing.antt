@@ -1,8 +1,9 @@
 -- What the rule says of the seat that steps.
 use Rattle.rv_slotcore.specs.Places.{seats_at_most}
 use Rattle.std.proofs.Common.{◌≡◌, ◌⊎◌, ℕ, zero, suc, ◌<◌, List, [], ◌∷◌}
-use Rattle.std.proofs.Common.{length, slice_index_or, Contains, Option, refl, ap, ◌∙◌, subst}
+use Rattle.std.proofs.Common.{length, slice_index_or, Contains, Option, refl, ap, subst}
 use Rattle.std.proofs.Common.{arith, inl, inr, ⊎_elim}
+use Rattle.std.proofs.lemmas.Grind.{common_steps}
 use mathlib.Core.Option.{some}
 use lib.ListN.{get_elem?}
 use Rattle.atomic_table.specs.Table.{State, Me}
@@ -38,16 +39,7 @@ pub record Knows {n : ℕ} {s : State (Unit {0}) View} (k : Kept n s) (id : ℕ)
 pub knows : (n : ℕ) (s : State (Unit {0}) View) (k : Kept n s) (id q : ℕ)
     (me : Me (Unit {0}) View) → IsAlone q me → get_elem? s.views id ≡ some me.0 → Knows k id
     (the_view me.0)
-knows n s k id q me a at = let p : SeatView = the_view me.0 in let here : get_elem? s.views id
-    ≡ some (one p) = at ∙ ap (λ (m : Me (Unit {0}) View). some m.0) a.one in
-    let is = seat_is s.views k.seat k.row k.column k.seated id p here in
-    record {
-      here = here;
-      small = is.0;
-      is = is.3;
-      fits = subst
-          (λ z. Fits z (k.core.seats p.number)) is.3 (k.fits p.number is.0);
-    }
+knows n s k id q me a at = grind (arith, common_steps, get_elem?, some, one, seat_is)
 
 -- who is shown as pinned is pinned
 pub shown_pinned : (st : core.SeatState) (i g : ℕ) → Pinned i g ≡ shown st → (w : List ℕ) ×

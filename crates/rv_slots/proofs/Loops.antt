@@ -1,9 +1,8 @@
 -- What the calls of a carrier come to: the loops that put and get 58 words, and a pin let go.
 use Rattle.std.proofs.Common.{◌≡◌, ℕ, suc, ◌+◌, ◌<◌, ◌≤◌, true, List, []}
 use Rattle.std.proofs.Common.{◌∷◌, length, get_or, set, Option, Some, None, sym, refl, ap, ◌∙◌}
-use Rattle.std.proofs.Common.{subst, arith, get_or-set_other, ⊎_elim, drop}
-use Rattle.std.proofs.lemmas.Grind.{get_or-set_at}
-use Rattle.std.proofs.lemmas.Bool.{cases_eq}
+use Rattle.std.proofs.Common.{subst, arith, drop}
+use Rattle.std.proofs.lemmas.Grind.{common_steps}
 use Rattle.rv_slotcore.specs.Machine.{all_put, put_words}
 use Rattle.rv_slots.specs.declared.views.Record.{Record}
 use Rattle.rv_slots.specs.declared.views.SeatView.{SeatView}
@@ -26,13 +25,7 @@ has_none ws xs m h = absurd (omega arith)
 pub has_more : (ws vs : List (Option ℕ)) (xs ys : List ℕ) (j w : ℕ) → length ws ≡ 58 → j < 58
     → HasWords ws xs j → vs ≡ set ws j (Some w) → get_or ys j 0 ≡ w →
     ((m : ℕ) → m < j → get_or ys m 0 ≡ get_or xs m 0) → HasWords vs ys (j + 1)
-has_more ws vs xs ys j w long within h is here same m l = ap
-    (λ (z : List (Option ℕ)). get_or z m None) is ∙ ⊎_elim
-    (λ e. get_or-set_at ws j m (Some w) None e (omega arith) ∙
-    (ap Some (sym here) ∙ ap (λ (u : ℕ). Some (get_or ys u 0)) (sym e)))
-    (λ ne. get_or-set_other ws j m (Some w) None ne ∙
-    (h m (omega arith) ∙ ap Some (sym (same m (omega arith)))))
-    (cases_eq m j)
+has_more ws vs xs ys j w long within h is here same m l = grind (arith, common_steps)
 
 -- all words are there
 pub all_there : (ws : List (Option ℕ)) (xs : List ℕ) → length ws ≡ length xs → HasWords ws xs

@@ -3,13 +3,13 @@ use Rattle.rv_slotcore.specs.Places.{last_seat, seats_at_most}
 use Rattle.std.proofs.Common.{◌≡◌, ◌⊎◌, ℕ, zero, suc, ◌+◌, ◌-◌, ◌*◌, ◌<◌, ◌≤◌, List, [], ◌∷◌}
 use Rattle.std.proofs.Common.{◌++◌, length, sym, refl, ap, ◌∙◌, subst, arith, ⊎_elim}
 use Rattle.std.proofs.Common.{length-append, replicate}
+use Rattle.std.proofs.lemmas.Grind.{common_steps}
 use Rattle.atomic_table.specs.Table.{Me, Splits}
 use Rattle.atomic_table.specs.Seated.{TableId}
 use Rattle.rv_slots.specs.declared.views.View.{View}
 use Rattle.rv_slots.specs.declared.seats.Seat.{Seat}
-use Rattle.rv_slots.specs.Lines.{the_view, fresh, fresh_seats, cut_left, cut_right, only}
+use Rattle.rv_slots.specs.Lines.{fresh, fresh_seats, cut_left, cut_right, only}
 use Rattle.rv_slots.specs.Knows.{IsIdle}
-use Rattle.rv_slots.specs.Calls.{view_of}
 use Rattle.rv_slots.specs.Opening.{AreSeats}
 use Rattle.rv_slots.specs.Rule.{Kept}
 use Rattle.rv_slots.proofs.Places.{cuts, in_longer}
@@ -20,9 +20,7 @@ Mine = Me (Unit {0}) View
 -- the seats that are left
 pub rest_is : (k : ℕ) → k ≤ last_seat → fresh_seats (seats_at_most - k) ≡ fresh k ∷ fresh_seats
     (last_seat - k)
-rest_is k h = let e : seats_at_most - k ≡ suc (last_seat - k) = omega arith in let f : last_seat -
-    (last_seat - k) ≡ k = omega arith in ap fresh_seats e ∙ ap
-    (λ (z : ℕ). fresh z ∷ fresh_seats (last_seat - k)) f
+rest_is k h = grind (arith, common_steps)
 
 -- one more is cut off
 pub next_cuts : (n id k : ℕ) (m : Mine) → k ≤ last_seat → m ≡
@@ -35,9 +33,7 @@ next_cuts n id k m h e = cuts n id m.0 (fresh k) (fresh_seats (last_seat - k))
 pub left_is : (k : ℕ) (m w : Mine) → k ≤ last_seat → m ≡
     (record { seats = fresh_seats (seats_at_most - k) }, []) → w ≡ (cut_left m.0, m.1) → w ≡ only
     (fresh k)
-left_is k m w h e f = f ∙
-    ((λ j. (cut_left (e j).0, (e j).1)) ∙
-    (λ j. (cut_left (record { seats = rest_is k h j }), [])))
+left_is k m w h e f = grind (arith, common_steps)
 
 -- and the others
 pub right_is : (k : ℕ) (m w : Mine) → k ≤ last_seat → m ≡
@@ -48,32 +44,13 @@ right_is k m w h e f = f ∙
 
 -- a fresh seat is idle
 pub idle_fresh : (k : ℕ) (w : Mine) → k ≤ last_seat → w ≡ only (fresh k) → IsIdle k w
-idle_fresh k w h e = record {
-  alone = record {
-    small = omega arith;
-    one = e ∙ (λ j. only (the_view (sym e j).0));
-    named = ap
-        (λ (z : Mine). (the_view z.0).number) e;
-  };
-  state = ap (λ (z : Mine). (the_view z.0).state) e;
-}
+idle_fresh k w h e = grind (arith, common_steps)
 
 -- one seat more
 pub more_seats : (t : TableId) (l : List Seat) (k : ℕ) (s : Seat) → AreSeats t l k
     → s.place.table_id ≡ t → s.number ≡ k → s.place.me ≡ only (fresh k) → AreSeats t (l ++ s ∷ [])
     (k + 1)
-more_seats t l k s a same named e = let n = a.0 in (
-  length-append l (s ∷ []) ∙ (let f : length l + 1 ≡ k + 1 = omega arith in f),
-  λ j z at. ⊎_elim
-      (λ last. let is : j ≡ k = last.0 ∙ n in (
-        ap (λ (y : Seat). y.place.table_id) (sym last.1)
-            ∙ same,
-        ap (λ (y : Seat). y.number) (sym last.1) ∙ (named ∙ sym is),
-        ap view_of
-            (sym last.1) ∙ (ap (λ (y : Mine). the_view y.0) e ∙ ap fresh (sym is)),
-      ))
-      (λ old. a.1 j z old.1) (in_longer l s z j at),
-)
+more_seats t l k s a same named e = grind (arith, common_steps, length-append, ⊎_elim, in_longer)
 
 -- at the end of the list
 pub seats_pushed : (t : TableId) (l m : List Seat) (k : ℕ) (s : Seat) → m ≡ l ++ s ∷ []

@@ -4,8 +4,10 @@ use Rattle.rv_chunk.specs.Chunks.{is_chunk_text}
 use Rattle.std.proofs.Common.{◌≡◌, ◌⊎◌, ℕ, ◌*◌, ◌/◌, ◌^◌, ◌<◌}
 use Rattle.std.proofs.Common.{Bool, true, false, not, ◌&&◌, nat_lt, List, [], ◌∷◌}
 use Rattle.std.proofs.Common.{get_or, bit_or, Contains, sym, refl, ap}
-use Rattle.std.proofs.Common.{◌∙◌, subst, arith, inl, inr, ⊎_elim, lt-ltb}
+use Rattle.std.proofs.Common.{◌∙◌, subst, arith, ⊎_elim, lt-ltb}
 use Rattle.std.proofs.lemmas.Bool.{cases_Bool}
+use Rattle.std.proofs.Common.{rules}
+use Rattle.std.proofs.lemmas.Grind.{common_steps}
 use mathlib.Core.Option.{none}
 use Rattle.atomic_table.specs.Table.{Me, step, Allows}
 use Rattle.rv_slotcore.specs.Machine.{Core, Step, Slot, Seat, Act, Moved, put_at, with_both}
@@ -21,8 +23,8 @@ use Rattle.rv_slots.specs.declared.views.SeatState.TheVariants.{Pinned, Stray}
 use Rattle.rv_slots.specs.Rule.{Fits, Kept, Whole, RecordsFit}
 use Rattle.rv_slots.proofs.Words.{state_changes}
 use Rattle.rv_slots.proofs.Words.{reads_pin}
-use Rattle.rv_slots.proofs.Knowing.{knows, shown_idle}
-use Rattle.rv_slots.proofs.Knowing.{safe_of, in_tail, in_cons, fit_back}
+use Rattle.rv_slots.proofs.Knowing.{knows}
+use Rattle.rv_slots.proofs.Knowing.{safe_of, in_tail, fit_back}
 use Rattle.rv_slots.proofs.Knowing.{fit_there}
 use Rattle.rv_slots.proofs.Seating.{Goes, allows_of, one, keeps_by, marked_same}
 use Rattle.rv_slots.proofs.Seating.{whole_same, slot_same}
@@ -51,12 +53,7 @@ whole_more seat s p' w m l more has text =
     (in_tail w r (seat s).records (subst (λ (u : ℕ). Contains (seat u).records r) e c)))
     (λ _. c) in
     let origin : (t : ℕ) (r : Record) → Contains (put_at seat s p' t).records r → (w ≡ r)
-    ⊎ Contains (seat t).records r = λ t r. put_cases
-    (λ z. Contains z.records r → (w ≡ r) ⊎ Contains (seat t).records r) seat s t p'
-    (λ e c. ⊎_elim (λ d. inl d)
-    (λ d. inr (subst (λ (u : ℕ). Contains (seat u).records r) (sym e) d))
-    (in_cons w r (seat s).records (subst (λ (z : List Record). Contains z r) more c)))
-    (λ _ c. inr c) in
+    ⊎ Contains (seat t).records r = grind (arith, common_steps) in
     record {
       whole = λ t r h c. ⊎_elim
           (λ e. (
@@ -86,11 +83,9 @@ pins_go n slots id q i me idle below s k at small =
     let f = knows n s k id q me a at in let c : Core = k.core in let w : ℕ = get_or s.words
     (slot_words * i) 0 in let p' : SeatView = pinned p i w in
     let safe = safe_of n s k in
-    let resting : (c.seats p.number).state ≡ core.Idle = shown_idle (c.seats p.number).state
-    (sym idle.state ∙ f.fits.state) in
+    let resting : (c.seats p.number).state ≡ core.Idle = grind (arith, common_steps) in
     let number = f.small in let slot_count = k.counts.0 in let seat_count = k.counts.1 in
-    let in_seats : nat_lt p.number c.seat_count ≡ true = lt-ltb p.number c.seat_count
-    (omega arith) in
+    let in_seats : nat_lt p.number c.seat_count ≡ true = grind (arith, common_steps) in
     let in_slots : nat_lt i c.slot_count ≡ true = lt-ltb i c.slot_count (omega arith) in
     let reads = k.table.states i below in
     let x : Slot = core.pinned_slot (c.slots i) p.number true in
@@ -111,11 +106,9 @@ pins_go n slots id q i me idle below s k at small =
     (bit_or w (2 ^ q)) id [] p' = λ full done hf hd none_here st rs.
     let r : Seat = in_state (c.seats p.number) (core.Stray i) in
     let state_is : p'.state ≡ Stray i =
-    (λ j. pin_state i (w / 2 ^ generation_bit) ((reads.full ∙ ap flag hf) j)
-    ((reads.done ∙ ap flag hd) j)) ∙ st in
+    grind (arith, common_steps) in
     let records_are : p'.records ≡ p.records =
-    (λ j. pin_records p i (w / 2 ^ generation_bit) ((reads.full ∙ ap flag hf) j)
-    ((reads.done ∙ ap flag hd) j)) ∙ rs in
+    grind (arith, common_steps) in
     keeps_by n s id (slot_words * i) (bit_or w (2 ^ q)) p p' k f.here refl
     (with_both c i x p.number r) (record { seat = p.number; act = core.Pin i })
     (ap (λ (m : Moved). m.0) (moves_pin c p.number i false in_seats in_slots resting
@@ -123,9 +116,7 @@ pins_go n slots id q i me idle below s k at small =
     (subst (λ z. Fits p' z) (sym (put_here c.seats p.number r))
     (record {
       state = state_is;
-      records = subst
-          (λ (l : List Record). RecordsFit l (c.seats p.number).records)
-          (sym records_are) f.fits.records;
+      records = grind (arith, common_steps);
     }))
     (λ t ne. put_else c.seats p.number t r ne) marked
     (whole_same k.seat p.number p' k.whole
@@ -140,11 +131,9 @@ pins_go n slots id q i me idle below s k at small =
     let r : Seat = core.recorded (c.seats p.number)
     (core.Pinned i g (c.slots i).content) made in
     let state_is : p'.state ≡ Pinned i g =
-    (λ j. pin_state i (reads.generation j) ((reads.full ∙ ap flag hf) j)
-    ((reads.done ∙ ap flag hd) j)) in
+    grind (arith, common_steps) in
     let records_are : p'.records ≡ new ∷ p.records =
-    (λ j. pin_records p i (reads.generation j) ((reads.full ∙ ap flag hf) j)
-    ((reads.done ∙ ap flag hd) j)) in
+    grind (arith, common_steps) in
     let old = safe.records.kept i hf in let few : old.0 < seats_at_most =
     (let l = old.2 in omega arith) in
     let view = fit_back (k.seat old.0).records (c.seats old.0).records old.1
@@ -164,8 +153,7 @@ pins_go n slots id q i me idle below s k at small =
               slot = refl;
               generation = refl;
               long = refl;
-              words = λ j v e. absurd
-                  (none_put 58 j v e);
+              words = search (none_put, rules);
             },
             f.fits.records,
           );
@@ -198,10 +186,10 @@ pins_go n slots id q i me idle below s k at small =
     let newest : IsNewest p (slot_words * i) w = λ r m e. let o = fit_there p.records
     (c.seats p.number).records r f.fits.records m in let d =
     (safe.records.dated p.number o.0 o.1).0 in
-    let fit = o.2 in let gen = fit.generation in let here : o.0.slot ≡ i = sym fit.slot ∙
-    (let z : r.slot ≡ i = omega arith in z) in
-    let same : (c.slots o.0.slot).generation ≡ w / 2 ^ generation_bit = ap
-    (λ (u : ℕ). (c.slots u).generation) here ∙ sym reads.generation in omega arith in
+    let fit = o.2 in let gen = fit.generation in let here : o.0.slot ≡ i =
+    grind (arith, common_steps) in
+    let same : (c.slots o.0.slot).generation ≡ w / 2 ^ generation_bit =
+    grind (arith, common_steps) in omega arith in
     let goes = subst (λ l. Goes n s k (record { seat = p.number; act = core.Pin i })
     (slot_words * i) (bit_or w (2 ^ q)) id l p') (sym bare) kept in
     (one p', goes.0, goes.1, ((i, refl, λ j. (one p', bare j)), newest))

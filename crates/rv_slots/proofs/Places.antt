@@ -10,7 +10,6 @@ use Rattle.atomic_table.specs.Table.{Me, step, Allows, keeps}
 use Rattle.rv_slotcore.specs.Machine.{Core, Step, Slot, Seat, Act, Moved, put_at, with_both}
 use Rattle.rv_slotcore.specs.Machine.{with_slot, in_state, if_fits, moves, after, flag, no_words}
 use Rattle.rv_slotcore.specs.Machine as core
-use Rattle.rv_slotcore.specs.Word.{Reads}
 use Rattle.rv_slotcore.proofs.Updates.{put_here, put_else}
 use Rattle.rv_slots.specs.declared.views.View.{View}
 use Rattle.rv_slots.specs.declared.views.SeatView.{SeatView}
@@ -21,6 +20,8 @@ use Rattle.rv_slots.proofs.Seating.{one, seat_is}
 use Rattle.std.proofs.Common.{◌-◌, pred, slice_index_or, take, drop, eqb, ◌==◌, if◌then◌else◌}
 use Rattle.std.proofs.Common.{eq-eqb, ne_eqb, replicate}
 use Rattle.std.proofs.lemmas.Bool.{cases_eq}
+use Rattle.std.proofs.lemmas.Grind.{common_steps}
+use Rattle.std.proofs.Common.{rules}
 use mathlib.Core.Option.{some-injective, some-ne-none}
 use mathlib.Core.Logic.{dite}
 use native.Mathlib.Decide.{ℕ_discrete}
@@ -42,9 +43,7 @@ in_longer (x ∷ l) a b (suc k) e = ⊎_elim (λ h. let n = h.0 in inl (omega ar
 
 choose : {A : Type 0} (P : A → Type 0) (a b : ℕ) (x y : A) → (a ≡ b → P x) → (a ≢ b → P y) → P
     (if a == b then x else y)
-choose P a b x y same other = dite (ℕ_discrete a b)
-    (λ e. subst (λ c. P (if c then x else y)) (sym (eq-eqb a b e)) (same e))
-    (λ n. subst (λ c. P (if c then x else y)) (sym (ne_eqb a b n)) (other n))
+choose P a b x y same other = grind (arith, common_steps)
 
 abbrev first_or : ℕ → ℕ → ℕ → ℕ
 first_or zero a b = a
@@ -83,18 +82,11 @@ module _ (views : List View) (seat : ℕ → SeatView) (row column : ℕ → ℕ
   )
 
   in_others : (k m : ℕ) (p : SeatView) → k ≢ id → At views k m p → At after_cut k m p
-  in_others k m p n a = (
-    a.0,
-    at_longer (set views id (one x)) (record { seats = xs } ∷ []) k a.0
-        (set_else views id k (one x) n ∙ a.1),
-    a.2,
-  )
+  in_others k m p n a = search (at_longer, one, set_else)
 
   -- a place in the row that is cut
   at_here : (m : ℕ) (p : SeatView) → At views id m p → get_elem? (x ∷ xs) m ≡ some p
-  at_here m p a = let same : a.0 ≡ record { seats = x ∷ xs } = some-injective a.0
-      (record { seats = x ∷ xs }) (sym a.1 ∙ here) in ap (λ (v : View). get_elem? v.seats m)
-      (sym same) ∙ a.2
+  at_here m p a = grind (arith, common_steps)
 
   split_here : (m : ℕ) (p : SeatView) → get_elem? (x ∷ xs) m ≡ some p → At after_cut
       (first_or m id (length views)) (pred m) p
@@ -232,25 +224,8 @@ module _ (views : List View) (seat : ℕ → SeatView) (row column : ℕ → ℕ
   two_there : (k m : ℕ) (z : SeatView) → k ≡ id → get_elem? (p ∷ q ∷ []) m ≡ some z →
       (z.number < seats_at_most) × (put_at row q.number id z.number ≡ k) ×
       (put_at column q.number 1 z.number ≡ m)
-  two_there k zero z e f = let is : p ≡ z = some-injective p z f in let o = first in
-      let apart_numbers : z.number ≢ q.number =
-      (λ g. apart
-      (sym second.1 ∙ (ap row (sym (ap (λ (y : SeatView). y.number) is ∙ g)) ∙ o.1))) in (
-        subst (λ (y : SeatView). y.number < seats_at_most) is o.0,
-        put_else row q.number z.number id apart_numbers ∙
-            (ap (λ (y : SeatView). row y.number) (sym is) ∙ (o.1 ∙ sym e)),
-        put_else column q.number z.number 1 apart_numbers ∙
-            (ap (λ (y : SeatView). column y.number) (sym is) ∙ o.2),
-      )
-  two_there k (suc zero) z e f = let is : q ≡ z = some-injective q z f in (
-    subst (λ (y : SeatView). y.number < seats_at_most) is second.0,
-    subst
-        (λ (y : SeatView). put_at row q.number id y.number ≡ k) is
-        (put_here row q.number id ∙ sym e),
-    subst
-        (λ (y : SeatView). put_at column q.number 1 y.number ≡ 1) is
-        (put_here column q.number 1),
-  )
+  two_there k zero z e f = grind (arith, common_steps, some-injective, first, second, put_else)
+  two_there k (suc zero) z e f = grind (arith, common_steps, some-injective, second, put_here)
   two_there k (suc (suc m)) z e f = absurd (some-ne-none z (sym f))
 
   -- the seats after a join are seated
@@ -288,8 +263,8 @@ pub glues : (n id other : ℕ) (v w : View) (p q : SeatView) → v ≡ one p →
     (Kept n) id v other w (joined v w) spent
 glues n id other v w p q is its s k at apart there' =
     let here : get_elem? s.views id ≡ some (one p) = at ∙ ap some is in
-    let there : get_elem? s.views other ≡ some (one q) = sym
-    (set_else s.views id other (joined v w) apart) ∙ (there' ∙ ap some its) in
+    let there : get_elem? s.views other ≡ some (one q) =
+    grind (arith, common_steps, set_else, some) in
     subst (λ (z : View × View). Kept n
     (record {
       words = s.words;
@@ -382,8 +357,7 @@ opening_only : (k m : ℕ) (p : SeatView) → At (opening_view ∷ []) k m p →
 opening_only zero m p a = let same : opening_view ≡ a.0 = some-injective opening_view a.0 a.1 in
     let r = fresh_only seats_at_most m p (omega arith)
     (ap (λ (v : View). get_elem? v.seats m) same ∙ a.2) in
-    let h = r.0 in let n : p.number ≡ m = ap (λ (z : SeatView). z.number) r.1 ∙
-    (let u : seats_at_most - seats_at_most + m ≡ m = omega arith in u) in
+    let h = r.0 in let n : p.number ≡ m = grind (arith, common_steps) in
     (omega arith, refl, n)
 opening_only (suc k) m p a = absurd (some-ne-none a.0 (sym a.1))
 
@@ -403,16 +377,8 @@ opens n = record {
   counts = (refl, refl);
   table = record {
     sized = Rattle.std.proofs.lemmas.List.length-replicate (slot_words * n) 0;
-    states = λ i h. subst (λ (w : ℕ). Reads w core.blank_slot)
-        (sym (zero_word (slot_words * n) (slot_words * i))) (record {
-          generation = refl;
-          claimed = refl;
-          full = refl;
-          done = refl;
-          pins = λ s l. Rattle.std.proofs.lemmas.Nat.Bits.bit_at-zero s;
-        });
-    contents = λ i j h l. zero_word (slot_words * n) (slot_words * i + (1 + j)) ∙ sym
-        (zero_word 58 j);
+    states = grind (arith, common_steps);
+    contents = search (zero_word, rules);
     long = λ i h. refl;
   };
   seat = fresh;
@@ -430,17 +396,8 @@ opens n = record {
     only = λ k m p a. opening_only k m p a;
   };
   fits = λ t h. record { state = refl; records = tt };
-  marked = record {
-    marks = λ i e. absurd (Rattle.std.proofs.Common.true≢false (sym e));
-    marked = λ t i g h c. absurd (in_none _ c);
-    freed = λ i g h. absurd (omega arith);
-    older = λ t i g h c. absurd (in_none _ c);
-  };
-  whole = record {
-    whole = λ t r h c. absurd (in_none r c);
-    text = λ t r h c. absurd
-        (in_none r c);
-  };
+  marked = grind (arith, common_steps);
+  whole = grind (arith, common_steps);
 }
 
 -- ---- what `meet` goes through
@@ -463,8 +420,8 @@ pub met : (q t : ℕ) (m w joint : Me (Unit {0}) View) → Rattle.rv_slots.specs
     → Rattle.rv_slots.specs.Knows.IsAlone t w → joint ≡ (joined m.0 w.0, m.1)
     → ((x y : SeatView) → Contains joint.0.seats x → Contains joint.0.seats y
     → Meet x.records y.records) → Meet (the_view m.0).records (the_view w.0).records
-met q t m w joint a b e f = let is : joint.0.seats ≡ the_view m.0 ∷ the_view w.0 ∷ [] = ap
-    (λ (z : Me (Unit {0}) View). z.0.seats) (met_is q t m w joint joint a b e refl) in
+met q t m w joint a b e f = let is : joint.0.seats ≡ the_view m.0 ∷ the_view w.0 ∷ [] =
+    grind (arith, common_steps) in
     f (the_view m.0) (the_view w.0) (subst (λ (l : List SeatView). Contains l (the_view m.0))
     (sym is) (in_head (the_view m.0) (the_view w.0 ∷ [])))
     (subst (λ (l : List SeatView). Contains l (the_view w.0)) (sym is)

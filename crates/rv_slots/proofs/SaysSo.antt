@@ -4,6 +4,8 @@ use Rattle.std.proofs.Common.{◌≡◌, ℕ, ◌*◌, ◌/◌, ◌^◌, ◌<◌
 use Rattle.std.proofs.Common.{true, List, get_or}
 use Rattle.std.proofs.Common.{Contains, sym, ap, ◌∙◌, subst, arith}
 use Rattle.std.proofs.Common.{true≢false, eqb-true, eq-eqb}
+use Rattle.std.proofs.Common.{rules}
+use Rattle.std.proofs.lemmas.Grind.{common_steps}
 use Rattle.atomic_table.specs.Table.{State}
 use Rattle.rv_slotcore.specs.Machine.{Core, Slot, Seat, flag}
 use Rattle.rv_slotcore.specs.Machine as core
@@ -67,20 +69,7 @@ module _ (n : ℕ) (s : State (Unit {0}) View) (k : Kept n s) where
       λ e. r.full
           ∙ ap flag (safe.flags.ended i (flag_one (k.core.slots i).done (sym r.done ∙ e))),
     );
-    pins = λ i t h l. let r = (k.table.states i h).pins t l in (
-      λ e. let set : on (k.core.seats t).state i ≡ true = sym (safe.pins.each i t) ∙ flag_one
-          ((k.core.slots i).pins t) (sym r ∙ e) in (
-            k.seat t,
-            stands t l,
-            k.seated.named t l,
-            subst (λ z. IsOn z i)
-                (sym (k.fits t l).state) (on_is (k.core.seats t).state i set),
-          ),
-      λ w. let o = stood w.0 w.1 in let set : on (k.core.seats t).state i ≡ true = subst
-          (λ (z : ℕ). on (k.core.seats z).state i ≡ true) w.2
-          (is_on (k.core.seats w.0.number).state i (subst (λ z. IsOn z i) o.2.state w.3)) in
-          r ∙ ap flag (safe.pins.each i t ∙ set),
-    );
+    pins = grind (arith, common_steps, safe, flag_one, stands, on_is, stood, is_on);
     filling = λ i h. let r = k.table.states i h in (
       λ e. let o = safe.filling.filled i
           (flag_one (k.core.slots i).claimed (sym r.claimed ∙ e.0))
@@ -128,9 +117,7 @@ module _ (n : ℕ) (s : State (Unit {0}) View) (k : Kept n s) where
     dated = λ p r h a c. let b = behind p r a c in let d = (safe.records.dated p.number b.0 b.1).0
         in let gen = b.2.generation in
         let same : (k.core.slots b.0.slot).generation ≡ get_or s.words
-        (slot_words * r.slot) 0 / 2 ^ generation_bit = ap
-        (λ (z : ℕ). (k.core.slots z).generation) (sym b.2.slot) ∙ sym
-        (same_generation r.slot h) in omega arith;
+        (slot_words * r.slot) 0 / 2 ^ generation_bit = search (same_generation, rules) in omega arith;
     pinned = λ i g p h a e. let w = shown_pinned (k.core.seats p.number).state i g
         (sym e ∙ (stood p a).2.state) in let o = safe.holding.pinned p.number i g w.0 w.1 in
         let r = k.table.states i h in (r.full ∙ ap flag o.0, r.generation ∙ o.1);

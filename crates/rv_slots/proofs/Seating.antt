@@ -3,6 +3,7 @@ use Rattle.rv_slotcore.specs.Places.{seats_at_most}
 use Rattle.std.proofs.Common.{◌≡◌, ◌≢◌, ℕ, zero, suc, ◌<◌, Bool}
 use Rattle.std.proofs.Common.{List, [], ◌∷◌, ◌++◌, length, set, sym, refl, ap, ◌∙◌, subst, arith}
 use Rattle.std.proofs.Common.{⊎_elim}
+use Rattle.std.proofs.lemmas.Grind.{common_steps}
 use mathlib.Core.Option.{some, some-injective, some-ne-none}
 use lib.ListN.{get_elem?}
 use Rattle.atomic_table.specs.Table.{State, stepped, keeps}
@@ -76,8 +77,7 @@ module _ (views : List View) (seat : ℕ → SeatView) (row column : ℕ → ℕ
               ∙ a.1,
           a.2,
         ));
-    named = λ t h. put_cases (λ z. z.number ≡ t) seat p.number t q (λ e. same ∙ sym e)
-        (λ ne. d.named t h);
+    named = grind (arith, common_steps);
     only = λ k m r a. ⊎_elim
         (λ new. let is = seat_is in let f = only_first q r m
         (ap (λ (v : View). get_elem? v.seats m) new.1 ∙ a.2) in let name : p.number
@@ -167,9 +167,7 @@ keeps_by n s id i w p q k here same d e is counts table fits others marked whole
     row = k.row;
     column = k.column;
     seated = seated_after s.views k.seat k.row k.column k.seated id p here q same;
-    fits = λ t h. put_cases (λ z. Fits z (d.seats t)) k.seat p.number t q
-        (λ e'. subst (λ (u : ℕ). Fits q (d.seats u)) (sym e') fits)
-        (λ ne. subst (λ z. Fits (k.seat t) z) (sym (others t ne)) (k.fits t h));
+    fits = grind (arith, common_steps);
     marked = marked;
     whole = whole;
   },

@@ -2,21 +2,21 @@
 use Rattle.rv_slotcore.specs.Places.{last_generation, claimed_bit, done_bit, full_bit}
 use Rattle.rv_slotcore.specs.Places.{generation_bit, slot_words}
 use Rattle.std.proofs.Common.{◌≡◌, ◌≢◌, ℕ, zero, suc, ◌+◌, ◌*◌, ◌/◌, ◌^◌, ◌<◌, ◌≤◌, Contains}
-use Rattle.std.proofs.Common.{slice_index_or, drop, Bool, true, false, List, [], ◌∷◌, bit_and}
-use Rattle.std.proofs.Common.{bit_or, sym, refl, ap, ◌∙◌, subst, arith}
+use Rattle.std.proofs.Common.{Bool, false, [], bit_and}
+use Rattle.std.proofs.Common.{sym, refl, ap, ◌∙◌, arith}
 use Rattle.std.specs.Int.{bit_at}
 use Rattle.std.proofs.lemmas.Nat.Bits.{and_pow, bit_at-lt}
 use Rattle.atomic_table.specs.Table.{Me}
 use Rattle.atomic_table.specs.Seated.{TableId}
 use Rattle.rv_slots.specs.declared.views.View.{View}
 use Rattle.rv_slots.specs.declared.views.SeatView.{SeatView}
-use Rattle.rv_slots.specs.declared.views.SeatState.TheVariants.{Idle, Filling, Pinned, Stray}
-use Rattle.rv_slotcore.specs.Machine.{no_words}
+use Rattle.rv_slots.specs.declared.views.SeatState.TheVariants.{Idle, Stray}
 use Rattle.std.proofs.Common.{◌==◌, eq-eqb, true≢false}
+use Rattle.std.proofs.lemmas.Grind.{common_steps}
 use Rattle.rv_slots.specs.declared.views.Record.{Record}
-use Rattle.rv_slots.specs.Lines.{blank_record, pinned, pin_state, pin_records, IsNewest, the_view}
-use Rattle.rv_slots.specs.Lines.{claimed, claim_state, ToldFor, put_in}
-use Rattle.rv_slots.specs.Knows.{IsAlone, IsIdle, IsFilling, IsPinned, IsStray, pinned_at}
+use Rattle.rv_slots.specs.Lines.{pinned, pin_state, IsNewest, the_view}
+use Rattle.rv_slots.specs.Lines.{claimed, ToldFor}
+use Rattle.rv_slots.specs.Knows.{IsAlone, IsIdle, IsFilling, IsPinned, IsStray}
 use Rattle.rv_slots.proofs.Seating.{one}
 
 abbrev pub Mine : Type 0
@@ -25,11 +25,7 @@ Mine = Me (Unit {0}) View
 -- a seat stays alone
 pub alone_after : (q : ℕ) (m w : Mine) (p : SeatView) → IsAlone q m → w ≡ (one p, []) → p.number ≡
     (the_view m.0).number → IsAlone q w
-alone_after q m w p a e same = record {
-  small = a.small;
-  one = e ∙ (λ j. (one (the_view (sym e j).0), []));
-  named = ap (λ (z : Mine). (the_view z.0).number) e ∙ (same ∙ a.named);
-}
+alone_after q m w p a e same = grind (arith, common_steps)
 
 -- the claim is clear
 pub clear_bit : (n : ℕ) → bit_and n (2 ^ claimed_bit) ≡ 0 → bit_at n claimed_bit ≡ 0
@@ -50,28 +46,12 @@ told_here line slot w t = let k = t.0 in let f = t.1 in let same : k ≡ slot = 
 -- the seat fills the slot
 pub filling_after : (q i n : ℕ) (m w : Mine) → IsIdle q m → ToldFor (slot_words * i)
     (λ k. claimed (the_view m.0) k n) w → bit_at n claimed_bit ≡ 0 → IsFilling q i w
-filling_after q i n m w idle t clear = let e = told_here (λ k. claimed (the_view m.0) k n) i w t
-    in let v = ap (λ (z : Mine). (the_view z.0).state) e in
-    let is : (the_view w.0).state ≡ Filling i Rattle.rv_slotcore.specs.Machine.no_words = v ∙ ap
-    (claim_state (the_view m.0) i) clear in
-    record {
-      alone = alone_after q m w (claimed (the_view m.0) i n) idle.alone e refl;
-      state = is
-          ∙ ap (Filling i) (ap put_in (sym is));
-      long = ap
-          (λ z. Rattle.std.proofs.Common.length (put_in z)) is;
-    }
+filling_after q i n m w idle t clear = grind (arith, common_steps)
 
 -- or the slot was busy
 pub busy_after : (q i n : ℕ) (m w : Mine) → IsIdle q m → ToldFor (slot_words * i)
     (λ k. claimed (the_view m.0) k n) w → bit_at n claimed_bit ≡ 1 → IsIdle q w
-busy_after q i n m w idle t set = let e = told_here (λ k. claimed (the_view m.0) k n) i w t in
-    record {
-      alone = alone_after q m w (claimed (the_view m.0) i n) idle.alone e refl;
-      state = ap
-          (λ (z : Mine). (the_view z.0).state) e ∙
-          (ap (claim_state (the_view m.0) i) set ∙ idle.state);
-    }
+busy_after q i n m w idle t set = grind (arith, common_steps)
 
 -- the view afterwards
 pub view_told : (line : ℕ → SeatView) (slot : ℕ) (w : Mine) → ToldFor (slot_words * slot) line w
@@ -94,12 +74,7 @@ slot_below i n key t u h a e f = let w : u.words ≡ t.words = ap (λ (z : Table
 pub idle_after : (q i : ℕ) (m w : Mine) (line : ℕ → SeatView) → IsAlone q m → ToldFor
     (slot_words * i) line w → (line i).number ≡ (the_view m.0).number → (line i).state ≡ Idle
     → IsIdle q w
-idle_after q i m w line a t named st = let e = told_here line i w t in
-    record {
-      alone = alone_after q m w (line i) a e named;
-      state = ap
-          (λ (z : Mine). (the_view z.0).state) e ∙ st;
-    }
+idle_after q i m w line a t named st = grind (arith, common_steps)
 
 -- the flag full is clear
 pub full_clear : (n : ℕ) → bit_and n (2 ^ full_bit) ≡ 0 → bit_at n full_bit ≡ 0
@@ -125,34 +100,7 @@ done_set n h = let e : bit_and n (2 ^ done_bit) ≡ bit_at n done_bit * 2 ^ done
 pub pinned_after : (q i n : ℕ) (m w : Mine) → IsIdle q m → ToldFor (slot_words * i)
     (λ k. pinned (the_view m.0) k n) w → bit_at n full_bit ≡ 1 → bit_at n done_bit ≡ 0
     → IsPinned q i w
-pinned_after q i n m w idle t full live = let p : SeatView = the_view m.0 in let p' : SeatView =
-    pinned p i n in let e = told_here (λ k. pinned p k n) i w t in
-    let st : p'.state ≡ Pinned i (n / 2 ^ generation_bit) =
-    (λ j. pin_state i (n / 2 ^ generation_bit) (full j) (live j)) in
-    let rs : p'.records ≡ record {
-      slot = i;
-      generation = n / 2 ^ generation_bit;
-      words = no_words;
-    } ∷ p.records = (λ j. pin_records p i (n / 2 ^ generation_bit) (full j) (live j))
-    in
-    let state : (the_view w.0).state ≡ Pinned i (n / 2 ^ generation_bit) = ap
-    (λ (z : Mine). (the_view z.0).state) e ∙ st in
-    let records : (the_view w.0).records ≡ record {
-      slot = i;
-      generation = n / 2 ^ generation_bit;
-      words = no_words;
-    } ∷ p.records = ap (λ (z : Mine). (the_view z.0).records) e ∙ rs in
-    record {
-      alone = alone_after q m w p' idle.alone e refl;
-      state = state ∙ ap (λ z. Pinned i (pinned_at z)) (sym state);
-      records = records ∙ (λ j. slice_index_or (sym records j) 0 blank_record ∷ drop 1
-          (sym records j));
-      slot_of = ap (λ (l : List Record). (slice_index_or l 0 blank_record).slot) records;
-      long = ap (λ (l : List Record). Rattle.std.proofs.Common.length
-          (slice_index_or l 0 blank_record).words) records;
-      generation_of = ap (λ (l : List Record). (slice_index_or l 0 blank_record).generation)
-          records ∙ ap pinned_at (sym state);
-    }
+pinned_after q i n m w idle t full live = grind (arith, common_steps)
 
 -- 0 is not 1
 pub zero_one : ◌≡◌ {A = ℕ} 0 1 → ⊥
@@ -167,14 +115,7 @@ stray_state i g (suc f) (suc d) h l = refl
 pub stray_after : (q i n : ℕ) (m w : Mine) → IsIdle q m → ToldFor (slot_words * i)
     (λ k. pinned (the_view m.0) k n) w → (bit_at n full_bit ≡ 1 → bit_at n done_bit ≡ 1)
     → IsStray q i w
-stray_after q i n m w idle t h = let p : SeatView = the_view m.0 in let e = told_here
-    (λ k. pinned p k n) i w t in
-    record {
-      alone = alone_after q m w (pinned p i n) idle.alone e refl;
-      state = ap
-          (λ (z : Mine). (the_view z.0).state) e ∙ stray_state i (n / 2 ^ generation_bit)
-          (bit_at n full_bit) (bit_at n done_bit) h (bit_at-lt n full_bit);
-    }
+stray_after q i n m w idle t h = grind (arith, common_steps)
 
 -- no record is of a later generation
 pub latest_told : (p : SeatView) (i n : ℕ) → IsNewest p (slot_words * i) n → (r : Record)
@@ -188,5 +129,5 @@ not_last g b is clear e = true≢false (sym (eq-eqb g last_generation e) ∙ (sy
 -- a content word is inside the table
 pub content_below : (i j n key : ℕ) (t u : TableId) → slot_words * i < u.words → u ≡ t → t.words
     ≡ slot_words * n → key ≡ n → j < 58 → slot_words * i + (1 + j) < t.words
-content_below i j n key t u h a e f l = let w : u.words ≡ t.words = ap
-    (λ (z : TableId). z.words) a in omega arith
+content_below i j n key t u h a e f l = let w : u.words ≡ t.words =
+    grind (arith, common_steps) in omega arith

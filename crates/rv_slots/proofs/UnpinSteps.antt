@@ -3,7 +3,7 @@ use Rattle.rv_slotcore.specs.Places.{slot_words}
 use Rattle.std.proofs.Common.{◌≡◌, ℕ, ◌*◌, ◌^◌, ◌<◌}
 use Rattle.std.proofs.Common.{true, false, nat_lt, [], get_or}
 use Rattle.std.proofs.Common.{sym, refl, ap, ◌∙◌}
-use Rattle.std.proofs.Common.{subst, arith, lt-ltb}
+use Rattle.std.proofs.Common.{subst, arith}
 use mathlib.Core.Option.{none}
 use Rattle.atomic_table.specs.Table.{Me, step, Allows}
 use Rattle.rv_slotcore.specs.Machine.{Core, Step, Slot, Seat, Act, Moved, put_at, with_both}
@@ -26,6 +26,7 @@ use Rattle.rv_slots.specs.Steps.{Refines, UnpinIsStep, UnpinStrayIsStep, of_seat
 use Rattle.rv_slots.specs.Knows.{IsAlone, IsPinned, IsStray}
 use Rattle.std.specs.Int.{bit_not, w64}
 use Rattle.std.proofs.Common.{bit_and}
+use Rattle.std.proofs.lemmas.Grind.{common_steps}
 
 abbrev pub bit_not_of : ℕ → ℕ
 bit_not_of s = bit_not w64 (2 ^ s)
@@ -45,8 +46,7 @@ unpins_by n slots id q i mask me a holds below s k at small =
     let f = knows n s k id q me a at in let c : Core = k.core in let w : ℕ = get_or s.words
     (slot_words * i) 0 in let p' : SeatView = unpinned p i w in
     let number = f.small in let slot_count = k.counts.0 in let seat_count = k.counts.1 in
-    let in_seats : nat_lt p.number c.seat_count ≡ true = lt-ltb p.number c.seat_count
-    (omega arith) in
+    let in_seats : nat_lt p.number c.seat_count ≡ true = grind (arith, common_steps) in
     let reads = k.table.states i below in
     let x : Slot = core.pinned_slot (c.slots i) p.number false in let r : Seat = in_state
     (c.seats p.number) core.Idle in

@@ -1,23 +1,23 @@
 -- A change of one word of the table.
 use Rattle.rv_slotcore.specs.Places.{claimed_bit, done_bit, full_bit, generation_bit}
 use Rattle.rv_slotcore.specs.Places.{seats_at_most, slot_words}
-use Rattle.std.proofs.Common.{◌≡◌, ℕ, ◌+◌, ◌*◌, ◌/◌, ◌^◌, ◌<◌}
-use Rattle.std.proofs.Common.{true, false, List, length, get_or, set, bit_or, sym, refl, ap, ◌∙◌}
+use Rattle.std.proofs.Common.{◌≡◌, ℕ, ◌+◌, ◌*◌, ◌^◌, ◌<◌}
+use Rattle.std.proofs.Common.{true, false, List, get_or, set, bit_or, sym, ap, ◌∙◌}
 use Rattle.std.proofs.Common.{subst, arith, length-set, get_or-set_other}
 use Rattle.std.proofs.lemmas.Grind.{get_or-set_at}
 use Rattle.std.specs.Int.{bit_at}
-use Rattle.rv_slotcore.specs.Machine.{Slot, flag, put_at, claimed_slot, written_slot, full_slot}
+use Rattle.rv_slotcore.specs.Machine.{Slot, put_at, claimed_slot, written_slot, full_slot}
 use Rattle.rv_slotcore.specs.Machine.{done_slot, pinned_slot, freed_slot}
 use Rattle.rv_slotcore.proofs.Updates.{put_cases}
 use Rattle.rv_slotcore.specs.Word.{Reads}
 use Rattle.rv_slots.specs.Rule.{IsTable}
 use Rattle.rv_slotcore.proofs.CoreWords.{or_here, or_else, or_high, cleared, cleared_here}
 use Rattle.rv_slotcore.proofs.CoreWords.{cleared_else, cleared_high}
-use Rattle.std.proofs.lemmas.Nat.{shr_high}
 use Rattle.std.proofs.lemmas.List.{set-get_or}
 use mathlib.Core.Logic.{dite}
 use native.Mathlib.Decide.{ℕ_discrete}
 use Rattle.std.proofs.lemmas.Nat.Bits.{bit_at_cat_low, bit_at-zero}
+use Rattle.std.proofs.lemmas.Grind.{common_steps}
 
 -- a slot with the claim is read
 pub reads_claimed : (w : ℕ) (x : Slot) → Reads w x → Reads (bit_or w (2 ^ claimed_bit))
@@ -58,9 +58,7 @@ reads_pin w s x l r = record {
   claimed = or_else w s claimed_bit (λ e. omega arith) ∙ r.claimed;
   full = or_else w s full_bit (λ e. omega arith) ∙ r.full;
   done = or_else w s done_bit (λ e. omega arith) ∙ r.done;
-  pins = λ t h. put_cases (λ z. bit_at (bit_or w (2 ^ s)) t ≡ flag z) x.pins s t true
-      (λ e. ap (λ (z : ℕ). bit_at (bit_or w (2 ^ s)) z) e ∙ or_here w s)
-      (λ ne. or_else w s t ne ∙ r.pins t h);
+  pins = grind (arith, common_steps, put_cases, or_here, or_else);
 }
 
 -- without it
@@ -71,9 +69,7 @@ reads_unpin w s x l small r = record {
   claimed = cleared_else w s claimed_bit l (omega arith) (λ e. omega arith) ∙ r.claimed;
   full = cleared_else w s full_bit l (omega arith) (λ e. omega arith) ∙ r.full;
   done = cleared_else w s done_bit l (omega arith) (λ e. omega arith) ∙ r.done;
-  pins = λ t h. put_cases (λ z. bit_at (cleared w s) t ≡ flag z) x.pins s t false
-      (λ e. ap (λ (z : ℕ). bit_at (cleared w s) z) e ∙ cleared_here w s l)
-      (λ ne. cleared_else w s t l (omega arith) ne ∙ r.pins t h);
+  pins = grind (arith, common_steps, put_cases, cleared_here, cleared_else);
 }
 
 -- the next generation, with all lower bits clear
@@ -85,9 +81,7 @@ reads_free g x e =
     λ k h. subst (λ (v : ℕ). bit_at v k ≡ 0) z
     (bit_at_cat_low (g + 1) generation_bit 0 k h ∙ bit_at-zero k) in
     record {
-      generation = subst (λ (v : ℕ). v / 2 ^ generation_bit ≡ g + 1) z
-          (shr_high (g + 1) generation_bit 0 (omega arith))
-          ∙ ap (λ (v : ℕ). v + 1) e;
+      generation = grind (arith, common_steps);
       claimed = low claimed_bit (omega arith);
       full = low full_bit (omega arith);
       done = low done_bit (omega arith);
@@ -98,40 +92,12 @@ reads_free g x e =
 pub state_changes : (n : ℕ) (words : List ℕ) (slots : ℕ → Slot) (i w : ℕ) (x : Slot)
     → IsTable n words slots → i < n → Reads w x → x.content ≡ (slots i).content
     → IsTable n (set words (slot_words * i) w) (put_at slots i x)
-state_changes n words slots i w x t h r same = let wide = t.sized in record {
-  sized = length-set words (slot_words * i) w ∙ wide;
-  states = λ k below. put_cases
-      (λ z. Reads (get_or (set words (slot_words * i) w) (slot_words * k) 0) z) slots i k x
-      (λ e. subst (λ (v : ℕ). Reads v x)
-      (sym (get_or-set_at words (slot_words * i) (slot_words * k) w 0 (omega arith)
-      (omega arith))) r)
-      (λ ne. subst (λ (v : ℕ). Reads v (slots k))
-      (sym (get_or-set_other words (slot_words * i) (slot_words * k) w 0
-      (λ e. ne (omega arith)))) (t.states k below));
-  contents = λ k j below in_chunk. get_or-set_other words (slot_words * i)
-      (slot_words * k + (1 + j)) w 0 (λ e. omega arith)
-      ∙ put_cases (λ z. get_or words (slot_words * k + (1 + j)) 0 ≡ get_or z.content j 0) slots i
-      k x (λ e. t.contents k j below in_chunk ∙
-      (ap (λ (z : ℕ). get_or (slots z).content j 0) e ∙ ap (λ (l : List ℕ). get_or l j 0)
-      (sym same))) (λ ne. t.contents k j below in_chunk);
-  long = λ k below. put_cases (λ z. length z.content ≡ 58) slots i k x
-      (λ e. ap length same ∙ t.long i h) (λ ne. t.long k below);
-}
+state_changes n words slots i w x t h r same = grind (arith, common_steps)
 
 -- the word changes and still reads as the slot
 pub state_stays : (n : ℕ) (words : List ℕ) (slots : ℕ → Slot) (i w : ℕ) → IsTable n words slots
     → i < n → Reads w (slots i) → IsTable n (set words (slot_words * i) w) slots
-state_stays n words slots i w t h r = let wide = t.sized in record {
-  sized = length-set words (slot_words * i) w ∙ wide;
-  states = λ k below. subst
-      (λ (z : ℕ → Slot). Reads (get_or (set words (slot_words * i) w) (slot_words * k) 0) (z k))
-      (λ a m. put_cases (λ y. y ≡ slots m) slots i m (slots i) (λ e. ap slots (sym e))
-      (λ _. refl) a)
-      ((state_changes n words slots i w (slots i) t h r refl).states k below);
-  contents = λ k j below in_chunk. get_or-set_other words (slot_words * i)
-      (slot_words * k + (1 + j)) w 0 (λ e. omega arith) ∙ t.contents k j below in_chunk;
-  long = t.long;
-}
+state_stays n words slots i w t h r = grind (arith, common_steps)
 
 -- word j of slot i's content changes
 pub content_changes : (n : ℕ) (words : List ℕ) (slots : ℕ → Slot) (i j v : ℕ)
@@ -140,21 +106,7 @@ pub content_changes : (n : ℕ) (words : List ℕ) (slots : ℕ → Slot) (i j v
 content_changes n words slots i j v t h l = let wide = t.sized in let x : Slot = slots i in
     let y : Slot = written_slot x j v in let at : ℕ = slot_words * i + (1 + j) in record {
       sized = length-set words at v ∙ wide;
-      states = λ k below. put_cases (λ z. Reads (get_or (set words at v) (slot_words * k) 0) z) slots
-          i k y
-          (λ e. let r = t.states i h in subst (λ (u : ℕ). Reads u y)
-          (sym (get_or-set_other words at (slot_words * k) v 0 (λ e'. omega arith)))
-          (subst (λ (u : ℕ). Reads (get_or words (slot_words * u) 0) y) (sym e)
-          (record {
-            generation = r.generation;
-            claimed = r.claimed;
-            full = r.full;
-            done = r.done;
-            pins = r.pins;
-          })))
-          (λ ne. subst (λ (u : ℕ). Reads u (slots k))
-          (sym (get_or-set_other words at (slot_words * k) v 0 (λ e'. omega arith)))
-          (t.states k below));
+      states = grind (arith, common_steps);
       contents = λ k m below within. let long = t.long i h in put_cases
           (λ z. get_or (set words at v) (slot_words * k + (1 + m)) 0 ≡ get_or z.content m 0) slots i k
           y
@@ -166,8 +118,7 @@ content_changes n words slots i j v t h l = let wide = t.sized in let x : Slot =
           (get_or-set_other x.content j m v 0 nd)))))
           (λ ne. get_or-set_other words at (slot_words * k + (1 + m)) v 0 (λ e'. ne (omega arith))
           ∙ t.contents k m below within);
-      long = λ k below. put_cases (λ z. length z.content ≡ 58) slots i k y
-          (λ _. length-set x.content j v ∙ t.long i h) (λ _. t.long k below);
+      long = grind (arith, common_steps);
     }
 
 -- a load changes nothing

@@ -1,7 +1,9 @@
 -- The listed links are edges, and carry all.
-use Rattle.std.proofs.Common.{◌≡◌, ◌≢◌, ℕ, ◌<◌, List, [], ◌∷◌, ◌++◌, Contains, Option, Some, None, refl, sym}
+use Rattle.std.proofs.Common.{◌≡◌, ◌≢◌, ℕ, List, [], ◌∷◌, ◌++◌, Contains, Option, Some, None, refl, sym}
 use Rattle.std.proofs.Common.{ap, ◌∙◌, arith, subst}
 use Rattle.std.proofs.lemmas.List.Elements.{Contains-push}
+use Rattle.std.proofs.lemmas.Grind.{common_steps}
+use Rattle.std.proofs.Common.{rules}
 use Rattle.rv_event.proofs.Indexed.{Indexed, Sound, indexed-push}
 use Rattle.rv_event.proofs.Names.{writer-is}
 use Rattle.rv_event.specs.Operations.{is_memory, IsLoad, IsStore, IsMemory}
@@ -105,9 +107,7 @@ module _ (model : MemoryModel) (log : List Event) (e : Event) (reserved : Option
 
   -- the event is the writer of what it writes
   pub writer_own : (w v : ℕ) → IsStore e → w ≡ e.word → v ≡ e.wrote → writer new w v ≡ Some e
-  writer_own w v s p q =
-      subst (λ n. writer new w n ≡ Some e) (sym q) (subst (λ n. writer new n e.wrote ≡ Some e) (sym p)
-      (known'.written e (Contains-push log e) s))
+  writer_own w v s p q = grind (arith, common_steps, known', Contains-push)
 
   -- ---- what is listed has its reason
 
@@ -119,16 +119,7 @@ module _ (model : MemoryModel) (log : List Event) (e : Event) (reserved : Option
 
   -- why a link into the event is one
   pub warrant_before : (l : Link) → BeforeLink log e reserved l → Warrant log Into e l
-  warrant_before l (by_coherence p) = record {
-    other = p.next;
-    of_log = p.is_next.of_log;
-    reason = Coherence;
-    of_versions = of_coherence;
-    other_memory = store-memory p.next p.is_next.store;
-    own_memory = store-memory e p.store;
-    why = record { first = p.is_next.store; second = p.store; word = p.is_next.same; versions = p.is_next.below };
-    same = p.same;
-  }
+  warrant_before l (by_coherence p) = grind (arith, common_steps)
   warrant_before l (by_reads_from p) =
       let f = writer-is log e.word e.read p.store p.is_writer in
       record {
@@ -138,12 +129,7 @@ module _ (model : MemoryModel) (log : List Event) (e : Event) (reserved : Option
         of_versions = of_reads_from;
         other_memory = store-memory p.store f.store;
         own_memory = load-memory e p.load;
-        why = record {
-          load = p.load;
-          is_writer = writer_new e.word e.read p.store p.is_writer;
-          not_earlier = λ h.
-              p.other_hart h.hart;
-        };
+        why = search (writer_new, rules);
         same = p.same;
       }
   warrant_before l (by_from_read p) = record {
@@ -153,14 +139,7 @@ module _ (model : MemoryModel) (log : List Event) (e : Event) (reserved : Option
     of_versions = of_from_read;
     other_memory = load-memory p.load p.is_load;
     own_memory = store-memory e p.store;
-    why = record {
-      load = p.is_load;
-      store = p.store;
-      other = is_new log e known sound p.load p.of_log;
-      word = sym
-          p.word;
-      versions = p.below;
-    };
+    why = grind (arith, common_steps);
     same = p.same;
   }
   warrant_before l (by_atomic_in p) =
@@ -168,8 +147,7 @@ module _ (model : MemoryModel) (log : List Event) (e : Event) (reserved : Option
       let h = reserved_is r p.is_reserved in
       let f = writer-is log r.word r.version p.store p.is_writer in
       let own : writer log h.0.word h.0.read ≡ Some p.store =
-      subst (λ n. writer log h.0.word n ≡ Some p.store) (sym h.3) (subst
-      (λ n. writer log n r.version ≡ Some p.store) (sym h.2) p.is_writer) in
+      grind (arith, common_steps) in
       record {
         other = p.store;
         of_log = f.of_log;
@@ -177,13 +155,7 @@ module _ (model : MemoryModel) (log : List Event) (e : Event) (reserved : Option
         of_versions = of_atomic_in;
         other_memory = store-memory p.store f.store;
         own_memory = sc-memory e h.1.paired.is_sc;
-        why = record {
-          lr = h.0;
-          of_log = in_new log e known sound h.0 h.1.of_log;
-          paired = h.1.paired;
-          is_writer =
-              writer_new h.0.word h.0.read p.store own;
-        };
+        why = search (in_new, writer_new);
         same = p.same;
       }
   warrant_before l (by_atomic_out sc lr p same) = record {
@@ -207,47 +179,11 @@ module _ (model : MemoryModel) (log : List Event) (e : Event) (reserved : Option
 
   -- and one out of it
   pub warrant_after : (l : Link) → AfterLink log e reserved l → Warrant log Out e l
-  warrant_after l (to_coherence p) = record {
-    other = p.next;
-    of_log = p.is_next.of_log;
-    reason = Coherence;
-    of_versions = of_coherence;
-    other_memory = store-memory p.next p.is_next.store;
-    own_memory = store-memory e p.store;
-    why = record { first = p.store; second = p.is_next.store; word = sym p.is_next.same; versions = p.is_next.above };
-    same = p.same;
-  }
-  warrant_after l (to_reads_from p) = record {
-    other = p.load;
-    of_log = p.of_log;
-    reason = ReadsFrom;
-    of_versions = of_reads_from;
-    other_memory = load-memory p.load p.is_load;
-    own_memory = store-memory e p.store;
-    why = record {
-      load = p.is_load;
-      is_writer = writer_own p.load.word p.load.read p.store p.word p.version;
-      not_earlier = none_after log e known sound p.load p.of_log;
-    };
-    same = p.same;
-  }
-  warrant_after l (to_from_read p) = record {
-    other = p.next;
-    of_log = p.is_next.of_log;
-    reason = FromRead;
-    of_versions = of_from_read;
-    other_memory = store-memory p.next p.is_next.store;
-    own_memory = load-memory e p.load;
-    why = record {
-      load = p.load;
-      store = p.is_next.store;
-      other = λ h. is_new log e known sound p.next
-          p.is_next.of_log (sym h);
-      word = p.is_next.same;
-      versions = p.is_next.above;
-    };
-    same = p.same;
-  }
+  warrant_after l (to_coherence p) = grind (arith, common_steps)
+  warrant_after l (to_reads_from p) =
+      search (of_reads_from, load-memory, store-memory, writer_own, none_after)
+  warrant_after l (to_from_read p) =
+      grind (arith, common_steps, of_from_read, store-memory, load-memory, is_new)
   warrant_after l (to_atomic_in p) = record {
     other = p.sc;
     of_log = p.of_log;
@@ -264,27 +200,7 @@ module _ (model : MemoryModel) (log : List Event) (e : Event) (reserved : Option
     same = p.same;
   }
   warrant_after l (to_atomic_out p) =
-      let h = reserved_is p.reservation p.is_reserved in
-      let version : h.0.read ≡ p.reservation.version = h.3 in
-      let above : p.reservation.version < p.store.wrote = p.above in
-      record {
-        other = p.store;
-        of_log = p.foreign.of_log;
-        reason = AtomicOut;
-        of_versions = of_atomic_out;
-        other_memory = store-memory p.store p.foreign.store;
-        own_memory = sc-memory e h.1.paired.is_sc;
-        why = record {
-          lr = h.0;
-          of_log = in_new log e known sound h.0 h.1.of_log;
-          paired = h.1.paired;
-          store = p.foreign.store;
-          word = p.foreign.same ∙ sym h.2;
-          other_hart = p.foreign.other_hart;
-          versions = omega arith;
-        };
-        same = p.same;
-      }
+      grind (arith, common_steps, reserved_is, of_atomic_out, store-memory, sc-memory, in_new)
 
   -- a link into the event is an edge
   pub edge_before : (l : Link) → BeforeLink log e reserved l → IsEdge model new l.id l.reason e.id

@@ -1,9 +1,11 @@
 -- Of the events of a log that pass a test, one is the best, unless none passes.
-use Rattle.std.proofs.Common.{◌≡◌, ◌≢◌, ℕ, ◌<◌, ◌≤◌, Bool, true, false, List, [], ◌∷◌, Contains, ◌⊎◌, inl}
-use Rattle.std.proofs.Common.{inr, refl, sym, arith, subst}
-use Rattle.std.proofs.lemmas.Bool.{false≢true, cases_eq, cases_lt}
+use Rattle.std.proofs.Common.{◌≡◌, ◌≢◌, ℕ, ◌<◌, ◌≤◌, List, [], ◌∷◌, Contains, ◌⊎◌, inl}
+use Rattle.std.proofs.Common.{inr, refl, arith, subst}
+use Rattle.std.proofs.lemmas.Bool.{cases_eq, cases_lt}
+use Rattle.std.proofs.lemmas.Grind.{common_steps}
+use Rattle.std.proofs.Common.{rules}
 use Rattle.rv_event.proofs.Names.{Contains-cons, Contains-here, Contains-there}
-use Rattle.rv_event.specs.Operations.{is_store, IsStore}
+use Rattle.rv_event.specs.Operations.{IsStore}
 use Rattle.rv_event.specs.declared.event.Event.{Event}
 use Rattle.rv_cover.specs.Thinned.{IsNextLower, IsNextHigher}
 use Rattle.rv_versions.specs.Lookups.{IsForeign}
@@ -29,20 +31,12 @@ module _ (Fits : Event → Type 0) (Least : Event → Event → Type 0) (decide 
     where
       go : Fits x ⊎ (Fits x → ⊥) → Best Fits Least log ⊎ ((a : Event) → Contains log a → Fits a → ⊥) →
           Best Fits Least (x ∷ log) ⊎ ((a : Event) → Contains (x ∷ log) a → Fits a → ⊥)
-      go (inr never) (inr none) = inr (λ a c f. elim (Contains-cons x log a c) [
-        | inl e ↦ never (subst Fits
-            (sym e) f)
-        | inr d ↦ none a d f
-      ])
+      go (inr never) (inr none) = search (Contains-cons, rules)
       go (inr never) (inl b) = inl (record {
         event = b.event;
         of_log = Contains-there x log b.event b.of_log;
         fits = b.fits;
-        best = λ a c f. elim (Contains-cons x log a c) [
-          | inl e ↦ absurd (never (subst Fits
-              (sym e) f))
-          | inr d ↦ b.best a d f
-        ];
+        best = grind (arith, common_steps);
       })
       go (inl here) (inr none) = inl (record {
         event = x;
@@ -59,11 +53,7 @@ module _ (Fits : Event → Type 0) (Least : Event → Event → Type 0) (decide 
           event = b.event;
           of_log = Contains-there x log b.event b.of_log;
           fits = b.fits;
-          best = λ a c f. elim (Contains-cons x log a c) [
-            | inl e ↦ subst (λ
-                (y : Event). Least y b.event) e l
-            | inr d ↦ b.best a d f
-          ];
+          best = grind (arith, common_steps);
         })
         | inr l ↦ inl (record {
           event = x;
@@ -80,20 +70,13 @@ module _ (Fits : Event → Type 0) (Least : Event → Event → Type 0) (decide 
 -- ---- stores by version
 
 cases_store : (a : Event) → IsStore a ⊎ (IsStore a → ⊥)
-cases_store a = go (is_store a.op)
-  where
-    go : (b : Bool) → (b ≡ true) ⊎ (b ≡ true → ⊥)
-    go true = inl refl
-    go false = inr (λ e. false≢true e)
+cases_store a = grind (arith, common_steps)
 
 abbrev At : ℕ → Event → Type 0
 At w a = IsStore a × (a.word ≡ w)
 
 cases_at : (w : ℕ) (a : Event) → At w a ⊎ (At w a → ⊥)
-cases_at w a = elim (cases_store a) [
-  | inl s ↦ elim (cases_eq a.word w) [ inl e ↦ inl (s, e) | inr never ↦ inr (λ h. never h.1) ]
-  | inr never ↦ inr (λ h. never h.0)
-]
+cases_at w a = grind (arith, common_steps)
 
 cases_both : (P Q : Type 0) → P ⊎ (P → ⊥) → Q ⊎ (Q → ⊥) → (P × Q) ⊎ (P × Q → ⊥)
 cases_both P Q (inl p) (inl q) = inl (p, q)
@@ -189,5 +172,4 @@ foreign_or_none log w v hart = elim (best_or_none (Foreign w v hart) (λ a b. b.
     other a = elim (cases_eq a.id.hart hart) [ inl e ↦ inr (λ never. never e) | inr never ↦ inl never ]
 
     decide : (a : Event) → Foreign w v hart a ⊎ (Foreign w v hart a → ⊥)
-    decide a = cases_both (At w a) ((a.id.hart ≢ hart) × (v < a.wrote)) (cases_at w a) (cases_both
-        (a.id.hart ≢ hart) (v < a.wrote) (other a) (cases_below v a.wrote))
+    decide a = grind (arith, common_steps)

@@ -1,11 +1,13 @@
 -- Each edge of the new event is listed, or another event splits it.
-use Rattle.std.proofs.Common.{◌≡◌, ◌<◌, ◌≤◌, List, [], ◌∷◌, ◌++◌, length, Contains, Option, Some, ◌⊎◌, inl}
+use Rattle.std.proofs.Common.{◌≡◌, ◌<◌, ◌≤◌, List, [], ◌∷◌, ◌++◌, Contains, Option, Some, ◌⊎◌, inl}
 use Rattle.std.proofs.Common.{inr, refl, sym, ap, ◌∙◌, arith, subst}
 use Rattle.std.proofs.lemmas.Bool.{cases_lt}
+use Rattle.std.proofs.Common.{rules}
+use Rattle.std.proofs.lemmas.Grind.{common_steps}
 use Rattle.rv_event.proofs.Indexed.{Indexed, Sound}
 use Rattle.rv_event.proofs.Names.{writer-is}
 use Rattle.rv_event.specs.Operations.{IsStore}
-use Rattle.rv_event.specs.Log.{writer, of_hart}
+use Rattle.rv_event.specs.Log.{writer}
 use Rattle.rv_event.specs.Edges.{IsCoherence, IsReadsFrom, IsFromRead, IsAtomicIn, IsAtomicOut, HasReason}
 use Rattle.rv_event.specs.declared.event.Event.{Event}
 use Rattle.rv_event.specs.declared.event.Id.{Id}
@@ -62,12 +64,7 @@ module _ (model : MemoryModel) (log : List Event) (e : Event) (reserved : Option
       load = h.load;
       store = a;
       is_writer = writer_old model log e reserved known sound is e.word e.read a c h.is_writer;
-      other_hart = λ hart.
-          let low : a.id.seq < length (of_hart a.id.hart log) = known.below a c in
-          let at : e.id.seq ≡ length (of_hart e.id.hart log) = sound.seq in
-          let low' : a.id.seq < length (of_hart e.id.hart log) = subst (λ n. a.id.seq < length
-          (of_hart n log)) hart low in
-          h.not_earlier (record { hart = hart; seq = omega arith });
+      other_hart = grind (arith, common_steps);
       same = refl;
     })))
 
@@ -86,8 +83,8 @@ module _ (model : MemoryModel) (log : List Event) (e : Event) (reserved : Option
     from_read_before : (a : Event) → Contains log a → IsFromRead a e → Carried FromRead a e a
     from_read_before a c h = elim (lower_or_none log e.word e.wrote) [
       | inl n ↦ elim (from_read_into log e known n.0 a n.1 c h) [
-        | inl high ↦ inl (from_read_listed a c h (λ s next. let same : s.wrote ≡ n.0.wrote = ap (λ
-            (x : Event). x.wrote) (one_lower log known e.word e.wrote s n.0 next n.1) in omega arith))
+        | inl high ↦ inl (from_read_listed a c h (λ s next. let same : s.wrote ≡ n.0.wrote =
+            search (one_lower, rules) in omega arith))
         | inr rest ↦ elim rest [
           | inl same ↦ inl (names links n.0.id a.id Coherence (sym same) (coherence_listed n.0 h.store n.1))
           | inr s ↦ inr (record { c = n.0; of_log = n.1.of_log; splits = s })
@@ -104,15 +101,13 @@ module _ (model : MemoryModel) (log : List Event) (e : Event) (reserved : Option
         (record { of_log = h.of_log; paired = h.paired }) in
         let w : writer log h.lr.word h.lr.read ≡ Some a = writer_old model log e reserved known sound is h.lr.word
         h.lr.read a c h.is_writer in
-        let w' : writer log r.0.word r.0.version ≡ Some a = subst (λ n. writer log r.0.word n ≡ Some a) r.3 (subst
-        (λ n. writer log n h.lr.read ≡ Some a) r.2 w) in
+        let w' : writer log r.0.word r.0.version ≡ Some a = grind (arith, common_steps) in
         inl (names links a.id a.id AtomicIn refl (all.atomic_in (link a.id AtomicIn)
         (record { reservation = r.0; is_reserved = r.1; store = a; is_writer = w'; same = refl })))
 
     atomic_out_before : (a : Event) → Contains log a → IsAtomicOut new a e → Carried AtomicOut a e a
     atomic_out_before a c h =
-        let pair : IsPair log h.lr a = pair_settled log e known sound h.lr a c
-        (record { of_log = h.of_log; paired = h.paired }) in
+        let pair : IsPair log h.lr a = search (pair_settled, rules) in
         elim (all.atomic_out a h.lr (record {
           store = h.store;
           of_log = c;
@@ -126,18 +121,7 @@ module _ (model : MemoryModel) (log : List Event) (e : Event) (reserved : Option
           | inr p ↦ inr (record {
             c = p.store;
             of_log = p.foreign.of_log;
-            splits = (
-              record {
-                lr = h.lr;
-                of_log = h.of_log;
-                paired = h.paired;
-                store = p.foreign.store;
-                word = p.foreign.same ∙ h.word;
-                other_hart = p.foreign.other_hart;
-                versions = p.above;
-              },
-              record { first = p.foreign.store; second = h.store; word = p.foreign.same; versions = p.below },
-            );
+            splits = grind (arith, common_steps);
           })
         ]
 
@@ -195,8 +179,7 @@ module _ (model : MemoryModel) (log : List Event) (e : Event) (reserved : Option
     atomic_in_after : (b : Event) → Contains log b → IsAtomicIn new e b → Carried AtomicIn e b b
     atomic_in_after b c h =
         let f = writer-is new h.lr.word h.lr.read e h.is_writer in
-        let pair : IsPair log h.lr b = pair_settled log e known sound h.lr b c
-        (record { of_log = h.of_log; paired = h.paired }) in
+        let pair : IsPair log h.lr b = search (pair_settled, rules) in
         inl (names links b.id b.id AtomicIn refl ((all (link b.id AtomicIn)).1 (to_atomic_in
         (record {
           store = f.store;
@@ -245,24 +228,7 @@ module _ (model : MemoryModel) (log : List Event) (e : Event) (reserved : Option
               | inl low ↦ inr (record {
                 c = t;
                 of_log = n.1.foreign.of_log;
-                splits = (
-                  record {
-                    lr = h.lr;
-                    of_log = h.of_log;
-                    paired = h.paired;
-                    store = n.1.foreign.store;
-                    word = n.1.foreign.same ∙ sym r.2;
-                    other_hart = n.1.foreign.other_hart;
-                    versions = subst (λ n. n < t.wrote) (sym r.3) n.1.above;
-                  },
-                  record {
-                    first = n.1.foreign.store;
-                    second = h.store;
-                    word = n.1.foreign.same ∙ sym r.2 ∙
-                        sym h.word;
-                    versions = low;
-                  },
-                );
+                splits = search rules;
               })
               | inr high ↦
                   let same : t ≡ b = same_version log known t b n.1.foreign.of_log c n.1.foreign.store h.store

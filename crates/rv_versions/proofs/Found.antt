@@ -1,7 +1,9 @@
 -- What the indexes say of the events of the log.
 use Rattle.std.proofs.Common.{◌≡◌, ℕ, Bool, true, false, cond, List, Contains, Option, Some, None, option_map}
-use Rattle.std.proofs.Common.{refl, sym, ap, ◌∙◌, subst}
+use Rattle.std.proofs.Common.{refl, sym, ap, ◌∙◌}
 use Rattle.std.proofs.lemmas.Option.{same_Some, none-some}
+use Rattle.std.proofs.Common.{arith, rules}
+use Rattle.std.proofs.lemmas.Grind.{common_steps}
 use Rattle.rv_cover.proofs.Indexing.{indexed_from_events}
 use Rattle.rv_event.proofs.Indexed.{Indexed}
 use Rattle.rv_event.proofs.Names.{writer-is}
@@ -111,8 +113,8 @@ module _ (log : List Event) (rs : List (Option Reservation)) (ix : Accesses) (kn
       go (Some r) d =
           let h = known.reservations s (Some r) d in
           let same : h.0 ≡ lr = one_partner log indexed h.0 lr s h.1 p in
-          let is : access r.word r.version s.id ≡ access lr.word lr.read s.id = sym (same_access h.2 h.3 s.id) ∙
-          ap (λ (x : Event). access x.word x.read s.id) same in
+          let is : access r.word r.version s.id ≡ access lr.word lr.read s.id =
+          grind (arith, common_steps) in
           (known.pairs (access lr.word lr.read s.id)).1 ((s, Some r), d, ap Some is)
 
   -- ---- the writer of a version
@@ -124,8 +126,7 @@ module _ (log : List Event) (rs : List (Option Reservation)) (ix : Accesses) (kn
       let f = store_found x of.known in
       let word : f.store.word ≡ w = sym (ap (λ (y : Access). y.word) f.same) ∙ of.same in
       let version : f.store.wrote ≡ v = sym (ap (λ (y : Access). y.version) f.same) ∙ at in
-      let own : writer log w v ≡ Some f.store = subst (λ n. writer log w n ≡ Some f.store) version (subst
-      (λ n. writer log n f.store.wrote ≡ Some f.store) word (indexed.written f.store f.of_log f.is_store)) in
+      let own : writer log w v ≡ Some f.store = search (indexed, rules) in
       ap (λ (y : Access). Some (id_of y)) f.same ∙ sym (ap (option_map (λ (e : Event). e.id)) own)
 
   -- where there is none the version has no writer

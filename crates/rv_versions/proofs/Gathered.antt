@@ -1,6 +1,8 @@
 -- The lists of links, gathered reason by reason.
-use Rattle.std.proofs.Common.{◌≡◌, ◌↔◌, ◌++◌, List, [], Contains, Option, inl, inr, sym, ap, ◌∙◌, subst, append_assoc}
+use Rattle.std.proofs.Common.{◌≡◌, ◌↔◌, ◌++◌, List, [], Contains, Option, inl, inr, sym, ap, ◌∙◌, subst}
 use Rattle.std.proofs.lemmas.List.Elements.{Contains-append_left, Contains-append_right, Contains-append_cases}
+use Rattle.std.proofs.Common.{arith, rules}
+use Rattle.std.proofs.lemmas.Grind.{common_steps}
 use Rattle.rv_event.specs.declared.event.Event.{Event}
 use Rattle.rv_event.specs.declared.reason.Link.{Link}
 use Rattle.rv_versions.specs.Listed.{IsExtended, CoherenceBefore, ReadsFromBefore, FromReadBefore}
@@ -20,10 +22,7 @@ pub joined_behind :
     (l0 l1 l2 l3 l4 l5 a b c d e : List Link) → l1 ≡ l0 ++ a → l2 ≡ l1 ++ b → l3 ≡ l2 ++ c → l4 ≡ l3 ++ d →
     l5 ≡ l4 ++ e →
     l5 ≡ l0 ++ joined a b c d e
-joined_behind l0 l1 l2 l3 l4 l5 a b c d e p q r s t =
-    let all : l5 ≡ ((((l0 ++ a) ++ b) ++ c) ++ d) ++ e = cc in
-    let same : ((((l0 ++ a) ++ b) ++ c) ++ d) ++ e ≡ l0 ++ (a ++ (b ++ (c ++ (d ++ e)))) = simp append_assoc in
-    all ∙ same
+joined_behind l0 l1 l2 l3 l4 l5 a b c d e p q r s t = grind (arith, common_steps)
 
 module _ (a b c d e : List Link) (l : Link) where
   in_first : Contains a l → Contains (joined a b c d e) l
@@ -33,19 +32,13 @@ module _ (a b c d e : List Link) (l : Link) where
   in_second h = Contains-append_right a (b ++ (c ++ (d ++ e))) l (Contains-append_left b (c ++ (d ++ e)) l h)
 
   in_third : Contains c l → Contains (joined a b c d e) l
-  in_third h =
-      Contains-append_right a (b ++ (c ++ (d ++ e))) l (Contains-append_right b (c ++ (d ++ e)) l
-      (Contains-append_left c (d ++ e) l h))
+  in_third h = search (Contains-append_right, Contains-append_left)
 
   in_fourth : Contains d l → Contains (joined a b c d e) l
-  in_fourth h =
-      Contains-append_right a (b ++ (c ++ (d ++ e))) l (Contains-append_right b (c ++ (d ++ e)) l
-      (Contains-append_right c (d ++ e) l (Contains-append_left d e l h)))
+  in_fourth h = search (Contains-append_right, Contains-append_left)
 
   in_fifth : Contains e l → Contains (joined a b c d e) l
-  in_fifth h =
-      Contains-append_right a (b ++ (c ++ (d ++ e))) l (Contains-append_right b (c ++ (d ++ e)) l
-      (Contains-append_right c (d ++ e) l (Contains-append_right d e l h)))
+  in_fifth h = search (Contains-append_right, rules)
 
   in_one :
       (P : Type 0) → (Contains a l → P) → (Contains b l → P) → (Contains c l → P) → (Contains d l → P) →
@@ -86,10 +79,7 @@ module _ (log : List Event) (e : Event) (reserved : Option Reservation) (l0 l1 l
       reads_from = λ l p. in_second c.others r.others f.others i.others o.others l ((r.meant l).1 p);
       from_read = λ l p. in_third c.others r.others f.others i.others o.others l ((f.meant l).1 p);
       atomic_in = λ l p. in_fourth c.others r.others f.others i.others o.others l ((i.meant l).1 p);
-      atomic_out = λ sc lr a. elim (o.each sc lr a) [
-        | inl h ↦ inl (in_fifth c.others r.others f.others i.others o.others _ h)
-        | inr p ↦ inr p
-      ];
+      atomic_out = search (in_fifth, rules);
     }
 
   module _ (none : l0 ≡ []) (c : IsExtended l0 l1 (CoherenceAfter log e)) (r : IsExtended l1 l2 (ReadsFromAfter log e))

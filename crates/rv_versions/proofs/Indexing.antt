@@ -1,13 +1,14 @@
 -- What the indexes have after an event joined a log, and after the last one left it.
-use Rattle.std.proofs.Common.{◌≡◌, ◌≢◌, ◌+◌, Bool, true, false, cond, List, [], ◌∷◌, ◌++◌, length, Contains}
+use Rattle.std.proofs.Common.{◌≡◌, ◌≢◌, ◌+◌, List, [], ◌∷◌, ◌++◌, length, Contains}
 use Rattle.std.proofs.Common.{Option, Some, None, inl, inr, refl, sym, ap, ◌∙◌, arith, subst, append_assoc}
 use Rattle.std.proofs.Common.{length-append}
 use Rattle.std.proofs.lemmas.Option.{same_Some, none-some}
 use Rattle.std.proofs.lemmas.List.Elements.{Contains-append_left, Contains-push, Contains-push_cases}
+use Rattle.std.proofs.Common.{rules}
+use Rattle.std.proofs.lemmas.Grind.{common_steps}
 use Rattle.rv_cover.proofs.Indexing.{indexed_from_events}
 use Rattle.rv_event.proofs.Indexed.{Indexed, Sound, sound_of}
 use Rattle.rv_event.proofs.Pushed.{split_push}
-use Rattle.rv_event.specs.Operations.{is_load, is_store}
 use Rattle.rv_event.specs.Faults.{event_fault}
 use Rattle.rv_event.specs.WellFormed.{WellFormedEvents}
 use Rattle.rv_event.specs.declared.event.Event.{Event}
@@ -65,19 +66,11 @@ index_same post items xs ys is same x = (λ c. (is x).0 ((same x).0 c), λ h. (s
 
 -- a posting names its event
 pub store_id : (e : Event) (x : Access) → store_of e ≡ Some x → id_of x ≡ e.id
-store_id e x h = go (is_store e.op) h
-  where
-    go : (b : Bool) → cond b (Some (access e.word e.wrote e.id)) None ≡ Some x → id_of x ≡ e.id
-    go true q = ap id_of (sym (same_Some (access e.word e.wrote e.id) x q))
-    go false q = absurd (none-some x q)
+store_id e x h = grind (arith, common_steps)
 
 -- a load's access names it
 pub load_id : (e : Event) (x : Access) → load_of e ≡ Some x → id_of x ≡ e.id
-load_id e x h = go (is_load e.op) h
-  where
-    go : (b : Bool) → cond b (Some (access e.word e.read e.id)) None ≡ Some x → id_of x ≡ e.id
-    go true q = ap id_of (sym (same_Some (access e.word e.read e.id) x q))
-    go false q = absurd (none-some x q)
+load_id e x h = grind (arith, common_steps)
 
 -- and so does a pair's
 pub pair_id : (e : Event) (r : Option Reservation) (x : Access) → pair_of e r ≡ Some x → id_of x ≡ e.id
@@ -93,11 +86,7 @@ well_formed-nil before after e is = absurd (omega (arith, ap length is, length-a
 -- they stay so with one that has no fault
 pub well_formed-push : (log : List Event) (e : Event) → WellFormedEvents log → event_fault log e ≡ None →
     WellFormedEvents (log ++ e ∷ [])
-well_formed-push log e ok none before after y is = elim (split_push log e before after y is) [
-  | inl s ↦ subst (λ (l : List Event). event_fault l y ≡ None) s.0 (subst (λ
-      (z : Event). event_fault log z ≡ None) s.1 none)
-  | inr s ↦ ok before s.0 y s.1
-]
+well_formed-push log e ok none before after y is = search (split_push, rules)
 
 -- and so is their beginning
 pub well_formed-front : (log more : List Event) → WellFormedEvents (log ++ more) → WellFormedEvents log
@@ -108,14 +97,7 @@ well_formed-front log more ok before after e is =
 
 -- no events have no accesses
 pub indexes-nil : AreIndexes [] [] (record { stores = []; loads = []; pairs = [] })
-indexes-nil = record {
-  well_formed = well_formed-nil;
-  as_long = refl;
-  reservations = λ e r c. absurd (Contains-none (e, r) c);
-  stores = λ x. (λ c. absurd (Contains-none x c), λ h. absurd (Contains-none h.0 h.1));
-  loads = λ x. (λ c. absurd (Contains-none x c), λ h. absurd (Contains-none h.0 h.1));
-  pairs = λ x. (λ c. absurd (Contains-none x c), λ h. absurd (Contains-none h.0 h.1));
-}
+indexes-nil = grind (arith, common_steps, well_formed-nil, Contains-none)
 
 module _ (log : List Event) (rs : List (Option Reservation)) (ix : Accesses) (e : Event) (r : Option Reservation)
     (known : AreIndexes log rs ix) (sound : event_fault log e ≡ None) where
@@ -161,14 +143,7 @@ module _ (log : List Event) (rs : List (Option Reservation)) (ix : Accesses) (e 
 
   -- the same accesses are indexes still
   pub indexes_same : (new : Accesses) → AreSame ix (postings_of e r) new → AreIndexes log rs new
-  indexes_same new same = record {
-    well_formed = known.well_formed;
-    as_long = known.as_long;
-    reservations = known.reservations;
-    stores = index_same store_of log ix.stores new.stores known.stores same.stores;
-    loads = index_same load_of log ix.loads new.loads known.loads same.loads;
-    pairs = index_same (λ p. pair_of p.0 p.1) (beside log rs) ix.pairs new.pairs known.pairs same.pairs;
-  }
+  indexes_same new same = search (index_same, rules)
 
 module _ (log : List Event) (rs : List (Option Reservation)) (ix new : Accesses) (e : Event) (r : Option Reservation)
     (known : AreIndexes (log ++ e ∷ []) (rs ++ r ∷ []) ix) (taken : AreRemoved ix (postings_of e r) new) where

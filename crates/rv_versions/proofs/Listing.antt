@@ -1,13 +1,13 @@
 -- Lists of links that grow by those that are meant.
 use Rattle.std.proofs.Common.{◌≡◌, ◌≢◌, ℕ, ◌+◌, ◌<◌, ◌≤◌, List, [], ◌∷◌, ◌++◌, Contains, Option, Some, None}
 use Rattle.std.proofs.Common.{Result, Ok, Err, OnOk, ◌↔◌, ◌⊎◌, inl, inr, refl, sym, ap, ◌∙◌, arith, subst}
-use Rattle.std.proofs.Common.{append_assoc}
 use Rattle.std.proofs.lemmas.Bool.{cases_eq, cases_lt}
 use Rattle.std.proofs.lemmas.Option.{same_Some}
 use Rattle.std.proofs.lemmas.List.{append-nil}
 use Rattle.std.proofs.lemmas.List.Elements.{Contains-append_left, Contains-push, Contains-push_cases}
+use Rattle.std.proofs.Common.{rules}
+use Rattle.std.proofs.lemmas.Grind.{common_steps}
 use Rattle.rv_event.proofs.Indexed.{Indexed}
-use Rattle.rv_event.proofs.Names.{Contains-cons, Contains-here}
 use Rattle.rv_event.specs.Operations.{IsLoad, IsStore}
 use Rattle.rv_event.specs.declared.event.Event.{Event}
 use Rattle.rv_event.specs.declared.event.Id.{Id}
@@ -29,32 +29,17 @@ use Rattle.rv_versions.proofs.Members.{Contains-none}
 
 -- no link more, where none is meant
 pub extended_none : (old : List Link) (P : Link → Type 0) → ((l : Link) → P l → ⊥) → IsExtended old old P
-extended_none old P none = record {
-  others = [];
-  behind = sym (append-nil old);
-  meant = λ l. (λ c. absurd (Contains-none l c), λ p. absurd (none l p));
-}
+extended_none old P none = grind (arith, common_steps)
 
 -- one link more, the only one that is meant
 pub extended_push : (old new : List Link) (k : Link) (P : Link → Type 0) → new ≡ old ++ k ∷ [] → P k →
     ((l : Link) → P l → l ≡ k) → IsExtended old new P
-extended_push old new k P is here only = record {
-  others = k ∷ [];
-  behind = is;
-  meant = λ l. (
-    λ c. elim (Contains-cons k [] l c) [ inl same ↦ subst P same here | inr none ↦ absurd (Contains-none l none) ],
-    λ p. Contains-here k [] l (sym (only l p)),
-  );
-}
+extended_push old new k P is here only = grind (arith, common_steps)
 
 -- lists extended by links that are the same
 pub extended_same : (old new : List Link) (P Q : Link → Type 0) → ((l : Link) → P l ↔ Q l) → IsExtended old new P →
     IsExtended old new Q
-extended_same old new P Q same h = record {
-  others = h.others;
-  behind = h.behind;
-  meant = λ l. (λ c. (same l).0 ((h.meant l).0 c), λ q. (h.meant l).1 ((same l).1 q));
-}
+extended_same old new P Q same h = grind (arith, common_steps)
 
 -- ---- a loop over ids, of which those that pass are linked
 
@@ -71,8 +56,7 @@ module _ (Pass : Id → Type 0) (reason : Reason) where
       Pass i → new ≡ mid ++ link i reason ∷ [] → IsExtended old new (Linked (seen ++ i ∷ []))
   linked_more old mid new seen i h pass is = record {
     others = h.others ++ link i reason ∷ [];
-    behind = is ∙ ap (λ (ls : List Link). ls ++ link i reason ∷ []) h.behind ∙
-        append_assoc old h.others (link i reason ∷ []);
+    behind = grind (arith, common_steps);
     meant = λ l. (to l, from l);
   }
     where
@@ -99,26 +83,17 @@ module _ (Pass : Id → Type 0) (reason : Reason) where
       to l p = (p.0, Contains-append_left seen (i ∷ []) p.0 p.1, p.2, p.3)
 
       from : (l : Link) → Linked (seen ++ i ∷ []) l → Linked seen l
-      from l (j, c, p, e) = elim (Contains-push_cases seen i j c) [
-        | inl was ↦ (j, was, p, e)
-        | inr same ↦ absurd (fails (subst Pass (sym same) p))
-      ]
+      from l (j, c, p, e) = grind (arith, common_steps)
 
 -- ---- the nearest stores, which are one each
 
 module _ (log : List Event) (known : Indexed log) where
   -- one store is of the next lower version
   pub one_lower : (w v : ℕ) (s t : Event) → IsNextLower log w v s → IsNextLower log w v t → s ≡ t
-  one_lower w v s t p q =
-      let a : s.wrote ≤ t.wrote = q.highest s p.of_log p.store p.same p.below in
-      let b : t.wrote ≤ s.wrote = p.highest t q.of_log q.store q.same q.below in
-      same_version log known s t p.of_log q.of_log p.store q.store (p.same ∙ sym q.same) (omega arith)
+  one_lower w v s t p q = search (same_version, rules)
 
   one_higher : (w v : ℕ) (s t : Event) → IsNextHigher log w v s → IsNextHigher log w v t → s ≡ t
-  one_higher w v s t p q =
-      let a : t.wrote ≤ s.wrote = q.lowest s p.of_log p.store p.same p.above in
-      let b : s.wrote ≤ t.wrote = p.lowest t q.of_log q.store q.same q.above in
-      same_version log known s t p.of_log q.of_log p.store q.store (p.same ∙ sym q.same) (omega arith)
+  one_higher w v s t p q = search (same_version, rules)
 
   named_by : (x : Access) (s : Event) → x ≡ access s.word s.wrote s.id → id_of x ≡ s.id
   named_by x s e = ap id_of e
@@ -129,15 +104,13 @@ module _ (log : List Event) (known : Indexed log) where
       IsLowerStore log e.word v (Some x) →
       new ≡ old ++ link (id_of x) Coherence ∷ [] → IsExtended old new (CoherenceBefore log e)
   coherence_before_of e old new x v store same h is =
-      let found : IsLowerStore log e.word e.wrote (Some x) = subst (λ (n : ℕ). IsLowerStore log e.word n
-      (Some x)) same h in
+      let found : IsLowerStore log e.word e.wrote (Some x) = grind (arith, common_steps) in
       extended_push old new (link (id_of x) Coherence) (CoherenceBefore log e) is
       (record {
         store = store;
         next = found.0;
         is_next = found.1;
-        same = ap (λ (i : Id). link i Coherence)
-            (named_by x found.0 found.2);
+        same = grind (arith, common_steps);
       })
       (λ l p. p.same ∙ ap (λ (s : Event). link s.id Coherence)
       (one_lower e.word e.wrote p.next found.0 p.is_next found.1) ∙
@@ -153,8 +126,7 @@ module _ (log : List Event) (known : Indexed log) where
         store = store;
         next = found.0;
         is_next = found.1;
-        same = ap (λ (i : Id). link i Coherence)
-            (named_by x found.0 found.2);
+        same = grind (arith, common_steps);
       })
       (λ l p. p.same ∙ ap (λ (s : Event). link s.id Coherence)
       (one_higher e.word e.wrote p.next found.0 p.is_next found.1) ∙
@@ -170,8 +142,7 @@ module _ (log : List Event) (known : Indexed log) where
         load = load;
         next = found.0;
         is_next = found.1;
-        same = ap (λ (i : Id). link i FromRead)
-            (named_by x found.0 found.2);
+        same = grind (arith, common_steps);
       })
       (λ l p. p.same ∙ ap (λ (s : Event). link s.id FromRead)
       (one_higher e.word e.read p.next found.0 p.is_next found.1) ∙
@@ -201,48 +172,27 @@ module _ (log : List Event) (known : Indexed log) where
           (q : Reservation) → q ≡ r → (s : Event) → IsForeign log q.word e.id.hart s → q.version < s.wrote →
           ((a : Event) → IsForeign log q.word e.id.hart a → q.version < a.wrote → s.wrote ≤ a.wrote) → s ≡ t
       one q eq s f high least =
-          let word : r.word ≡ q.word = ap (λ (y : Reservation). y.word) (sym eq) in
-          let version : q.version ≡ r.version = ap (λ (y : Reservation). y.version) eq in
-          let f' : IsForeign log r.word e.id.hart s = subst (λ (n : ℕ). IsForeign log n e.id.hart s) (sym word) f in
-          let g' : IsForeign log q.word e.id.hart t = subst (λ (n : ℕ). IsForeign log n e.id.hart t) word foreign in
-          let a : s.wrote ≤ t.wrote = least t g' (omega arith) in
-          let b : t.wrote ≤ s.wrote = lowest s f' (omega arith) in
-          same_version log known s t f.of_log foreign.of_log f.store foreign.store (f'.same ∙
-          sym foreign.same) (omega arith)
+          grind (arith, common_steps)
 
 -- ---- none was found
 
 module _ (log : List Event) (e : Event) (old : List Link) where
   -- no store is lower
   pub no_coherence_before : IsLowerStore log e.word e.wrote None → IsExtended old old (CoherenceBefore log e)
-  no_coherence_before none = extended_none old (CoherenceBefore log e) (λ l p.
-      let high : e.wrote ≤ p.next.wrote = none p.next p.is_next.of_log p.is_next.store p.is_next.same in
-      let low : p.next.wrote < e.wrote = p.is_next.below in
-      omega arith)
+  no_coherence_before none = grind (arith, common_steps)
 
   -- no store is higher
   pub no_coherence_after : IsHigherStore log e.word e.wrote None → IsExtended old old (CoherenceAfter log e)
-  no_coherence_after none = extended_none old (CoherenceAfter log e) (λ l p.
-      let low : p.next.wrote ≤ e.wrote = none p.next p.is_next.of_log p.is_next.store p.is_next.same in
-      let high : e.wrote < p.next.wrote = p.is_next.above in
-      omega arith)
+  no_coherence_after none = grind (arith, common_steps)
 
   -- no store is higher than what was returned
   pub no_from_read_after : IsHigherStore log e.word e.read None → IsExtended old old (FromReadAfter log e)
-  no_from_read_after none = extended_none old (FromReadAfter log e) (λ l p.
-      let low : p.next.wrote ≤ e.read = none p.next p.is_next.of_log p.is_next.store p.is_next.same in
-      let high : e.read < p.next.wrote = p.is_next.above in
-      omega arith)
+  no_from_read_after none = grind (arith, common_steps)
 
   -- no other hart's store is higher
   pub no_atomic_out_after : (reserved : Option Reservation) (r : Reservation) → reserved ≡ Some r →
       IsForeignHigher log r.word r.version e.id.hart None → IsExtended old old (AtomicOutAfter log e reserved)
-  no_atomic_out_after reserved r some none = extended_none old (AtomicOutAfter log e reserved) (λ l p.
-      let same : r ≡ p.reservation = same_Some r p.reservation (sym some ∙ p.is_reserved) in
-      let low : p.store.wrote ≤ p.reservation.version = subst (λ
-      (q : Reservation). IsForeignHigher log q.word q.version e.id.hart None) same none p.store p.foreign in
-      let high : p.reservation.version < p.store.wrote = p.above in
-      omega arith)
+  no_atomic_out_after reserved r some none = grind (arith, common_steps)
 
 -- ---- below which version no SC needs a link
 
@@ -251,21 +201,7 @@ module _ (log : List Event) (e : Event) where
   pub parted_by_first : (w : ℕ) (x : Access) → w ≡ e.wrote → IsLowerStore log e.word w (Some x) →
       x.hart ≡ e.id.hart → (version hart : ℕ) → version < x.version → hart ≢ e.id.hart →
       IsParted log e.word version e.wrote hart
-  parted_by_first w x eq (s, next, same) own version hart low other =
-      let v : x.version ≡ s.wrote = ap (λ (y : Access). y.version) same in
-      let below : s.wrote < w = next.below in
-      record {
-        store = s;
-        foreign = record {
-          of_log = next.of_log;
-          store = next.store;
-          same = next.same;
-          other_hart = λ h. other
-              (sym h ∙ sym (ap (λ (y : Access). y.hart) same) ∙ own);
-        };
-        above = omega arith;
-        below = omega arith;
-      }
+  parted_by_first w x eq (s, next, same) own version hart low other = grind (arith, common_steps)
 
   -- else it, or the next lower store of another hart
   pub parted_by_either :
@@ -283,63 +219,21 @@ module _ (log : List Event) (e : Event) where
 
       go : (hart ≡ x.hart) ⊎ (hart ≡ x.hart → ⊥) → IsParted log e.word version e.wrote hart
       go (inl own) =
-          let below : s.wrote < w = next.below in
-          let second : t.wrote < x.version = under in
-          let first_is : x.version ≡ s.wrote = v in
-          let second_is : y.version ≡ t.wrote = u in
-          let high : version < y.version = low in
-          record {
-            store = t;
-            foreign = record {
-              of_log = foreign.of_log;
-              store = foreign.store;
-              same = foreign.same;
-              other_hart = λ h.
-                  foreign.other_hart (h ∙ own);
-            };
-            above = omega arith;
-            below = omega arith;
-          }
+          grind (arith, common_steps)
       go (inr apart) =
-          let below : s.wrote < w = next.below in
-          let second : t.wrote < x.version = under in
-          let first_is : x.version ≡ s.wrote = v in
-          let second_is : y.version ≡ t.wrote = u in
-          let high : version < y.version = low in
-          record {
-            store = s;
-            foreign = record {
-              of_log = next.of_log;
-              store = next.store;
-              same = next.same;
-              other_hart = λ h. apart
-                  (sym h ∙ sym (ap (λ (z : Access). z.hart) same));
-            };
-            above = omega arith;
-            below = omega arith;
-          }
+          search rules
 
 -- ---- from which version on loads are uncovered
 
 module _ (log : List Event) (e : Event) where
   -- without a lower store every load is uncovered
   pub uncovered_none : (w : ℕ) → w ≡ e.wrote → IsLowerStore log e.word w None → (v : ℕ) → (0 ≤ v) ↔ IsUncovered log e v
-  uncovered_none w eq none v = (
-    λ l s next. let n : w ≤ s.wrote = none s next.of_log next.store next.same in let
-        below = next.below in absurd (omega arith),
-    λ u. omega arith,
-  )
+  uncovered_none w eq none v = grind (arith, common_steps)
 
   -- with one, those from its version on
   pub uncovered_some : Indexed log → (w : ℕ) (x : Access) → w ≡ e.wrote → IsLowerStore log e.word w (Some x) →
       (v : ℕ) → (x.version ≤ v) ↔ IsUncovered log e v
-  uncovered_some known w x eq found v =
-      let here = subst (λ (n : ℕ). IsLowerStore log e.word n (Some x)) eq found in
-      let version : x.version ≡ here.0.wrote = ap (λ (y : Access). y.version) here.2 in (
-        λ l s next. let same : s.wrote ≡ here.0.wrote = ap (λ (a : Event). a.wrote)
-            (one_lower log known e.word e.wrote s here.0 next here.1) in omega arith,
-        λ u. let n : here.0.wrote ≤ v = u here.0 here.1 in omega arith,
-      )
+  uncovered_some known w x eq found v = grind (arith, common_steps)
 
 -- ---- what was found is what is meant
 
@@ -381,8 +275,7 @@ module _ (log : List Event) (e : Event) (old new : List Link) where
                   of_log = p.of_log;
                   is_load = p.is_load;
                   same = p.word;
-                  at_least = omega
-                      arith;
+                  at_least = grind (arith, common_steps);
                   below = omega arith;
                   named = refl;
                 }),
@@ -454,8 +347,7 @@ module _ (log : List Event) (e : Event) (old new : List Link) where
             uncovered =
                 (bound f.load.read).0 f.at_least;
             below = omega arith;
-            same = is ∙
-                ap (λ (j : Id). link j FromRead) (sym f.named);
+            same = grind (arith, common_steps);
           }
 
       from : (l : Link) → FromReadBefore log e l → (i : Id) × Contains ids i × (l ≡ link i FromRead)
@@ -532,9 +424,7 @@ on_ok P Q f (Err e) h = tt
 pub linked_all : (reason : Reason) (ids : List Id) (old new : List Link) →
     IsExtended old new (Linked (λ i. Unit {0}) reason ids) →
     IsExtended old new (λ l. (i : Id) × Contains ids i × (l ≡ link i reason))
-linked_all reason ids old new h =
-    extended_same old new (Linked (λ i. Unit {0}) reason ids) (λ l. (i : Id) × Contains ids i × (l ≡ link i reason))
-    (λ l. (λ p. (p.0, p.1, p.3), λ p. (p.0, p.1, tt, p.2))) h
+linked_all reason ids old new h = search (extended_same, rules)
 
 -- where no SC is one of these, nothing is added
 pub no_atomic_outs :

@@ -3,6 +3,8 @@ use Rattle.std.proofs.Common.{◌≡◌, ◌≢◌, ℕ, ◌+◌, ◌<◌, ◌�
 use Rattle.std.proofs.Common.{Ok, Err, IfOk, ◌↔◌, inl, inr, refl, sym, ap, ◌∙◌, arith, subst}
 use Rattle.std.proofs.lemmas.Bool.{cases_lt, false≢true}
 use Rattle.std.specs.Option.{is_some}
+use Rattle.std.proofs.Common.{rules}
+use Rattle.std.proofs.lemmas.Grind.{common_steps}
 use Rattle.rv_event.proofs.Indexed.{Indexed}
 use Rattle.rv_event.specs.Operations.{IsStore}
 use Rattle.rv_event.specs.declared.event.Event.{Event}
@@ -17,7 +19,6 @@ use Rattle.rv_versions.specs.declared.reservation.Reservation.{Reservation}
 use Rattle.rv_versions.proofs.Found.{store_access, store_found, store_listed, load_found, load_listed}
 use Rattle.rv_versions.proofs.Found.{pair_found, pair_listed}
 use Rattle.rv_versions.specs.Accesses.{id_of}
-use Rattle.rv_versions.proofs.Nearing.{same_version}
 use Rattle.rv_versions.proofs.Placed.{IsBetween}
 
 module _ (log : List Event) (rs : List (Option Reservation)) (ix : Accesses) (known : AreIndexes log rs ix) where
@@ -172,20 +173,7 @@ module _ (log : List Event) (rs : List (Option Reservation)) (ix : Accesses) (kn
       omega arith
 
   some_pair_of : (w to : ℕ) (x : Access) → IsLower ix.pairs w to (Some x) → IsPairBetween log w 0 to (id_of x)
-  some_pair_of w to x h =
-      let same : x ≡ access w x.version (id_of x) = λ j. record {
-        word = h.0.same j;
-        version = x.version;
-        hart = x.hart;
-        seq = x.seq;
-      } in
-      pair_between w 0 to (id_of x)
-      (record {
-        version = x.version;
-        at_least = omega arith;
-        below = h.1;
-        known = subst (Contains ix.pairs) same h.0.known;
-      })
+  some_pair_of w to x h = search (pair_between, rules)
 
   -- whether a pair is lower
   pub pair_below_of :
@@ -209,52 +197,17 @@ module _ (log : List Event) (known : Indexed log) (w v hart : ℕ) where
   -- past a store of the hart itself
   pub passed_more : (bound : ℕ) (x : Access) → Passed log w v hart bound → IsLowerStore log w bound (Some x) →
       x.hart ≡ hart → Passed log w v hart x.version
-  passed_more bound x p (s, next, same) own =
-      let version : x.version ≡ s.wrote = ap (λ (y : Access). y.version) same in
-      let here : s.id.hart ≡ hart = sym (ap (λ (y : Access). y.hart) same) ∙ own in
-      let below : s.wrote < bound = next.below in
-      let most : bound ≤ v = p.at_most in
-      record {
-        at_most = omega arith;
-        none = λ a f high low. elim (cases_lt a.wrote bound) [
-          | inl under ↦ let top : a.wrote ≤ s.wrote = next.highest a f.of_log f.store f.same under in
-              let at : a.wrote ≡ s.wrote = omega arith in
-              let one : a ≡ s = same_version log known a s f.of_log next.of_log f.store next.store (f.same ∙
-              sym next.same) at in
-              f.other_hart (ap (λ (e : Event). e.id.hart) one ∙ here)
-          | inr over ↦ p.none a f over low
-        ];
-      }
+  passed_more bound x p (s, next, same) own = grind (arith, common_steps)
 
   -- another hart's store was found
   pub foreign_found : (bound : ℕ) (x : Access) → Passed log w v hart bound → IsLowerStore log w bound (Some x) →
       x.hart ≢ hart → IsForeignLower log w v hart (Some x)
-  foreign_found bound x p (s, next, same) other =
-      let most : bound ≤ v = p.at_most in
-      let below : s.wrote < bound = next.below in (
-        s,
-        record {
-          of_log = next.of_log;
-          store = next.store;
-          same = next.same;
-          other_hart = λ e. other (ap (λ
-              (y : Access). y.hart) same ∙ e);
-        },
-        omega arith,
-        same,
-        λ a f low. elim (cases_lt a.wrote bound) [
-          | inl under ↦ next.highest a f.of_log f.store f.same under
-          | inr over ↦ absurd (p.none a f over low)
-        ],
-      )
+  foreign_found bound x p (s, next, same) other = grind (arith, common_steps)
 
   -- or there is none
   pub none_foreign : (bound : ℕ) → Passed log w v hart bound → IsLowerStore log w bound None →
       IsForeignLower log w v hart None
-  none_foreign bound p h = λ a f. elim (cases_lt a.wrote v) [
-    | inl low ↦ absurd (p.none a f (h a f.of_log f.store f.same) low)
-    | inr high ↦ high
-  ]
+  none_foreign bound p h = grind (arith, common_steps)
 
 -- a fact that follows of a value, where there is no error
 pub if_ok : {X E : Type 0} (P Q : X → Type 0) → ((x : X) → P x → Q x) → (r : Result X E) → IfOk r P → IfOk r Q

@@ -1,8 +1,9 @@
 -- What lists have that others make up.
 use Rattle.std.proofs.Common.{◌≡◌, ℕ, ◌<◌, List, [], ◌∷◌, map, length, get_or, Contains, zero, suc, ◌⊎◌, inl}
-use Rattle.std.proofs.Common.{inr, refl, ap, arith, zero-lt-suc, suc-le-suc, le_of_suc-le-suc}
+use Rattle.std.proofs.Common.{inr, refl, arith, zero-lt-suc, suc-le-suc, le_of_suc-le-suc}
 use Rattle.std.specs.List.{flat_map}
 use Rattle.std.proofs.lemmas.List.Elements.{Contains-append_left, Contains-append_right, Contains-append_cases}
+use Rattle.std.proofs.lemmas.Grind.{common_steps}
 use Rattle.rv_event.proofs.Names.{Contains-cons, Contains-here, Contains-there}
 
 -- the empty list contains nothing
@@ -23,11 +24,7 @@ Contains-map {X} {Y} f (z ∷ xs) y c = go (Contains-cons (f z) (map f xs) y c) 
 -- and each element is mapped
 pub Contains-mapped : {X Y : Type 0} (f : X → Y) (xs : List X) (x : X) → Contains xs x → Contains (map f xs) (f x)
 Contains-mapped f [] x c = absurd (Contains-none x c)
-Contains-mapped {X} {Y} f (z ∷ xs) x c = go (Contains-cons z xs x c) (Contains-mapped f xs x)
-  where
-    go : (z ≡ x) ⊎ Contains xs x → (Contains xs x → Contains (map f xs) (f x)) → Contains (f z ∷ map f xs) (f x)
-    go (inl e) again = Contains-here (f z) (map f xs) (f x) (ap f e)
-    go (inr d) again = Contains-there (f z) (map f xs) (f x) (again d)
+Contains-mapped {X} {Y} f (z ∷ xs) x c = grind (arith, common_steps)
 
 -- what a list of pieces has is in one of the pieces
 pub Contains-flat : {X A : Type 0} (f : X → List A) (d : X) (xs : List X) (a : A) → Contains (flat_map f xs) a →

@@ -1,5 +1,6 @@
 -- None of the listed links of coherence and from-read could be left out.
 use Rattle.std.proofs.Common.{◌≡◌, ◌<◌, ◌≤◌, List, Contains, Option, inl, inr, sym, ap, arith, subst}
+use Rattle.std.proofs.lemmas.Grind.{common_steps}
 use Rattle.rv_cover.specs.Thinned.{IsNextLower, IsNextHigher, IsNearest}
 use Rattle.rv_event.proofs.Indexed.{Indexed}
 use Rattle.rv_event.specs.Operations.{IsStore}
@@ -61,14 +62,14 @@ module _ (log : List Event) (e : Event) (reserved : Option Reservation) (known :
             omega arith
         | inr none ↦ let high : e.wrote ≤ s.wrote = none s cs store word in omega arith
       ]
-  none_over a s ca cs (by_coherence p) store word over under = let r : FromRead ≡ Coherence = same_reason _ _ _ _
-      p.same in cc
-  none_over a s ca cs (by_reads_from p) store word over under = let r : FromRead ≡ ReadsFrom = same_reason _ _ _ _
-      p.same in cc
-  none_over a s ca cs (by_atomic_in p) store word over under = let r : FromRead ≡ AtomicIn = same_reason _ _ _ _
-      p.same in cc
-  none_over a s ca cs (by_atomic_out sc lr p same) store word over under = let r : FromRead ≡ AtomicOut = same_reason
-      _ _ _ _ same in cc
+  none_over a s ca cs (by_coherence p) store word over under = let r : FromRead ≡ Coherence =
+      grind (arith, common_steps) in cc
+  none_over a s ca cs (by_reads_from p) store word over under = let r : FromRead ≡ ReadsFrom =
+      grind (arith, common_steps) in cc
+  none_over a s ca cs (by_atomic_in p) store word over under = let r : FromRead ≡ AtomicIn =
+      grind (arith, common_steps) in cc
+  none_over a s ca cs (by_atomic_out sc lr p same) store word over under = let r : FromRead ≡ AtomicOut =
+      grind (arith, common_steps) in cc
 
   -- links go to the nearest versions
   pub nearest : (before after : List Link) → AreBefore log e reserved before → AreAfter log e reserved after →

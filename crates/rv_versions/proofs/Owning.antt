@@ -2,6 +2,8 @@
 use Rattle.std.proofs.Common.{◌≡◌, List, [], ◌∷◌, ◌++◌, Contains, Option, ◌↔◌, inl, inr, refl, sym, ◌∙◌, arith, subst}
 use Rattle.std.proofs.lemmas.Option.{same_Some}
 use Rattle.std.proofs.lemmas.List.Elements.{Contains-push}
+use Rattle.std.proofs.Common.{rules}
+use Rattle.std.proofs.lemmas.Grind.{common_steps}
 use Rattle.rv_cover.proofs.Covering.{edge_of}
 use Rattle.rv_event.proofs.Indexed.{Indexed, Sound, indexed-push}
 use Rattle.rv_event.proofs.Names.{writer-is}
@@ -29,14 +31,7 @@ module _ (model : MemoryModel) (log : List Event) (e : Event) (reserved : Option
   here = Contains-push log e
 
   why_of : ReturnsOwn e reserved → (r : Reason) × HasReason model new r e e
-  why_of (store, inl (load, same)) = (
-    ReadsFrom,
-    record {
-      load = load;
-      is_writer = writer_own model log e reserved known sound is e.word e.read store refl same;
-      not_earlier = λ h. let s = h.seq in omega arith;
-    },
-  )
+  why_of (store, inl (load, same)) = search (writer_own, rules)
   why_of (store, inr p) =
       let h = reserved_is model log e reserved known sound is p.reservation p.is_reserved in (
         AtomicIn,
@@ -44,8 +39,7 @@ module _ (model : MemoryModel) (log : List Event) (e : Event) (reserved : Option
           lr = h.0;
           of_log = in_new log e known sound h.0 h.1.of_log;
           paired = h.1.paired;
-          is_writer = writer_own model log e reserved known sound is h.0.word h.0.read store (h.2 ∙ p.word) (h.3 ∙
-              p.version);
+          is_writer = search (writer_own, rules);
         },
       )
 
@@ -63,8 +57,7 @@ module _ (model : MemoryModel) (log : List Event) (e : Event) (reserved : Option
           reservation = r.0;
           is_reserved = r.1;
           word = sym r.2 ∙ f.word;
-          version = sym r.3 ∙
-              f.version;
+          version = grind (arith, common_steps);
         }),
       )
   own_of AtomicOut h = absurd (h.other_hart refl)

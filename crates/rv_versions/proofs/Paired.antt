@@ -1,16 +1,15 @@
 -- A new event changes no pair of old ones, and an SC is paired with one LR alone.
-use Rattle.std.proofs.Common.{◌≡◌, ◌≢◌, ◌<◌, List, [], ◌∷◌, ◌++◌, length, Contains, Option, Some, None}
+use Rattle.std.proofs.Common.{◌≡◌, ◌≢◌, ◌<◌, List, [], ◌∷◌, ◌++◌, Contains, Option, Some, None}
 use Rattle.std.proofs.Common.{IsFalse, inl, inr, sym, ap, ◌∙◌, arith, subst}
-use Rattle.std.proofs.lemmas.Bool.{cases_lt, false≢true}
 use Rattle.std.proofs.lemmas.Option.{same_Some}
 use Rattle.std.proofs.lemmas.List.Elements.{All-contains, Contains-append_left, Contains-push_cases}
+use Rattle.std.proofs.lemmas.Grind.{common_steps}
 use Rattle.rv_event.proofs.Growing.{All-from_contains, Paired-grows}
 use Rattle.rv_event.proofs.Indexed.{Indexed, Sound, indexed-push}
 use Rattle.rv_event.proofs.Settled.{grows-push}
 use Rattle.rv_event.specs.Operations.{is_exclusive}
-use Rattle.rv_event.specs.Log.{named, of_hart, Earlier, Between}
+use Rattle.rv_event.specs.Log.{named, Earlier, Between}
 use Rattle.rv_event.specs.Relations.{Paired}
-use Rattle.rv_event.specs.declared.event.Id.{Id}
 use Rattle.rv_event.specs.declared.event.Event.{Event}
 use Rattle.rv_event.specs.declared.memory_model.MemoryModel.TheVariants.{Rvwmo}
 use Rattle.rv_versions.specs.Indexes.{IsPair, IsReservation}
@@ -25,32 +24,14 @@ same_event log known a b ca cb same = same_Some a b (sym (known.own a ca) ∙ ap
 -- of two LRs that are paired with one SC, neither is earlier
 not_earlier : (log : List Event) (a b sc : Event) → Contains log b → IsPair log a sc → IsPair log b sc →
     a.id.seq < b.id.seq → ⊥
-not_earlier log a b sc cb p q low =
-    let between : Between a b sc = record {
-      after = record {
-        hart = p.paired.earlier.hart ∙
-            sym q.paired.earlier.hart;
-        seq = low;
-      };
-      before = q.paired.earlier;
-    } in
-    let none : IsFalse (is_exclusive b.op) = All-contains (λ m. Between a m sc →
-    IsFalse (is_exclusive m.op)) log b p.paired.none_between cb between in
-    false≢true (sym none ∙ ap is_exclusive q.paired.is_lr)
+not_earlier log a b sc cb p q low = grind (arith, common_steps)
 
 -- an SC has one partner
 pub one_partner : (log : List Event) → Indexed log → (a b sc : Event) → IsPair log a sc → IsPair log b sc → a ≡ b
 one_partner log known a b sc p q = same_event log known a b p.of_log q.of_log same
   where
     seqs : a.id.seq ≡ b.id.seq
-    seqs = elim (cases_lt a.id.seq b.id.seq) [
-      | inl low ↦ absurd (not_earlier log a b sc q.of_log p q low)
-      | inr high ↦ elim (cases_lt b.id.seq a.id.seq) [
-        | inl low ↦ absurd
-            (not_earlier log b a sc p.of_log q p low)
-        | inr high' ↦ omega arith
-      ]
-    ]
+    seqs = grind (arith, common_steps)
 
     harts : a.id.hart ≡ b.id.hart
     harts = p.paired.earlier.hart ∙ sym q.paired.earlier.hart
@@ -64,12 +45,7 @@ module _ (log : List Event) (e : Event) (known : Indexed log) (sound : Sound log
 
   -- no old event has the new id
   pub is_new : (a : Event) → Contains log a → a.id ≢ e.id
-  is_new a c same =
-      let low : a.id.seq < length (of_hart a.id.hart log) = known.below a c in
-      let at : e.id.seq ≡ length (of_hart e.id.hart log) = sound.seq in
-      let low' : e.id.seq < length (of_hart e.id.hart log) = subst (λ (i : Id). i.seq < length
-      (of_hart i.hart log)) same low in
-      omega arith
+  is_new a c same = grind (arith, common_steps)
 
   -- an old event is one of the new log
   pub in_new : (a : Event) → Contains log a → Contains new a
@@ -77,12 +53,7 @@ module _ (log : List Event) (e : Event) (known : Indexed log) (sound : Sound log
 
   -- the new event is not earlier than an old one
   pub none_after : (b : Event) → Contains log b → Earlier e b → ⊥
-  none_after b c earlier =
-      let low : b.id.seq < length (of_hart b.id.hart log) = known.below b c in
-      let at : e.id.seq ≡ length (of_hart e.id.hart log) = sound.seq in
-      let later : e.id.seq < b.id.seq = earlier.seq in
-      let low' : b.id.seq < length (of_hart e.id.hart log) = rw earlier.hart low in
-      omega arith
+  none_after b c earlier = grind (arith, common_steps)
 
   -- a pair of old events was one before
   pub settled : (lr sc : Event) → Paired new lr sc → Paired log lr sc
@@ -111,12 +82,7 @@ module _ (log : List Event) (e : Event) (known : Indexed log) (sound : Sound log
 
   -- so is one that is paired with the new event
   pub partner_of : (lr : Event) → IsPair new lr e → IsPartner log e lr
-  partner_of lr p = elim (Contains-push_cases log e lr p.of_log) [
-    | inl old ↦ record { of_log = old; paired = p.paired }
-    | inr is ↦ let s : lr.id.seq < e.id.seq = p.paired.earlier.seq in
-        let same : e.id.seq ≡ lr.id.seq = ap (λ (x : Event). x.id.seq) is in
-        absurd (omega arith)
-  ]
+  partner_of lr p = grind (arith, common_steps)
 
   -- the event's partner is its pair
   pub pair_of_partner : (lr : Event) → IsPartner log e lr → IsPair new lr e

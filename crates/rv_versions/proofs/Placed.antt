@@ -6,6 +6,8 @@ use Rattle.std.proofs.lemmas.Bool.{cases_eq}
 use Rattle.std.proofs.lemmas.List.{length-set, get_or-set_same, get_or-set_other}
 use Rattle.std.proofs.lemmas.List.Elements.{at_read}
 use Rattle.std.proofs.lemmas.Option.{same_Some, none-some}
+use Rattle.std.proofs.Common.{rules}
+use Rattle.std.proofs.lemmas.Grind.{common_steps}
 use Rattle.rv_event.specs.declared.event.Id.{Id}
 use Rattle.rv_versions.specs.Accesses.{access, id_of, IsOf, AreAllOf}
 use Rattle.rv_versions.specs.Indexes.{ArePostingsTo, IsInserted, IsRemoved, ByEach, AreInserted, AreRemoved}
@@ -41,11 +43,7 @@ flat_same these none (w ∷ words) = ap (λ (xs : List Access). these w ++ xs) (
 -- a word more without accesses
 pub together-more : (words words' : List Accesses) → words' ≡ words ++ no_accesses ∷ [] →
     together words' ≡ together words
-together-more words words' more = ap together more ∙ (λ i. record {
-  stores = flat_same (λ w. w.stores) refl words i;
-  loads = flat_same (λ w. w.loads) refl words i;
-  pairs = flat_same (λ w. w.pairs) refl words i;
-})
+together-more words words' more = grind (arith, common_steps)
 
 module _ (place_of place_of' : ℕ → Option ℕ) (words words' : List Accesses) (in_place : AreInPlace place_of words)
     (more : words' ≡ words ++ no_accesses ∷ []) where
@@ -69,9 +67,7 @@ module _ (place_of place_of' : ℕ → Option ℕ) (words words' : List Accesses
   pub padded : ((word : ℕ) → place_of' word ≡ place_of word) → AreInPlace place_of' words'
   padded same = moved
       (record {
-        known = λ word k e.
-            let l : k < length words = in_place.numbers.known word k (sym (same word) ∙ e) in
-            omega (arith, longer words);
+        known = grind (arith, common_steps);
         apart = λ word other k p q. in_place.numbers.apart word other k (sym (same word) ∙ p) (sym (same other) ∙ q);
       })
       (λ word k e. same word ∙ e)
@@ -91,28 +87,10 @@ module _ (place_of place_of' : ℕ → Option ℕ) (words words' : List Accesses
       is_old word k ne p = sym (others word ne) ∙ p
 
       known : (word k : ℕ) → place_of' word ≡ Some k → k < length (words ++ no_accesses ∷ [])
-      known word k p = elim (cases_eq new word) [
-        | inl e ↦ (let last = is_last word k e p in omega (arith, longer words))
-        | inr ne ↦ (let low = in_place.numbers.known word k (is_old word k ne p) in omega (arith, longer words))
-      ]
+      known word k p = grind (arith, common_steps)
 
       apart : (word other k : ℕ) → place_of' word ≡ Some k → place_of' other ≡ Some k → word ≡ other
-      apart word other k p q = elim (cases_eq new word) [
-        | inl e ↦ elim (cases_eq new other) [
-          | inl f ↦ sym e ∙ f
-          | inr nf ↦
-              (let last = is_last word k e p in
-              let low = in_place.numbers.known other k (is_old other k nf q) in
-              absurd (omega arith))
-        ]
-        | inr ne ↦ elim (cases_eq new other) [
-          | inl f ↦
-              (let last = is_last other k f q in
-              let low = in_place.numbers.known word k (is_old word k ne p) in
-              absurd (omega arith))
-          | inr nf ↦ in_place.numbers.apart word other k (is_old word k ne p) (is_old other k nf q)
-        ]
-      ]
+      apart word other k p q = grind (arith, common_steps)
 
 -- ---- of these accesses those to a word
 
@@ -285,20 +263,12 @@ module _ (place_of : ℕ → Option ℕ) (words : List Accesses) (in_place : Are
 
   -- a word without a place has none
   pub none_to_word : place_of word ≡ None → AreThoseTo (together words) word no_accesses
-  none_to_word p = record {
-    stores = none_to place_of words in_place.numbers (λ w. w.stores) in_place.stores word p;
-    loads = none_to place_of words in_place.numbers (λ w. w.loads) in_place.loads word p;
-    pairs = none_to place_of words in_place.numbers (λ w. w.pairs) in_place.pairs word p;
-  }
+  none_to_word p = search (none_to, rules)
 
   -- nothing is taken out of it
   pub none_removed : (p : Postings) → ArePostingsTo word p → place_of word ≡ None →
       AreRemoved (together words) p (together words)
-  none_removed p to none = record {
-    stores = none_out place_of words in_place.numbers (λ w. w.stores) in_place.stores word p.store to.store none;
-    loads = none_out place_of words in_place.numbers (λ w. w.loads) in_place.loads word p.load to.load none;
-    pairs = none_out place_of words in_place.numbers (λ w. w.pairs) in_place.pairs word p.pair to.pair none;
-  }
+  none_removed p to none = search (none_out, rules)
 
   -- what is absent from all is absent from those to the word
   pub absent_here : (k : ℕ) → place_of word ≡ Some k → (p : Postings) → AreAbsent (together words) p →
@@ -325,10 +295,7 @@ module _ (place_of : ℕ → Option ℕ) (words : List Accesses) (in_place : Are
     -- each access stays at its word's place
     pub still_in_place : AreFrom old p w → AreInPlace place_of (set words k w)
     still_in_place from = record {
-      numbers = record {
-        known = λ other j e. let l = in_place.numbers.known other j e in omega (arith, length-set words k w);
-        apart = in_place.numbers.apart;
-      };
+      numbers = grind (arith, common_steps);
       stores = still_placed place_of words in_place.numbers (λ v. v.stores) in_place.stores k p.store w fits
           (place p.store to.store) from.stores;
       loads = still_placed place_of words in_place.numbers (λ v. v.loads) in_place.loads k p.load w fits
@@ -395,12 +362,7 @@ module _ (accesses : List Access) (word from to : ℕ) where
           let x : Access = m.0 in
           let h = (is x).0 m.1 in
           let of = (all x).0 h.0 in
-          let same : x ≡ access word x.version i = λ j. record {
-            word = of.same j;
-            version = x.version;
-            hart = (m.2 j).hart;
-            seq = (m.2 j).seq;
-          } in
+          let same : x ≡ access word x.version i = grind (arith, common_steps) in
           record { version = x.version; at_least = h.1; below = h.2; known = subst (Contains accesses) same of.known }
 
       here : IsBetween accesses word from to i → Contains (map id_of part) i

@@ -1,9 +1,11 @@
 -- What was put in and taken out, one after another.
 use Rattle.std.proofs.Common.{◌≡◌, true, false, List, Contains, Option, Some, None, Result, Ok, Err, OnOk}
-use Rattle.std.proofs.Common.{OnErr, inl, inr, sym, ap, subst}
+use Rattle.std.proofs.Common.{OnErr, inl, inr, sym}
 use Rattle.std.specs.Result.{is_err}
 use Rattle.std.proofs.lemmas.Bool.{false≢true}
 use Rattle.std.proofs.lemmas.Option.{none-some}
+use Rattle.std.proofs.Common.{arith}
+use Rattle.std.proofs.lemmas.Grind.{common_steps}
 use Rattle.rv_event.specs.declared.event.Event.{Event}
 use Rattle.rv_versions.specs.Indexes.{postings_of, own_postings, pair_postings, IsInserted, IsRemoved, IsSame}
 use Rattle.rv_versions.specs.Indexes.{AreInserted, AreRemoved, AreSame, AreAbsent}
@@ -24,11 +26,7 @@ went (Err x) P e h = absurd (false≢true (sym e))
 
 -- a list has what it has
 pub same_itself : (xs ys : List Access) → ys ≡ xs → IsSame xs ys
-same_itself xs ys e x = (
-  λ c. subst (λ (zs : List Access). Contains zs x) e c,
-  λ c. subst (λ
-      (zs : List Access). Contains zs x) (sym e) c,
-)
+same_itself xs ys e x = grind (arith, common_steps)
 
 -- what was put in and taken out again
 pub same_again :
@@ -88,11 +86,7 @@ then_taken xs ys zs o same taken x = (
 
 -- nothing changed
 pub all_same : (old new : Accesses) (p : Postings) → new ≡ old → AreSame old p new
-all_same old new p e = record {
-  stores = same_itself _ _ (ap (λ (a : Accesses). a.stores) e);
-  loads = same_itself _ _ (ap (λ (a : Accesses). a.loads) e);
-  pairs = same_itself _ _ (ap (λ (a : Accesses). a.pairs) e);
-}
+all_same old new p e = grind (arith, common_steps)
 
 -- the event's own accesses went in, and then what its LR returned
 module _ (e : Event) (r : Reservation) (old mid : Accesses) (put : AreInserted old (own_postings e) mid)
@@ -108,37 +102,16 @@ module _ (e : Event) (r : Reservation) (old mid : Accesses) (put : AreInserted o
   -- an event's accesses and its pair
   pub both_inserted : (new : Accesses) → AreInserted mid (pair_postings e.id r) new →
       AreInserted old (postings_of e (Some r)) new
-  both_inserted new more = record {
-    stores = put_then old.stores mid.stores new.stores (own_postings e).store put.stores
-        (put_none mid.stores new.stores more.stores);
-    loads = put_then old.loads mid.loads new.loads (own_postings e).load put.loads
-        (put_none mid.loads new.loads more.loads);
-    pairs = then_put old.pairs mid.pairs new.pairs (pair_postings e.id r).pair
-        (put_none old.pairs mid.pairs put.pairs) more.pairs;
-  }
+  both_inserted new more = search (put_then, put_none, then_put)
 
   -- its own went in and out again, since what its LR returned did not go in
   pub undone :
       (back new : Accesses) → AreSame mid (pair_postings e.id r) back → AreRemoved back (own_postings e) new →
       AreSame old (postings_of e (Some r)) new
-  undone back new same taken = record {
-    stores = same_again old.stores back.stores new.stores (own_postings e).store absent.stores
-        (put_then old.stores mid.stores back.stores (own_postings e).store put.stores same.stores) taken.stores;
-    loads = same_again old.loads back.loads new.loads (own_postings e).load absent.loads
-        (put_then old.loads mid.loads back.loads (own_postings e).load put.loads same.loads) taken.loads;
-    pairs = same_again old.pairs back.pairs new.pairs None (λ x q. absurd (none-some x q))
-        (put_then old.pairs mid.pairs back.pairs None put.pairs same.pairs) taken.pairs;
-  }
+  undone back new same taken = search (same_again, put_then, none-some)
 
 -- likewise taken out
 pub both_removed :
     (e : Event) (r : Reservation) (old mid new : Accesses) → AreRemoved old (own_postings e) mid →
     AreRemoved mid (pair_postings e.id r) new → AreRemoved old (postings_of e (Some r)) new
-both_removed e r old mid new taken more = record {
-  stores = taken_then old.stores mid.stores new.stores (own_postings e).store taken.stores
-      (taken_none mid.stores new.stores more.stores);
-  loads = taken_then old.loads mid.loads new.loads (own_postings e).load taken.loads
-      (taken_none mid.loads new.loads more.loads);
-  pairs = then_taken old.pairs mid.pairs new.pairs (pair_postings e.id r).pair
-      (taken_none old.pairs mid.pairs taken.pairs) more.pairs;
-}
+both_removed e r old mid new taken more = search (taken_then, taken_none, then_taken)

@@ -1,7 +1,7 @@
 -- Lists of accesses in the order of their versions.
 use Rattle.std.proofs.Common.{◌≡◌, ◌≢◌, ℕ, ◌+◌, ◌-◌, ◌<◌, ◌≤◌, ◌↔◌, List, ◌∷◌, length, get_or, take, drop}
 use Rattle.std.proofs.Common.{insert, remove, Contains, AllPairs, HoldsAt, Some, None, ◌⊎◌, inl, inr, refl}
-use Rattle.std.proofs.Common.{sym, ap, ◌∙◌, arith, subst, ltb, ltb-true, ltb-false, true, false}
+use Rattle.std.proofs.Common.{sym, ap, ◌∙◌, arith, subst, ltb, true, false}
 use Rattle.std.specs.List.{AllWithin}
 use Rattle.std.specs.List.Sorted.{IsPartitionPoint, IsNonDecreasingBy}
 use Rattle.std.proofs.lemmas.Bool.{cases_lt, cases_eq}
@@ -12,7 +12,9 @@ use Rattle.std.proofs.lemmas.List.Edits.{get_or-remove_above}
 use Rattle.std.proofs.lemmas.List.Elements.{at_read, at_from_Contains, Contains-get_or, Contains-append_left}
 use Rattle.std.proofs.lemmas.List.Elements.{Contains-append_right, Contains-append_cases}
 use Rattle.std.proofs.lemmas.Option.{same_Some}
-use Rattle.rv_event.proofs.Names.{Contains-cons, Contains-here, Contains-there}
+use Rattle.std.proofs.Common.{rules}
+use Rattle.std.proofs.lemmas.Grind.{common_steps}
+use Rattle.rv_event.proofs.Names.{Contains-here, Contains-there}
 use Rattle.rv_versions.specs.Accesses.{IsOf, AreAllOf, StandsBefore, AreByVersion, IsStart, IsLower}
 use Rattle.rv_versions.specs.Accesses.{IsFirstFrom, IsForeignFrom}
 use Rattle.rv_versions.specs.Indexes.{IsInserted, IsRemoved}
@@ -41,8 +43,8 @@ all_pairs_insert {X} R xs n y le pairs before behind i j d low high = elim (case
         let is : j ≡ m + 1 = omega arith in
         let size = length-insert xs n y le in
         let below : m < length xs = omega arith in
-        let last : get_or (insert xs n y) j d ≡ get_or xs m d = ap (λ (k : ℕ). get_or (insert xs n y) k d) is ∙
-        get_or-insert_above xs n y d m (omega arith) le in
+        let last : get_or (insert xs n y) j d ≡ get_or xs m d =
+        grind (arith, common_steps, insert, get_or-insert_above) in
         elim (cases_lt i n) [
           | inl ib ↦
               moved R _ (get_or xs i d) _ (get_or xs m d) (get_or-insert_below xs n y d i ib le) last
@@ -68,15 +70,7 @@ pub was_inserted : (xs : List Access) (n : ℕ) (a : Access) → IsInserted xs (
 was_inserted xs n a x = (to, from)
   where
     to : Contains (insert xs n a) x → Contains xs x ⊎ (Some a ≡ Some x)
-    to c = elim (Contains-append_cases (take n xs) (a ∷ drop n xs) x c) [
-      | inl front ↦ inl (subst (λ (l : List Access). Contains l x) (take-append-drop n xs)
-          (Contains-append_left (take n xs) (drop n xs) x front))
-      | inr rest ↦ elim (Contains-cons a (drop n xs) x rest) [
-        | inl same ↦ inr (ap Some same)
-        | inr back ↦ inl (subst (λ (l : List Access). Contains l x) (take-append-drop n xs)
-            (Contains-append_right (take n xs) (drop n xs) x back))
-      ]
-    ]
+    to c = grind (arith, common_steps)
 
     from : Contains xs x ⊎ (Some a ≡ Some x) → Contains (insert xs n a) x
     from (inr e) = Contains-append_right (take n xs) (a ∷ drop n xs) x (Contains-here a (drop n xs) x (same_Some a x e))
@@ -89,19 +83,10 @@ was_inserted xs n a x = (to, from)
 module _ (xs : List Access) (ordered : AreByVersion xs) where
   -- of two accesses of the list, the earlier is not of a higher version
   pub rising : IsNonDecreasingBy (λ x. x.version) xs
-  rising i j d le l = elim (cases_lt i j) [
-    | inl low ↦ (ordered i j d low l).0
-    | inr high ↦
-        let same : i ≡ j = omega arith in
-        let is : (get_or xs i d).version ≡ (get_or xs j d).version = ap (λ (k : ℕ). (get_or xs k d).version) same in
-        omega arith
-  ]
+  rising i j d le l = search (cases_lt, rules)
 
   apart : (i j : ℕ) (d : Access) → i < length xs → j < length xs → i ≢ j → get_or xs i d ≢ get_or xs j d
-  apart i j d li lj other same = elim (cases_lt i j) [
-    | inl low ↦ (ordered i j d low lj).1 same
-    | inr high ↦ (ordered j i d (omega arith) li).1 (sym same)
-  ]
+  apart i j d li lj other same = search (cases_lt, rules)
 
   -- and the order stays
   pub ordered_inserted :
@@ -161,8 +146,7 @@ module _ (xs : List Access) (ordered : AreByVersion xs) where
       AllWithin (λ x. x.version < v) xs 0 (p + 1)
   low_before v p b l is low k d from upto =
       let least : (get_or xs k d).version ≤ (get_or xs p d).version = rising k p d (omega arith) l in
-      let same : (get_or xs p d).version ≡ b.version = ap (λ (x : Access). x.version)
-      (at_read xs (λ x. x ≡ b) p b l is refl d) in
+      let same : (get_or xs p d).version ≡ b.version = grind (arith, common_steps) in
       omega arith
 
   -- what is not from a place on, and of a higher version than what is before it
@@ -187,10 +171,7 @@ module _ (xs : List Access) (ordered : AreByVersion xs) where
 pub start_found :
     (ys xs : List Access) (v n : ℕ) → ys ≡ xs →
     IsPartitionPoint (λ x. ltb x.version v ≡ true) (λ x. ltb x.version v ≡ false) ys n → IsStart xs v n
-start_found ys xs v n same part = subst (λ (zs : List Access). IsStart zs v n) same (
-  λ k d from upto. ltb-true (get_or ys k d).version v (part.0 k d from upto),
-  λ k d from upto. ltb-false (get_or ys k d).version v (part.1 k d from upto),
-)
+start_found ys xs v n same part = grind (arith, common_steps)
 
 -- where the last access is of a lower version
 pub start_past :
@@ -205,10 +186,7 @@ start_past ys xs v n same ordered size b some is low = subst (λ (zs : List Acce
 
 -- no accesses begin anywhere
 pub start_empty : (ys xs : List Access) (v n : ℕ) → ys ≡ xs → n ≡ length ys → length ys ≤ 0 → IsStart xs v n
-start_empty ys xs v n same size none = subst (λ (zs : List Access). IsStart zs v n) same (
-  λ k d from upto. absurd (omega arith),
-  λ k d from upto. absurd (omega arith),
-)
+start_empty ys xs v n same size none = grind (arith, common_steps)
 
 -- ---- questions
 
@@ -225,11 +203,7 @@ module _ (xs accesses : List Access) (word : ℕ) (all : AreAllOf accesses word 
   up_to : AreByVersion xs → (a x : Access) (i j : ℕ) → i ≤ j → j < length xs → HoldsAt (λ y. y ≡ a) xs i →
       HoldsAt (λ y. y ≡ x) xs j →
       a.version ≤ x.version
-  up_to ordered a x i j le l p q =
-      let low : (get_or xs i a).version ≤ (get_or xs j a).version = rising xs ordered i j a le l in
-      let e : (get_or xs i a).version ≡ a.version = ap (λ (y : Access). y.version) (p a) in
-      let f : (get_or xs j a).version ≡ x.version = ap (λ (y : Access). y.version) (q a) in
-      omega arith
+  up_to ordered a x i j le l p q = search (rising, rules)
 
   low_at : (x : Access) (k : ℕ) → HoldsAt (λ y. y ≡ x) xs k → k < n → x.version < v
   low_at x k p l = subst (λ (y : Access). y.version < v) (p x) (part.0 k x (omega arith) l)
@@ -350,19 +324,8 @@ is_between xs from to start end le size part under over x = (there, here)
 
     here : Contains xs x × (from ≤ x.version) × (x.version < to) → Contains (take (end - start) (drop start xs)) x
     here ((k, l, e), high, low) =
-        let not_past : k < end = elim (cases_lt k end) [
-          | inl below ↦ below
-          | inr above ↦
-              (let past : to ≤ x.version = subst (λ (y : Access). to ≤ y.version) e (part.1 k x above l) in
-              absurd (omega arith))
-        ] in
-        let not_before : start ≤ k = elim (cases_lt k start) [
-          | inl below ↦
-              (let before : x.version < from = subst (λ (y : Access). y.version < from) e
-              (under k x (omega arith) below) in
-              absurd (omega arith))
-          | inr above ↦ above
-        ] in
+        let not_past : k < end = grind (arith, common_steps) in
+        let not_before : start ≤ k = grind (arith, common_steps) in
         let m : ℕ = k - start in
         let is : start + m ≡ k = omega arith in
         (m, omega (arith, long), at m (omega arith) ∙ ap (λ (o : ℕ). get_or xs o x) is ∙ e)

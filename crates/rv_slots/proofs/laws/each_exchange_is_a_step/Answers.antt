@@ -7,14 +7,15 @@ use Rattle.rv_slots.proofs.UnpinSteps.{unpins_go, unpins_stray_go}
 use Rattle.rv_slots.proofs.laws.each_exchange_is_a_step.Goals as goal
 
 pub returns : goal.returns
-returns c = record {
-  claim = claims_go;
-  put = puts_go;
-  publish = publishes_go;
-  pin = pins_go;
-  get = gets_go;
-  done = finishes_go;
-  unpin = unpins_go;
-  unpin_stray = unpins_stray_go;
-  free = frees_go;
-}
+returns c =
+    search (
+      claims_go,
+      puts_go,
+      publishes_go,
+      pins_go,
+      gets_go,
+      finishes_go,
+      unpins_go,
+      unpins_stray_go,
+      frees_go,
+    )

@@ -1,25 +1,12 @@
-use Rattle.std.proofs.Common.{◌≡◌, ℕ, ◌<◌, ◌≤◌, ◌⊎◌, inl, inr, get_or, arith, sym, ◌∙◌}
+use Rattle.std.proofs.Common.{◌≡◌, ℕ, ◌<◌, ◌≤◌, ◌⊎◌, inl, inr, get_or, arith, sym}
 use Rattle.std.proofs.lemmas.Bool.{cases_lt}
+use Rattle.std.proofs.lemmas.Grind.{common_steps}
 use Rattle.rv_rows.proofs.Words.{cut_part, shifted_before, shifted_after}
 use Rattle.rv_rows.specs.Flat.{shifted}
 use Rattle.rv_rows.proofs.row.Row.subtract_words.Goals as goal
 
 pub ends-low-requires : goal.ends-low-requires
-ends-low-requires c =
-    let low = c.words.invariant.5 in
-    let high = c.words.invariant.6 in
-    let within = c.self.invariant.is_end.few in
-    record {
-      few = omega arith;
-      before = λ k less. c.words.invariant.2 k (omega arith) ∙ c.self.invariant.is_first.before k (omega arith);
-      after = λ k more. unchanged k (cases_lt k c.max-from.result) (omega arith) ∙ c.self.invariant.is_end.after k
-          (omega arith);
-    }
-  where
-    unchanged : (k : ℕ) → (k < c.max-from.result) ⊎ (c.max-from.result ≤ k) → c.self.inside.high ≤ k →
-        get_or c.words.self-inside.words k 0 ≡ get_or c.self.inside.words k 0
-    unchanged k (inl before) _ = c.words.invariant.2 k before
-    unchanged k (inr here) past = c.words.invariant.3 k (let far = c.words.invariant.4 in omega arith)
+ends-low-requires c = grind (arith, common_steps)
 
 pub returns : goal.returns
 returns c j =

@@ -1,6 +1,8 @@
-use Rattle.std.proofs.Common.{◌++◌, ◌∷◌, [], List, ℕ, length, sym, ap, ◌∙◌, arith, subst}
+use Rattle.std.proofs.Common.{◌++◌, ◌∷◌, [], List, ℕ, sym, arith, subst}
 use Rattle.std.proofs.lemmas.Bool.{false≢true}
-use Rattle.rv_rows.specs.Flat.{rows_of, AreLaid}
+use Rattle.std.proofs.Common.{rules}
+use Rattle.std.proofs.lemmas.Grind.{common_steps}
+use Rattle.rv_rows.specs.Flat.{AreLaid}
 use Rattle.rv_rows.specs.declared.rows.Place.{Place}
 use Rattle.rv_rows.proofs.Laying.{rows_count, rows_less, laid_less}
 use Rattle.rv_rows.proofs.rows.Rows.pop.Goals as goal
@@ -21,14 +23,7 @@ invariant_of-self c =
     (laid_less (words c) (front c) c.in-Some.place (laid c))
 
 pub returns-in-Some : goal.returns-in-Some
-returns-in-Some c rows last is =
-    ap (λ (ws : List ℕ). rows_of ws (front c)) c.truncate.ensures.items
-    ∙ rows_less (words c) (front c) c.in-Some.place rows last (laid c)
-    (ap (rows_of (words c)) (sym c.in-Some.ensures.items) ∙ c.self.view_is ∙ is)
+returns-in-Some c rows last is = search (rows_less, rules)
 
 pub returns-in_default : goal.returns-in_default
-returns-in_default c rows last is =
-    let some = c.requires in
-    let count = rows_count c.self.inside.words.items c.self.inside.places.items in
-    let same = ap (λ (rs : List (List ℕ)). length rs) c.self.view_is in
-    absurd (false≢true (c.in_default.ensures.variant.1 (omega (arith, c.self.inside.places.ok.0))))
+returns-in_default c rows last is = grind (arith, common_steps, rows_count, false≢true)

@@ -1,5 +1,6 @@
 use Rattle.std.proofs.Common.{◌≡◌, ◌<◌, ◌++◌, ◌∷◌, [], List, ℕ, length, sym, refl, ap, ◌∙◌, arith, subst}
-use Rattle.rv_rows.specs.Flat.{rows_of, shifted, AreLaid}
+use Rattle.std.proofs.Common.{rules}
+use Rattle.rv_rows.specs.Flat.{AreLaid}
 use Rattle.rv_rows.specs.declared.rows.Place.{Place}
 use Rattle.rv_rows.proofs.Laying.{rows_count, rows_more, laid_more}
 use Rattle.rv_rows.proofs.rows.Rows.push.Goals as goal
@@ -38,11 +39,4 @@ invariant_of-self-2 c =
     (begins c) refl c.used-first.ensures.within))
 
 pub returns-clause-pushed : goal.returns-clause-pushed
-returns-clause-pushed c = record {
-  last = shifted (place c).first (part c);
-  is_last =
-      (λ i. rows_of (longer c i) (more c i)) ∙ rows_more (words c) (part c) (places c) (place c) c.self.invariant
-      (begins c) refl
-      ∙ ap (λ (rs : List (List ℕ)). rs ++ shifted (place c).first (part c) ∷ []) c.self.view_is;
-  same = c.used-first.ensures.same;
-}
+returns-clause-pushed c = search (rows_more, rules)

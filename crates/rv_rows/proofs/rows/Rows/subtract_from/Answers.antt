@@ -1,34 +1,19 @@
-use Rattle.std.proofs.Common.{◌&&◌, not, List, ℕ, length, sym, ap, ◌∙◌, arith, subst}
+use Rattle.std.proofs.Common.{◌&&◌, not, List, ℕ, ap, ◌∙◌, arith}
+use Rattle.std.proofs.Common.{rules}
+use Rattle.std.proofs.lemmas.Grind.{common_steps}
 use Rattle.rv_rows.specs.Bits.{has_bit}
-use Rattle.rv_rows.specs.Flat.{IsWithin, part_at}
+use Rattle.rv_rows.specs.Flat.{part_at}
 use Rattle.rv_rows.proofs.Laying.{low_place, place_at, row_there, part_short}
 use Rattle.rv_rows.proofs.rows.Rows.subtract_from.Goals as goal
 
 pub index-place-requires : goal.index-place-requires
-index-place-requires c =
-    let low = low_place c.self.inside.words.items c.self.inside.places.items c.args.self.now c.args.number
-    c.self.view_is c.requires in
-    omega (arith, c.self.inside.places.ok.0)
+index-place-requires c = search (low_place, rules)
 
 pub words_at-requires : goal.words_at-requires
-words_at-requires c =
-    let low = low_place c.self.inside.words.items c.self.inside.places.items c.args.self.now c.args.number
-    c.self.view_is c.requires in
-    subst (λ (ws : List ℕ). IsWithin ws c.index-place.result.now) (sym c.as_slice.ensures.value)
-    (place_at c.self.inside.words.items c.self.inside.places.items c.args.number c.index-place.result.now
-    c.self.invariant low c.index-place.ensures)
+words_at-requires c = grind (arith, common_steps, low_place, place_at)
 
 pub subtract_words-requires : goal.subtract_words-requires
-subtract_words-requires c =
-    let low = low_place c.self.inside.words.items c.self.inside.places.items c.args.self.now c.args.number
-    c.self.view_is c.requires in
-    let narrow = (place_at c.self.inside.words.items c.self.inside.places.items c.args.number c.index-place.result.now
-    c.self.invariant low c.index-place.ensures).few in
-    omega (
-      arith,
-      ap (λ (ws : List ℕ). length ws) c.words_at.ensures,
-      part_short c.as_slice.result.now c.index-place.result.now,
-    )
+subtract_words-requires c = grind (arith, common_steps, low_place, place_at, part_short)
 
 pub returns : goal.returns
 returns c j =

@@ -1,4 +1,5 @@
 use Rattle.std.proofs.Common.{ℕ, ap, ◌∙◌}
+use Rattle.std.proofs.Common.{rules}
 use Rattle.rv_chunk.specs.Chunks.{is_chunk_text}
 use Rattle.rv_slots.specs.Lines.{put_in, published}
 use Rattle.rv_slots.specs.Calls.{filling_view}
@@ -6,10 +7,7 @@ use Rattle.rv_slots.proofs.Loops.{put_all}
 use Rattle.rv_slots.proofs.slots.Slots.fill.Goals as goal
 
 pub publish-requires-clause-whole : goal.publish-requires-clause-whole
-publish-requires-clause-whole c =
-    let f = c.loop-place.filling in
-    (put_all (put_in (filling_view f).state) c.args.words.now c.loop-place.place c.loop-place-test.false
-    c.loop-place.auto.place-end f.fills.long c.told-words c.loop-place.invariant.1).0
+publish-requires-clause-whole c = search (put_all, rules)
 
 pub publish-requires-clause-text : goal.publish-requires-clause-text
 publish-requires-clause-text c =

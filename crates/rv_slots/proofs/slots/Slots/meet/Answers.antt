@@ -18,12 +18,7 @@ join_seat-requires c = let a = c.args.first in let b = c.args.second in let t =
     )
 
 pub load-requires : goal.load-requires
-load-requires c = let t = c.args.self.now.table.shared in let sized = c.args.self.now.sized in
-    let few = c.args.self.now.few.0 in (
-      c.join_seat.ensures.0 ∙ c.requires.first,
-      omega arith,
-      learns t.key t.table_id.slots c.join_seat.new.seat.id c.join_seat.new.seat.me,
-    )
+load-requires c = search (learns, rules)
 
 pub split_seat-other-requires : goal.split_seat-other-requires
 split_seat-other-requires c = let a = c.args.first in let b = c.args.second in let t =

@@ -15,21 +15,10 @@ of_words-requires c = subst (λ (l : List ℕ). Kept c.args.count (opening l [] 
     (sym (c.as_slice.ensures.value ∙ (search rules))) (opens c.args.count)
 
 pub split_seat-next-requires : goal.split_seat-next-requires
-split_seat-next-requires c = let i = c.loop-number.invariant in let l = i.3 in let w =
-    c.in-Ok-of_words.ensures.0 in let n = c.as_slice.ensures.len in let v = c.in-Ok.ensures.len in (
-      i.0,
-      omega arith,
-      next_cuts c.in-Ok-of_words.table.shared.key c.loop-number.rest.id
-          c.loop-number.number c.loop-number.rest.me (omega arith) i.1,
-    )
+split_seat-next-requires c = search (next_cuts, rules)
 
 pub invariant_of-seat : goal.invariant_of-seat
-invariant_of-seat c = let i = c.loop-number.invariant in let l = i.3 in
-    record {
-      idle = idle_fresh c.loop-number.number c.split_seat-next.new.seat.me l
-          (left_is c.loop-number.number c.loop-number.rest.me c.split_seat-next.new.seat.me l i.1
-          c.split_seat-next.ensures.2);
-    }
+invariant_of-seat c = search (idle_fresh, left_is)
 
 pub loop-number-preserved : goal.loop-number-preserved
 loop-number-preserved c = let i = c.loop-number.invariant in let l = i.3 in let k =

@@ -1,6 +1,6 @@
 use Rattle.std.proofs.Common.{arith, sym}
-use Rattle.std.proofs.Common.{◌∙◌, refl}
-use Rattle.rv_slots.specs.Lines.{the_view, pinned}
+use Rattle.std.proofs.Common.{◌∙◌}
+use Rattle.std.proofs.lemmas.Grind.{common_steps}
 use Rattle.rv_slots.proofs.PinSteps.{pins_with}
 use Rattle.rv_slots.proofs.Told.{zero_one, view_told, inside_after, pinned_after, stray_after}
 use Rattle.rv_slots.proofs.Told.{latest_told, full_set, full_clear, done_set, done_clear}
@@ -19,14 +19,7 @@ fetch_or-found-requires c = let sized = c.args.self.now.sized in let below = c.r
     )
 
 pub invariant_of-result : goal.invariant_of-result
-invariant_of-result c = let q = c.args.seat in let n = c.fetch_or-found.result in record {
-  pinned = pinned_after q.number c.args.slot n q.place.me c.fetch_or-found.new.seat.me q.idle
-      c.fetch_or-found.ensures.2.0 (full_set n c.if-found-ne0.true)
-      (done_clear n c.if-found-eq0.true);
-  inside = inside_after c.args.slot c.args.self.now.count c.args.self.now.table.shared.table_id
-      q.place.table_id c.fetch_or-found.new.seat.table_id c.requires.slot c.args.self.now.sized
-      c.requires.table c.fetch_or-found.ensures.0;
-}
+invariant_of-result c = search (pinned_after, full_set, done_clear, inside_after)
 
 pub invariant_of-result-else-found-ne0 : goal.invariant_of-result-else-found-ne0
 invariant_of-result-else-found-ne0 c = let q = c.args.seat in let n = c.fetch_or-found.result in
@@ -39,21 +32,8 @@ invariant_of-result-else-found-ne0 c = let q = c.args.seat in let n = c.fetch_or
             | else-found-ne0-via-else-found-ne0 w ↦ λ e. absurd
                 (zero_one (sym (full_clear n w.if-found-ne0.false) ∙ e))
           ]);
-      inside = inside_after c.args.slot c.args.self.now.count c.args.self.now.table.shared.table_id
-          q.place.table_id c.fetch_or-found.new.seat.table_id c.requires.slot c.args.self.now.sized
-          c.requires.table c.fetch_or-found.ensures.0;
+      inside = grind (arith, common_steps);
     }
 
 pub returns-then-found-eq0 : goal.returns-then-found-eq0
-returns-then-found-eq0 c = let q = c.args.seat in let n = c.fetch_or-found.result in (
-  n,
-  full_set n c.if-found-ne0.true,
-  done_clear n c.if-found-eq0.true,
-  view_told
-      (λ k. pinned (the_view q.place.me.0) k n) c.args.slot c.fetch_or-found.new.seat.me
-      c.fetch_or-found.ensures.2.0,
-  latest_told (the_view q.place.me.0) c.args.slot n c.fetch_or-found.ensures.2.1,
-  c.fetch_or-found.ensures.0,
-  refl,
-  refl,
-)
+returns-then-found-eq0 c = search (full_set, done_clear, view_told, latest_told)

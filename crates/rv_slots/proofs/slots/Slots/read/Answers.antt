@@ -1,5 +1,5 @@
-use Rattle.std.proofs.Common.{◌≡◌, length, arith, sym, ap, ◌∙◌, List, ℕ, Option, true≢false}
-use Rattle.rv_chunk.specs.Chunks.{is_chunk_text}
+use Rattle.std.proofs.Common.{◌≡◌, length, arith, ap, ◌∙◌, List, ℕ, Option, true≢false}
+use Rattle.std.proofs.lemmas.Grind.{common_steps}
 use Rattle.rv_slots.specs.Lines.{pin_words}
 use Rattle.rv_slots.specs.Calls.{pinned_view}
 use Rattle.rv_slots.specs.declared.seats.Pinned.{Pinned}
@@ -11,14 +11,7 @@ long_is f = ap (λ (l : List (Option ℕ)). length l) (pin_words_is (pinned_view
     ∙ f.pinned.long
 
 pub unreachable-requires : goal.unreachable-requires
-unreachable-requires c =
-    let f = c.loop-place.pinned in
-    let i = c.loop-place.invariant in
-    let past = c.loop-place-test.false in
-    let all = put_all (pin_words (pinned_view f).records) c.loop-place.words c.loop-place.place past
-    c.loop-place.auto.place-end (long_is f) i.2 i.1 in
-    let text = ap is_chunk_text (sym all.1) ∙ i.3 (omega arith) all.0 in
-    true≢false (sym (c.in_default.ensures.some.1 text))
+unreachable-requires c = grind (arith, common_steps, put_all, long_is, true≢false)
 
 pub returns-clause-read : goal.returns-clause-read
 returns-clause-read c =

@@ -1,8 +1,6 @@
-use Rattle.std.proofs.Common.{ℕ, ap}
-use Rattle.std.proofs.Common.{refl, bit_and, w64}
-use Rattle.rv_slots.proofs.Told.{view_told, slot_below}
-use Rattle.std.specs.Int.{bit_not}
-use Rattle.rv_slots.specs.Lines.{the_view, unpinned}
+use Rattle.rv_slots.proofs.Told.{slot_below}
+use Rattle.std.proofs.Common.{arith}
+use Rattle.std.proofs.lemmas.Grind.{common_steps}
 use Rattle.rv_slots.proofs.UnpinSteps.{unpins_stray_by}
 use Rattle.rv_slots.proofs.slots.Slots.unpin_stray.Goals as goal
 
@@ -17,12 +15,4 @@ fetch_and-found-requires c = let p = c.args.stray in let t = c.args.self.now.tab
     )
 
 pub returns-clause-step : goal.returns-clause-step
-returns-clause-step c = let p = c.args.stray in (
-  c.fetch_and-found.result,
-  ap (λ (m : ℕ). bit_and c.fetch_and-found.result (bit_not w64 m))
-      c.pin_of-others.ensures,
-  view_told
-      (λ k. unpinned (the_view p.place.me.0) k c.fetch_and-found.result) p.slot
-      c.fetch_and-found.new.seat.me c.fetch_and-found.ensures.2,
-  refl,
-)
+returns-clause-step c = grind (arith, common_steps)

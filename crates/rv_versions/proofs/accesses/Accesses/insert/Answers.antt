@@ -1,13 +1,14 @@
 use Rattle.std.proofs.Common.{sym, ◌∙◌, refl}
-use Rattle.rv_versions.proofs.Posted.{failed, went, same_itself, same_again}
+use Rattle.std.proofs.Common.{arith}
+use Rattle.std.proofs.lemmas.Grind.{common_steps}
+use Rattle.rv_versions.proofs.Posted.{went, same_itself, same_again}
 use Rattle.rv_versions.proofs.accesses.Accesses.insert.Goals as goal
 
 pub returns-then-is_err-clause-unchanged : goal.returns-then-is_err-clause-unchanged
 returns-then-is_err-clause-unchanged c = record {
   stores = same_again c.args.self.now.stores c.insert_posting.new.self c.remove_posting.new.self c.args.postings.store
       c.requires.stores c.in_ok-insert_posting.ensures.inserted c.remove_posting.ensures;
-  loads = same_itself _ _ (failed c.insert_posting-2.result _ (sym c.is_err.ensures.value ∙
-      c.if-is_err.true) c.insert_posting-2.ensures.unchanged);
+  loads = grind (arith, common_steps);
   pairs = same_itself _ _ refl;
 }
 
@@ -20,8 +21,7 @@ returns-then-is_err-2-clause-unchanged c = record {
       c.args.postings.load c.requires.loads
       (went c.insert_posting-2.result _ (sym c.is_err.ensures.value ∙
       c.if-is_err.false) c.insert_posting-2.ensures.inserted) c.remove_posting-then-is_err-2.ensures;
-  pairs = same_itself _ _ (failed c.insert_posting-3.result _ (sym c.is_err-2.ensures.value ∙
-      c.if-is_err-2.true) c.insert_posting-3.ensures.unchanged);
+  pairs = grind (arith, common_steps);
 }
 
 pub returns-clause-inserted : goal.returns-clause-inserted

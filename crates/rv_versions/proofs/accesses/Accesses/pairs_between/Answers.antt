@@ -1,11 +1,6 @@
-use Rattle.std.proofs.Common.{map}
-use Rattle.rv_versions.specs.Accesses.{id_of}
 use Rattle.rv_versions.proofs.Looking.{pairs_of}
 use Rattle.rv_versions.proofs.Placed.{ids_of}
 use Rattle.rv_versions.proofs.accesses.Accesses.pairs_between.Goals as goal
 
 pub returns : goal.returns
-returns c log word of =
-    pairs_of log of.reserved of.indexes of.known word c.args.from c.args.to (map id_of c.between.result.now)
-    (ids_of of.indexes.pairs word c.args.from c.args.to c.args.self.now.pairs c.between.result.now of.all.pairs
-    c.between.ensures)
+returns c log word of = search (pairs_of, ids_of)

@@ -1,4 +1,5 @@
 use Rattle.std.proofs.Common.{◌<◌, ◌≤◌, ◌-◌, ◌∙◌, List, ℕ, Some, length, get_or, ap, sym, subst, arith}
+use Rattle.std.proofs.lemmas.Grind.{common_steps}
 use Rattle.rv_versions.specs.Accesses.{AreByVersion, IsFirstFrom}
 use Rattle.rv_versions.specs.declared.accesses.Access.{Access}
 use Rattle.rv_versions.proofs.Versioned.{first_some, first_none, first_last}
@@ -26,10 +27,5 @@ returns-then-start-len c accesses word all =
 
 pub returns-else-start-len : goal.returns-else-start-len
 returns-else-start-len c accesses word all =
-    let past : length c.args.self.now ≤ c.start-start.result = omega (
-      arith,
-      c.self.inside.accesses.ok.0,
-      ap length
-          c.self.view_is,
-    ) in
+    let past : length c.args.self.now ≤ c.start-start.result = grind (arith, common_steps) in
     first_none c.args.self.now accesses word all c.args.version c.start-start.result c.start-start.ensures.parted past

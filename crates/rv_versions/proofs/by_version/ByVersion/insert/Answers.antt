@@ -1,4 +1,6 @@
-use Rattle.std.proofs.Common.{◌≡◌, ◌+◌, ◌∙◌, List, ℕ, Some, insert, ap, sym, subst}
+use Rattle.std.proofs.Common.{◌≡◌, ◌+◌, List, ℕ, Some, insert, sym, subst}
+use Rattle.std.proofs.Common.{arith}
+use Rattle.std.proofs.lemmas.Grind.{common_steps}
 use Rattle.rv_versions.specs.Accesses.{AreByVersion, IsStart}
 use Rattle.rv_versions.specs.Indexes.{IsInserted}
 use Rattle.rv_versions.specs.declared.accesses.Access.{Access}
@@ -7,9 +9,7 @@ use Rattle.rv_versions.proofs.by_version.ByVersion.insert.Goals.{In_ok-insert}
 use Rattle.rv_versions.proofs.by_version.ByVersion.insert.Goals as goal
 
 made : (c : In_ok-insert) → c.insert.new.self.items ≡ insert c.args.self.now c.start-place.result c.args.access
-made c =
-    c.in_ok-insert.ensures.items ∙
-    ap (λ (xs : List Access). insert xs c.start-place.result c.args.access) c.self.view_is
+made c = grind (arith, common_steps)
 
 pub invariant_of-self-2 : goal.invariant_of-self-2
 invariant_of-self-2 c =

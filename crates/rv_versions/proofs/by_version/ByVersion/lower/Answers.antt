@@ -1,4 +1,5 @@
-use Rattle.std.proofs.Common.{◌≡◌, ◌<◌, ◌-◌, ◌∙◌, List, ℕ, get_or, ap, sym, subst, arith}
+use Rattle.std.proofs.Common.{◌-◌, ◌∙◌, List, ℕ, get_or, ap, subst, arith}
+use Rattle.std.proofs.lemmas.Grind.{common_steps}
 use Rattle.rv_versions.specs.Accesses.{AreByVersion, IsStart}
 use Rattle.rv_versions.specs.declared.accesses.Access.{Access}
 use Rattle.rv_versions.proofs.Versioned.{lower_some, lower_none}
@@ -20,12 +21,4 @@ returns-clause-found c accesses word all =
     (c.index.ensures ∙ ap (λ (xs : List Access). get_or xs (n - 1) a) c.self.view_is)
 
 pub returns-clause-below : goal.returns-clause-below
-returns-clause-below c =
-    let n = c.start-end.result in
-    let a = c.index.result.now in
-    let xs = c.args.self.now in
-    let is : get_or xs (n - 1) a ≡ a = sym
-    (c.index.ensures ∙ ap (λ (ys : List Access). get_or ys (n - 1) a) c.self.view_is) in
-    let low : (get_or xs (n - 1) a).version < c.args.version = (subst (λ (v : ℕ). IsStart xs v n) c.from.ensures
-    c.start-end.ensures.parted).0 (n - 1) a (omega arith) (omega arith) in
-    subst (λ (x : Access). x.version < c.args.version) is low
+returns-clause-below c = grind (arith, common_steps)

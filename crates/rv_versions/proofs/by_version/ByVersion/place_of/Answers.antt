@@ -1,5 +1,6 @@
 use Rattle.std.proofs.Common.{◌-◌, ◌+◌, ◌≢◌, ◌≡◌, ◌∙◌, List, ℕ, get_or, ap, subst, arith}
 use Rattle.std.specs.List.{AllWithin}
+use Rattle.std.proofs.Common.{rules}
 use Rattle.rv_versions.specs.Accesses.{AreByVersion, IsStart}
 use Rattle.rv_versions.specs.declared.accesses.Access.{Access}
 use Rattle.rv_versions.proofs.Versioned.{absent_of}
@@ -15,8 +16,7 @@ returns-then-other-access c =
     let some = c.loop-place-test.true in
     let upto = c.loop-place.auto.place in
     let next : c.loop-place.place ≡ p + 1 = omega arith in
-    let none : AllWithin (λ x. x ≢ a) xs c.loop-place.place end = subst (λ (ys : List Access). AllWithin (λ x. x ≢ a) ys
-    c.loop-place.place end) c.self.view_is c.loop-place.invariant in
+    let none : AllWithin (λ x. x ≢ a) xs c.loop-place.place end = search rules in
     absent_of xs (subst AreByVersion c.self.view_is c.self.invariant) a p end b (omega arith) c.start-end.ensures.bound
     (subst (λ (v : ℕ). IsStart xs (v + 1) end) c.from.ensures c.start-end.ensures.parted)
     (subst (λ (n : ℕ). AllWithin (λ x. x ≢ a) xs n end) next none)

@@ -1,5 +1,6 @@
 use Rattle.std.proofs.Common.{◌≡◌, ◌∙◌, get_or, set, nat_eq, sym, subst}
 use Rattle.std.specs.HashMap.{get}
+use Rattle.std.proofs.Common.{rules}
 use Rattle.rv_versions.specs.Indexes.{AreInserted, AreSame, AreAbsent}
 use Rattle.rv_versions.specs.Words.{no_accesses, together}
 use Rattle.rv_versions.specs.declared.accesses.Accesses.{Accesses}
@@ -11,9 +12,7 @@ use Rattle.rv_versions.proofs.indexes.Indexes.insert_to.Goals as goal
 
 here : (c : After-index_mut-accesses) →
     get_or c.place_of.new.words.items c.in_ok-place.place no_accesses ≡ c.index_mut-accesses.result.now
-here c = here_is c.place_of.new.words.items c.in_ok-place.place c.index_mut-accesses.result.now no_accesses
-    (c.place_of.ensures.in_place.numbers.known c.args.word c.in_ok-place.place c.in_ok-place.ensures.placed)
-    c.index_mut-accesses.ensures.value
+here c = search (here_is, rules)
 
 -- all accesses, before
 all : (c : After-index_mut-accesses) → together c.place_of.new.words.items ≡ c.args.self.now

@@ -1,5 +1,7 @@
 use Rattle.std.proofs.Common.{◌≡◌, Some, get_or, set, nat_eq, sym, subst}
 use Rattle.std.specs.HashMap.{get}
+use Rattle.std.proofs.Common.{arith}
+use Rattle.std.proofs.lemmas.Grind.{common_steps}
 use Rattle.rv_versions.specs.Indexes.{AreRemoved}
 use Rattle.rv_versions.specs.Words.{no_accesses, together}
 use Rattle.rv_versions.specs.declared.accesses.Accesses.{Accesses}
@@ -21,21 +23,10 @@ taken c =
     (c.self.invariant.0.numbers.known c.args.word k (number c)) c.index_mut-accesses.ensures.value)) c.remove.ensures
 
 pub returns-in_default : goal.returns-in_default
-returns-in_default c =
-    subst (λ (all : Accesses). AreRemoved all c.args.postings all) c.self.view_is
-    (none_removed (get nat_eq c.self.inside.places) c.self.inside.words.items c.self.invariant.0 c.args.word
-    c.args.postings c.requires (sym c.in_default.ensures.value))
+returns-in_default c = grind (arith, common_steps, none_removed)
 
 pub invariant_of-self : goal.invariant_of-self
-invariant_of-self c =
-    let r = (goal.at.invariant_of-self c).After-remove in
-    let words = c.self.inside.words.items in
-    let k = c.in-Some.place.now in (
-      still_in_place (get nat_eq c.self.inside.places) words c.self.invariant.0 c.args.word k c.args.postings
-          c.remove.new.self (number r) c.requires
-          (from_removed (get_or words k no_accesses) c.remove.new.self c.args.postings (taken r)),
-      c.self.invariant.1,
-    )
+invariant_of-self c = search (After-remove, still_in_place, number, from_removed, taken)
 
 pub returns : goal.returns
 returns c =

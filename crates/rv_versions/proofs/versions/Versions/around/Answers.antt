@@ -1,4 +1,5 @@
 -- What is listed is what the edges by versions ask for.
+use Rattle.std.proofs.Common.{rules}
 use Rattle.rv_cover.proofs.Indexing.{indexed_from_events}
 use Rattle.rv_event.proofs.Indexed.{Indexed, Sound, sound_of}
 use Rattle.rv_event.specs.Log.{events}
@@ -33,10 +34,8 @@ returns c =
             (warrant_before model log e r known sound is l (b.only l h));
         other_after = λ l h. other_of model log e r known sound is (Out model log e r known sound is) l
             (warrant_after model log e r known sound is l ((a l).0 h));
-        carried_before = λ reason x of cx mx me why. carried_before model log e r known sound is
-            others b reason x of cx why;
-        carried_after = λ reason x of cx me mx why. carried_after model log e r known sound is
-            c.in_ok-after.after.items a reason x of cx why;
+        carried_before = search (carried_before, rules);
+        carried_after = search (carried_after, rules);
         nearest = nearest log e r known others c.in_ok-after.after.items b a;
       },
     )

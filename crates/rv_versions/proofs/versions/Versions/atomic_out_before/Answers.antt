@@ -1,5 +1,6 @@
-use Rattle.std.proofs.Common.{map, refl, sym, ◌∙◌, arith}
+use Rattle.std.proofs.Common.{map, sym, ◌∙◌, arith}
 use Rattle.std.proofs.lemmas.Bool.{false≢true}
+use Rattle.std.proofs.lemmas.Grind.{common_steps}
 use Rattle.rv_event.specs.Log.{events}
 use Rattle.rv_versions.specs.Accesses.{id_of}
 use Rattle.rv_versions.specs.Lookups.{IsPairBetween}
@@ -16,24 +17,13 @@ returns c =
     c.append_foreign.result c.append_foreign.ensures
 
 pub returns-then-not-is_store : goal.returns-then-not-is_store
-returns-then-not-is_store c =
-    no_atomic_outs (events c.args.self.now) c.args.event.now c.args.links.now.items
-    (λ sc lr a. false≢true (sym c.if-not-is_store.true ∙ c.is_store.ensures.1 a.store))
+returns-then-not-is_store c = grind (arith, common_steps)
 
 pub returns-then-not-has_pair_below : goal.returns-then-not-has_pair_below
 returns-then-not-has_pair_below c =
     let log = events c.args.self.now in
     let e = c.args.event.now in
     no_atomic_outs log e c.args.links.now.items (λ sc lr a.
-    let pair : IsPairBetween log e.word 0 e.wrote sc.id = record {
-      sc = sc;
-      lr = lr;
-      of_log = a.of_log;
-      pair = a.pair;
-      same = a.word;
-      at_least = omega arith;
-      below = a.below;
-      named = refl;
-    } in
+    let pair : IsPairBetween log e.word 0 e.wrote sc.id = grind (arith, common_steps) in
     false≢true
     (sym c.if-not-has_pair_below.true ∙ (c.has_pair_below.ensures log e.word c.requires).1 (sc.id, pair)))

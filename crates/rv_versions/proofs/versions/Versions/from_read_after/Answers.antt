@@ -1,9 +1,8 @@
-use Rattle.std.proofs.Common.{◌≡◌, ◌∷◌, ◌++◌, ◌∙◌, [], None, ap, subst, rules}
+use Rattle.std.proofs.Common.{◌≡◌, None, subst, rules}
+use Rattle.std.proofs.Common.{arith}
+use Rattle.std.proofs.lemmas.Grind.{common_steps}
 use Rattle.rv_cover.proofs.Indexing.{indexed_from_events}
-use Rattle.rv_event.specs.declared.event.Id.{Id}
-use Rattle.rv_event.specs.declared.reason.Reason.TheVariants.{FromRead}
 use Rattle.rv_event.specs.Log.{events}
-use Rattle.rv_versions.specs.Listed.{link}
 use Rattle.rv_versions.specs.Lookups.{IsHigherStore}
 use Rattle.rv_versions.proofs.Listing.{no_from_read_after, from_read_after_of}
 use Rattle.rv_versions.proofs.versions.Versions.from_read_after.Goals as goal
@@ -11,13 +10,7 @@ use Rattle.rv_versions.proofs.versions.Versions.from_read_after.Goals.{else-is_l
 use Rattle.rv_versions.proofs.versions.Versions.from_read_after.Goals.{else-is_load-via-then-is_load+in-None-1}
 
 pub returns-in_ok-push : goal.returns-in_ok-push
-returns-in_ok-push c =
-    from_read_after_of (events c.args.self.now)
-    (indexed_from_events (events c.args.self.now) c.requires.known.well_formed) c.args.event.now
-    c.args.links.now.items c.push.new.self.items c.in-Some.store
-    (c.is_load.ensures.0 c.if-is_load.true) (c.in-Some.ensures (events c.args.self.now)
-    c.args.event.now.word c.requires)
-    (c.in_ok-push.ensures.items ∙ ap (λ (i : Id). c.args.links.now.items ++ link i FromRead ∷ []) c.id.ensures)
+returns-in_ok-push c = grind (arith, common_steps, from_read_after_of, indexed_from_events)
 
 pub returns-else-is_load : goal.returns-else-is_load
 returns-else-is_load c = elim c.else-is_load.branch [

@@ -1,5 +1,7 @@
 -- The event joins the log and the indexes together.
 use Rattle.std.proofs.Common.{◌≡◌, ◌++◌, ◌∷◌, [], List, Option, None, refl, sym, ap, ◌∙◌, subst}
+use Rattle.std.proofs.Common.{arith}
+use Rattle.std.proofs.lemmas.Grind.{common_steps}
 use Rattle.rv_event.specs.Faults.{event_fault}
 use Rattle.rv_event.specs.Log.{events}
 use Rattle.rv_event.specs.declared.event.Entry.{Entry}
@@ -21,8 +23,7 @@ invariant_of-self-in_err-insert c =
     let e = c.args.entry.event in
     let entries = c.self.inside.entries.items in
     let reserved = c.self.inside.reserved.items in
-    let sound : event_fault (events entries) e ≡ None = subst (λ (log : List Entry). event_fault (events log) e ≡ None)
-    (sym c.self.view_is) c.requires.sound in
+    let sound : event_fault (events entries) e ≡ None = grind (arith, common_steps) in
     indexes_are (events entries) (events c.reserve.new.self.items) reserved c.reserve-2.new.self.items c.insert.new.self
     (ap events (sym c.reserve.ensures.items)) (sym c.reserve-2.ensures.items)
     (indexes_same (events entries) reserved c.self.inside.indexes e c.args.reserved c.self.invariant sound

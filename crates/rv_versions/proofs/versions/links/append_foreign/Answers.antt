@@ -1,5 +1,6 @@
 use Rattle.std.proofs.Common.{◌≡◌, ◌≢◌, ◌∷◌, ◌++◌, [], List, take, map, get_or, sym, subst, arith}
 use Rattle.std.proofs.lemmas.List.{take_more, take_all, map-append}
+use Rattle.std.proofs.lemmas.Grind.{common_steps}
 use Rattle.rv_event.specs.declared.event.Id.{Id}
 use Rattle.rv_event.specs.declared.reason.Link.{Link}
 use Rattle.rv_versions.specs.Accesses.{id_of}
@@ -23,8 +24,8 @@ loop-access-preserved c =
     rw (take_more xs k none (omega arith), map-append id_of (take k xs) (x ∷ []))
     (elim c.if-access-hart.branch [
       | then-access-hart+in_ok-push w ↦
-          let is : c.if-access-hart.links.items ≡ c.loop-access.links.items ++ link (id_of x) c.args.reason ∷ [] = cc
-          (w.in_ok-push.ensures.items, w.id.ensures) in
+          let is : c.if-access-hart.links.items ≡ c.loop-access.links.items ++ link (id_of x) c.args.reason ∷ [] =
+          grind (arith, common_steps) in
           linked_more (λ i. i.hart ≢ c.args.hart) c.args.reason old c.loop-access.links.items
           c.if-access-hart.links.items seen (id_of x) c.loop-access.invariant w.if-access-hart.true is
       | else-access-hart w ↦
