@@ -26,22 +26,6 @@ filter_none t (x ∷ xs) h =
 pub listed_all_few : (t : ℕ → Bool) (xs : List ℕ) → length (filter t xs) ≤ length xs
 listed_all_few t xs = omega (arith, length-filter t xs, count_by-le-length t xs)
 
-filter_take_same : (t u : ℕ → Bool) (xs : List ℕ) (r : ℕ) →
-    ((k : ℕ) → k < r → k < length xs → t (get_or xs k 0) ≡ u (get_or xs k 0)) →
-    filter t (take r xs) ≡ filter u (take r xs)
-filter_take_same t u xs r h = filter_same t u (take r xs) (λ k l.
-    let long = length-take r xs in
-    let q = get_or-take r xs k 0 (omega arith) in
-    rw q (h k (omega arith) (omega arith)))
-
-filter_drop_same : (t u : ℕ → Bool) (xs : List ℕ) (r : ℕ) →
-    ((k : ℕ) → r ≤ k → k < length xs → t (get_or xs k 0) ≡ u (get_or xs k 0)) →
-    filter t (drop r xs) ≡ filter u (drop r xs)
-filter_drop_same t u xs r h = filter_same t u (drop r xs) (λ k l.
-    let long = length-drop r xs in
-    let q = get_or-drop r xs k 0 in
-    rw q (h (r + k) (omega arith) (omega arith)))
-
 -- none of the first passes
 pub listed_none : (t : ℕ → Bool) (xs : List ℕ) (r : ℕ) →
     ((k : ℕ) → k < r → k < length xs → t (get_or xs k 0) ≡ false) → filter t (take r xs) ≡ []
@@ -54,33 +38,25 @@ listed_none t xs r h = filter_none t (take r xs) (λ k l.
 pub listed_more : (t u : ℕ → Bool) (xs : List ℕ) (r : ℕ) → r < length xs →
     ((k : ℕ) → k < r → k < length xs → t (get_or xs k 0) ≡ u (get_or xs k 0)) → u (get_or xs r 0) ≡ true →
     filter t (take r xs) ++ get_or xs r 0 ∷ [] ≡ filter u (take (r + 1) xs)
-listed_more t u xs r l h e = grind (arith, common_steps, filter_take_same, filter_more)
+listed_more t u xs r l h e =
+    grind (arith, common_steps, filter_more, filter_same, length-take, get_or-take)
 
 -- one that fails, upward
 pub listed_skip : (t : ℕ → Bool) (xs : List ℕ) (r : ℕ) → r < length xs → t (get_or xs r 0) ≡ false →
     filter t (take r xs) ≡ filter t (take (r + 1) xs)
 listed_skip t xs r l e = grind (arith, common_steps)
 
--- no more pass than were looked at
-pub listed_few : (t : ℕ → Bool) (xs : List ℕ) (r : ℕ) → length (filter t (take r xs)) ≤ r
-listed_few t xs r = omega (arith, listed_all_few t (take r xs), length-take r xs)
-
 -- one more that passes, downward
 pub listed_down_more : (t u : ℕ → Bool) (xs : List ℕ) (r : ℕ) → r < length xs →
     ((k : ℕ) → r + 1 ≤ k → k < length xs → t (get_or xs k 0) ≡ u (get_or xs k 0)) → u (get_or xs r 0) ≡ true →
     reverse (filter t (drop (r + 1) xs)) ++ get_or xs r 0 ∷ [] ≡ reverse (filter u (drop r xs))
 listed_down_more t u xs r l h e =
-    grind (arith, common_steps, filter_drop_same, drop-cons, reverse-append)
+    grind (arith, common_steps, drop-cons, reverse-append, filter_same, length-drop, get_or-drop)
 
 -- one that fails, downward
 pub listed_down_skip : (t : ℕ → Bool) (xs : List ℕ) (r : ℕ) → r < length xs → t (get_or xs r 0) ≡ false →
     reverse (filter t (drop (r + 1) xs)) ≡ reverse (filter t (drop r xs))
 listed_down_skip t xs r l e = grind (arith, common_steps)
-
--- no more pass than are behind
-pub listed_down_few : (t : ℕ → Bool) (xs : List ℕ) (r : ℕ) → r ≤ length xs →
-    length (filter t (drop r xs)) + r ≤ length xs
-listed_down_few t xs r l = omega (arith, listed_all_few t (drop r xs), length-drop r xs)
 
 -- all that pass do so from place r on
 pub listed_from : (t : ℕ → Bool) (xs : List ℕ) (r : ℕ) →

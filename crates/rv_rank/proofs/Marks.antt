@@ -1,5 +1,5 @@
 -- Marks that are kept by rank.
-use Rattle.std.proofs.Common.{◌≡◌, ◌≢◌, ℕ, ◌+◌, ◌-◌, ◌<◌, ◌≤◌, ◌⊎◌, ◌||◌, true, false, not, List}
+use Rattle.std.proofs.Common.{◌≡◌, ◌≢◌, ℕ, ◌+◌, ◌-◌, ◌<◌, ◌≤◌, ◌⊎◌, true, false, List}
 use Rattle.std.proofs.Common.{length, get_or, set, take, inl, inr, sym, ◌∙◌, arith, ap, refl}
 use Rattle.std.specs.List.{Contains}
 use Rattle.std.specs.Prelude.{nat_lt}
@@ -11,7 +11,6 @@ use Rattle.rv_rank.specs.declared.search.Mark.{Mark}
 use Rattle.rv_rank.specs.declared.search.Mark.TheVariants.{Free, Start, After, Behind}
 use Rattle.rv_rank.specs.Order.{IsInverse}
 use Rattle.rv_rank.specs.Marks.{mark_at, mark_of, IsMarked, IsSpread, is_free, is_ahead, is_behind}
-use Rattle.rv_rank.specs.Marks.{is_slot}
 use Rattle.rv_rank.proofs.Lists.{Contains-take_more, Contains-take_kept, Contains-take_last}
 
 -- a mark is free or not
@@ -20,13 +19,6 @@ cases_free Free = inl refl
 cases_free Start = inr (λ e. cc)
 cases_free (After u) = inr (λ e. cc)
 cases_free Behind = inr (λ e. cc)
-
--- a mark that tests as not free is not
-pub not_free : (m : Mark) → is_free m ≡ false → m ≢ Free
-not_free Free e = cc
-not_free Start e = λ q. cc
-not_free (After u) e = λ q. cc
-not_free Behind e = λ q. cc
 
 -- a mark that is neither free nor behind is ahead
 pub ahead_else : (m : Mark) → m ≢ Free → m ≢ Behind → is_ahead m ≡ true
@@ -70,13 +62,6 @@ behind_not_ahead Start e = cc
 behind_not_ahead (After u) e = cc
 behind_not_ahead Behind e = refl
 
--- what was found is behind or ahead
-pub found_either : (m : Mark) → not (is_free m) ≡ (is_behind m || is_ahead m)
-found_either Free = refl
-found_either Start = refl
-found_either (After u) = refl
-found_either Behind = refl
-
 -- the mark of a rank from the lowest on
 pub mark_at-above : (low : ℕ) (marks : List Mark) (r : ℕ) → low ≤ r →
     mark_at low marks r ≡ get_or marks (r - low) Free
@@ -88,22 +73,6 @@ pub mark_at-below : (low : ℕ) (marks : List Mark) (r : ℕ) → r < low → ma
 unfolding mark_at
 mark_at-below low marks r l = cond-true (nat_lt r low) Free (get_or marks (r - low) Free) (lt-ltb r low l)
 
--- and so they are past the marks
-pub mark_at-past : (low : ℕ) (marks : List Mark) (r : ℕ) → low + length marks ≤ r → mark_at low marks r ≡ Free
-mark_at-past low marks r l = mark_at-above low marks r (omega arith) ∙ get_or_past marks (r - low) Free (omega arith)
-
--- the mark that was set
-pub mark_at-set_same : (low : ℕ) (marks : List Mark) (r : ℕ) (m : Mark) → low ≤ r → r < low + length marks →
-    mark_at low (set marks (r - low) m) r ≡ m
-mark_at-set_same low marks r m l h = mark_at-above low (set marks (r - low) m) r l ∙
-    get_or-set_same marks (r - low) m Free (omega arith)
-
--- any other mark
-pub mark_at-set_other : (low : ℕ) (marks : List Mark) (r s : ℕ) (m : Mark) → low ≤ s → r ≢ s →
-    mark_at low (set marks (s - low) m) r ≡ mark_at low marks r
-mark_at-set_other low marks r s m l n =
-    grind (arith, common_steps, cases_lt, mark_at-below, mark_at-above, get_or-set_other)
-
 -- the mark of a node is that of its rank
 pub mark_of-node : (low : ℕ) (ranks : List ℕ) (marks : List Mark) (a : ℕ) → a < length ranks →
     mark_of low ranks marks a ≡ mark_at low marks (get_or ranks a 0)
@@ -114,8 +83,9 @@ pub marked_within : (low : ℕ) (ranks : List ℕ) (marks : List Mark) (a : ℕ)
     IsMarked low ranks marks a → (a < length ranks) × (low ≤ get_or ranks a 0) ×
     (get_or ranks a 0 < length ranks)
 marked_within low ranks marks a long m =
-    grind (arith, common_steps, cases_lt, mark_of-node, mark_at-below, mark_at-past, get_or_past)
+    search (cases_lt, mark_of-node, mark_at-below, get_or_past, mark_at-above, rules)
 
+-- no rank stands twice
 abbrev pub IsOnce : List ℕ → Type 0
 IsOnce ranks = (a b : ℕ) → a < length ranks → b < length ranks → get_or ranks a 0 ≡ get_or ranks b 0 → a ≡ b
 
@@ -123,11 +93,15 @@ mark_of-set_other : (low : ℕ) (ranks : List ℕ) (marks : List Mark) (a t : �
     t < length ranks → get_or ranks t 0 < length ranks → low ≤ get_or ranks t 0 → a ≢ t →
     mark_of low ranks (set marks (get_or ranks t 0 - low) m) a ≡ mark_of low ranks marks a
 mark_of-set_other low ranks marks a t m once lt below high n =
-    let differs : get_or ranks a (length ranks) ≢ get_or ranks t 0 = λ e. elim (cases_lt a (length ranks)) [
-      | inl l ↦ n (once a t l lt (sym (get_or_default ranks a (length ranks) 0 l) ∙ e))
-      | inr p ↦ omega (arith, get_or_past ranks a (length ranks) p)
-    ] in
-    mark_at-set_other low marks (get_or ranks a (length ranks)) (get_or ranks t 0) m high differs
+    search (
+      cases_lt,
+      get_or_default,
+      get_or_past,
+      mark_at-below,
+      mark_at-above,
+      get_or-set_other,
+      rules,
+    )
 
 -- one more target was marked
 pub IsSpread-more : (ranks : List ℕ) (low : ℕ) (old new : List Mark) (mark : Mark) (targets : List ℕ) (i : ℕ) →
@@ -141,7 +115,19 @@ IsSpread-more ranks low old new mark targets i once long marks h l b below high 
     let t = get_or targets i 0 in
     let next = set new (get_or ranks t 0 - low) mark in
     let same : mark_of low ranks next t ≡ mark =
-    grind (arith, common_steps, mark_of-node, mark_at-set_same) in
+    search (
+      mark_of-node,
+      set,
+      mark_of-set_other,
+      length-set,
+      cases_eq,
+      Contains-take_more,
+      Contains-take_last,
+      Contains-take_kept,
+      mark_at-above,
+      get_or-set_same,
+      rules,
+    ) in
     let other : (a : ℕ) → (a ≡ t → ⊥) → mark_of low ranks next a ≡ mark_of low ranks new a =
     λ a n. mark_of-set_other low ranks new a t mark once b below high n in
     record {
@@ -181,15 +167,10 @@ pub spread_same : (ranks : List ℕ) (low : ℕ) (old new : List Mark) (mark : M
     mark_of low ranks new a ≡ mark_of low ranks old a
 spread_same ranks low old new mark targets h a n = grind (arith, common_steps)
 
--- the node of a rank has the mark of that rank
-pub mark_of-rank : (low : ℕ) (nodes ranks : List ℕ) (marks : List Mark) (k : ℕ) → IsInverse nodes ranks →
-    k < length nodes → mark_of low ranks marks (get_or nodes k 0) ≡ mark_at low marks k
-mark_of-rank low nodes ranks marks k h l = grind (arith, common_steps)
-
 -- nodes below the lowest rank are free
 pub below_free : (low : ℕ) (nodes ranks : List ℕ) (marks : List Mark) (k : ℕ) → IsInverse nodes ranks →
     k < length nodes → k < low → mark_of low ranks marks (get_or nodes k 0) ≡ Free
-below_free low nodes ranks marks k h l b = mark_of-rank low nodes ranks marks k h l ∙ mark_at-below low marks k b
+below_free low nodes ranks marks k h l b = grind (arith, common_steps, mark_at-below)
 
 -- what the code reads of a node's mark, at the node's rank r
 pub read_of : (low : ℕ) (ranks : List ℕ) (marks : List Mark) (a r : ℕ) → a < length ranks → low ≤ r →
@@ -197,33 +178,12 @@ pub read_of : (low : ℕ) (ranks : List ℕ) (marks : List Mark) (a r : ℕ) →
 read_of low ranks marks a r l h e = mark_of-node low ranks marks a l ∙ ap (mark_at low marks) (sym e) ∙
     mark_at-above low marks r h
 
--- a mark that tests as free is
-pub free_is : (m : Mark) → is_free m ≡ true → m ≡ Free
-free_is Free e = refl
-free_is Start e = cc
-free_is (After u) e = cc
-free_is Behind e = cc
-
 -- a node whose mark was read as free is
 pub read_free : (low : ℕ) (ranks : List ℕ) (marks : List Mark) (a r : ℕ) → a < length ranks → low ≤ r →
     r ≡ get_or ranks a 0 → is_free (get_or marks (r - low) Free) ≡ true → mark_of low ranks marks a ≡ Free
-read_free low ranks marks a r l h e f = read_of low ranks marks a r l h e ∙ free_is _ f
+read_free low ranks marks a r l h e f = search (read_of, rules)
 
 -- and one whose mark was not is marked
 pub read_marked : (low : ℕ) (ranks : List ℕ) (marks : List Mark) (a r : ℕ) → a < length ranks → low ≤ r →
     r ≡ get_or ranks a 0 → is_free (get_or marks (r - low) Free) ≡ false → IsMarked low ranks marks a
-read_marked low ranks marks a r l h e f q = not_free _ f (sym (read_of low ranks marks a r l h e) ∙ q)
-
--- a node of a rank below the lowest is free
-pub low_free : (low : ℕ) (ranks : List ℕ) (marks : List Mark) (a : ℕ) → low + length marks ≡ length ranks →
-    get_or ranks a 0 < low → mark_of low ranks marks a ≡ Free
-low_free low ranks marks a long l = grind (arith, common_steps, cases_free, marked_within)
-
--- where no mark is kept, all nodes are free
-pub all_free : (low : ℕ) (ranks : List ℕ) (marks : List Mark) → ((k : ℕ) → get_or marks k Free ≡ Free) →
-    (a : ℕ) → mark_of low ranks marks a ≡ Free
-all_free low ranks marks h a = grind (arith, common_steps, cases_lt, mark_at-below, mark_at-above)
-
--- no slot lies below the lowest rank
-pub slot_below : (low : ℕ) (marks : List Mark) (k : ℕ) → k < low → is_slot low marks k ≡ false
-slot_below low marks k l = ap (λ m. not (is_free m)) (mark_at-below low marks k l)
+read_marked low ranks marks a r l h e f q = search (read_of, rules)

@@ -1,6 +1,6 @@
 -- The members of a placement, as the visits tell them.
-use Rattle.std.proofs.Common.{◌≡◌, ◌≢◌, ℕ, ◌+◌, ◌<◌, ◌≤◌, ◌||◌, Bool, true, false, List, [], ◌∷◌, ◌++◌}
-use Rattle.std.proofs.Common.{length, get_or, set, reverse, sym, ◌∙◌, arith, ap}
+use Rattle.std.proofs.Common.{◌≡◌, ℕ, ◌+◌, ◌<◌, ◌≤◌, Bool, true, false, List, [], ◌∷◌, ◌++◌}
+use Rattle.std.proofs.Common.{length, get_or, set, reverse, ◌∙◌, arith, ap}
 use Rattle.std.specs.List.{All, filter}
 use Rattle.std.proofs.lemmas.List.{get_or_default}
 use Rattle.std.proofs.Common.{rules}
@@ -8,13 +8,12 @@ use Rattle.std.proofs.lemmas.Grind.{common_steps}
 use Rattle.rv_rank.specs.declared.search.Mark.{Mark}
 use Rattle.rv_rank.specs.declared.search.Mark.TheVariants.{Free}
 use Rattle.rv_rank.specs.Order.{IsInverse}
-use Rattle.rv_rank.specs.Marks.{mark_at, mark_of, is_ahead, is_behind, is_ahead_of, is_behind_of, is_slot}
-use Rattle.rv_rank.specs.Mended.{count_below, members_of, IsMended}
+use Rattle.rv_rank.specs.Marks.{mark_of, is_ahead, is_behind, is_ahead_of, is_behind_of, is_slot}
+use Rattle.rv_rank.specs.Mended.{members_of, IsMended}
 use Rattle.rv_rank.specs.declared.search.Found.{Found}
 use Rattle.rv_rank.specs.Plan.{IsPlan, IsRoster}
 use Rattle.rv_rank.specs.Local.{IsLocal}
 use Rattle.rv_rank.proofs.Marks.{cases_free, marked_within, ahead_marked, behind_is, behind_not_ahead}
-use Rattle.rv_rank.proofs.Marks.{found_either, mark_of-rank}
 use Rattle.rv_rank.proofs.Tracing.{behind_marked}
 use Rattle.rv_rank.proofs.Counting.{count_to, count_below-count_to}
 use Rattle.rv_rank.proofs.Slots.{members_of-long}
@@ -59,8 +58,7 @@ module _ (found : Found) (nodes ranks visits : List ℕ) (inverse : IsInverse no
   new_f = ap is_ahead new_free
 
   tests : (k : ℕ) → k < length nodes → is_slot low marks k ≡ either_of b f (get_or nodes k 0)
-  tests k l = found_either (mark_at low marks k) ∙
-      ap (λ m. is_behind m || is_ahead m) (sym (mark_of-rank low nodes ranks marks k inverse l))
+  tests k l = grind (arith, common_steps)
 
   above_b : (a : ℕ) → a < length nodes → b a ≡ true → low ≤ get_or ranks a 0
   above_b a l e =
@@ -86,24 +84,28 @@ module _ (found : Found) (nodes ranks visits : List ℕ) (inverse : IsInverse no
     members_long b f nodes ranks inverse apart new_b new_f,
   )
 
-  count_slots : length visits ≡ count_below (is_slot low marks) (length nodes)
-  count_slots = grind (arith, common_steps, count_listed, count_below-count_to, either_of, tests)
-
   members_placed : All (λ a. a < length nodes + 1) (members_of visits split (length nodes))
   members_placed = rw same_members (λ k d l.
       let e = get_or_default (filter b nodes ++ length nodes ∷ filter f nodes) k d 0 l in
       rw e (members_below b f nodes ranks inverse apart new_b new_f k l))
 
-  members_once : (i j : ℕ) → i < j → j < length visits + 1 →
-      get_or (members_of visits split (length nodes)) i 0 ≢ get_or (members_of visits split (length nodes)) j 0
-  members_once i j l m =
-      rw same_members (members_apart b f nodes ranks inverse apart new_b new_f i j l
-      (omega (arith, ap length same_members, members_of-long visits split (length nodes) split_within)))
-
   -- the members, each with a place
   pub roster : (ranks0 : List ℕ) → length ranks0 ≡ length nodes + 1 → IsRoster found nodes ranks0 visits
   roster ranks0 e =
-      grind (arith, common_steps, split_within, count_slots, members_placed, apart, members_once)
+      search (
+        split_within,
+        members_placed,
+        same_members,
+        members_apart,
+        new_b,
+        new_f,
+        members_of-long,
+        count_listed,
+        count_below-count_to,
+        either_of,
+        tests,
+        rules,
+      )
 
   module _ (ranks0 nodes1 ranks1 : List ℕ) (last : ℕ) (begun : ranks0 ≡ ranks ++ length nodes ∷ [])
       (is_last : last ≡ get_or (members_of visits split (length nodes)) (length visits) 0)

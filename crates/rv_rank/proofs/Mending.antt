@@ -50,6 +50,7 @@ or_cases false q e = inr e
 
 module _ (b f : ℕ → Bool) (nodes ranks : List ℕ) (inverse : IsInverse nodes ranks) (apart : (a : ℕ) →
     b a ≡ true → f a ≡ false) (new_b : b (length nodes) ≡ false) (new_f : f (length nodes) ≡ false) where
+  -- the nodes that move, with the new one between those before it and those behind it
   abbrev pub members : List ℕ
   members = filter b nodes ++ length nodes ∷ filter f nodes
 
@@ -183,12 +184,15 @@ module _ (b f : ℕ → Bool) (nodes ranks : List ℕ) (inverse : IsInverse node
       low ≤ get_or ranks a 0) (above_f : (a : ℕ) → a < length nodes → f a ≡ true →
       low ≤ get_or ranks a 0) (ranks0 nodes1 ranks1 : List ℕ) (begun : ranks0 ≡ ranks ++ length nodes ∷ [])
       (h : IsMended test members nodes ranks0 nodes1 ranks1 (length nodes)) where
+    -- the node that comes last
     abbrev pub last : ℕ
     last = get_or members (count_to (either_of b f) nodes (length nodes)) 0
 
+    -- the nodes by rank, when all have moved
     abbrev pub final_nodes : List ℕ
     final_nodes = nodes1 ++ last ∷ []
 
+    -- the ranks by node, when all have moved
     abbrev pub final_ranks : List ℕ
     final_ranks = set ranks1 last (length nodes)
 

@@ -43,6 +43,7 @@ rest_has xs i j l m n =
           ap (λ x. get_or xs x 0) q) (Contains-get_or (remove xs i) (j - 1) 0 (omega arith))
     ]
 
+-- the node is there, and passes the test
 abbrev pub Passing : (ℕ → Bool) → ℕ → ℕ → Type 0
 Passing t n a = (a < n) × (t a ≡ true)
 

@@ -1,6 +1,7 @@
 -- Rows of a table that grow at their ends.
+use Rattle.std.proofs.Common.{rules}
 use Rattle.std.proofs.Common.{◌≡◌, ◌≢◌, ℕ, ◌+◌, ◌-◌, ◌<◌, ◌≤◌, List, [], ◌∷◌, ◌++◌, length, get_or, set, take}
-use Rattle.std.proofs.Common.{map, inl, inr, sym, ◌∙◌, arith, ap, subst}
+use Rattle.std.proofs.Common.{map, inl, inr, refl, sym, ◌∙◌, arith, ap, subst}
 use Rattle.std.specs.List.{All, Contains}
 use Rattle.std.proofs.lemmas.List.{get_or-set_same, get_or-set_other, length-set, map-set, set-get_or}
 use Rattle.std.proofs.lemmas.List.{get_or-map, length-map}
@@ -8,7 +9,9 @@ use Rattle.std.proofs.lemmas.List.Elements.{All-more, All-weaker}
 use Rattle.std.proofs.lemmas.Bool.{cases_eq}
 use Rattle.std.proofs.lemmas.Grind.{common_steps}
 use Rattle.rv_rank.specs.Rows.{Neighbours, outgoing_of, incoming_of, rooms_of, degree, HasRoom, KeepsRoom}
-use Rattle.rv_rank.specs.Rows.{IsAppended, EndsIn}
+use Rattle.rv_rank.specs.Rows.{IsAppended, EndsIn, row_of, rows_of, other}
+use Rattle.rv_rank.specs.declared.node.Side.{Side}
+use Rattle.rv_rank.specs.declared.node.Side.TheVariants.{Incoming, Outgoing}
 use Rattle.rv_rank.proofs.Lists.{Contains-take_more, Contains-take_kept, Contains-take_last, contains_cases}
 
 -- a write that leaves what f reads
@@ -78,12 +81,6 @@ KeepsRoom-set old rows p v d h l m a =
       get_or-set_other,
     )
 
--- room that was made stays
-pub HasRoom-kept : (old new : List Neighbours) (more a : ℕ) → outgoing_of new ≡ outgoing_of old →
-    incoming_of new ≡ incoming_of old → get_or (rooms_of old) a 0 ≤ get_or (rooms_of new) a 0 →
-    HasRoom old more a → HasRoom new more a
-HasRoom-kept old new more a o i k h = rw (o, i) (omega (arith, k, h))
-
 -- room where it was made
 pub HasRoom-set : (rows : List Neighbours) (p more : ℕ) (v : Neighbours) → p < length rows →
     degree v + more ≤ v.room → HasRoom (set rows p v) more p
@@ -107,6 +104,19 @@ pub HasRoom-less : (old new : List Neighbours) (places : List ℕ) (item a : ℕ
     get_or (rooms_of old) a 0 ≤ get_or (rooms_of new) a 0 → a < length old → HasRoom old 2 a → HasRoom new 1 a
 HasRoom-less old new places item a h i k l room = grind (arith, common_steps)
 
+-- room is the same from either side
+pub room_by_side : (side : Side) (nodes : List Neighbours) (a : ℕ) → HasRoom nodes 1 a →
+    (length (get_or (rows_of side nodes) a []) + length (get_or (rows_of (other side) nodes) a [])) + 1
+    ≤ get_or (rooms_of nodes) a 0
+room_by_side Incoming nodes a h = h
+room_by_side Outgoing nodes a h = omega (arith, h)
+
+-- and so is how many neighbours a node has
+pub degree_by_side : (side : Side) (n : Neighbours) →
+    length (row_of side n) + length (row_of (other side) n) ≡ degree n
+degree_by_side Incoming n = refl
+degree_by_side Outgoing n = omega arith
+
 -- the nodes at the first i places have room for so many neighbours more
 pub record IsRoomy (old rows : List Neighbours) (places : List ℕ) (more i : ℕ) : Type 0 where
   pub outgoing : outgoing_of rows ≡ outgoing_of old
@@ -114,17 +124,13 @@ pub record IsRoomy (old rows : List Neighbours) (places : List ℕ) (more i : �
   pub kept : KeepsRoom old rows
   pub room : All (HasRoom rows more) (take i places)
 
--- before the first place
-pub IsRoomy-none : (old : List Neighbours) (places : List ℕ) (more : ℕ) → IsRoomy old old places more 0
-IsRoomy-none old places more = grind (arith, common_steps)
-
 -- a node that was given room
 pub IsRoomy-set : (old rows : List Neighbours) (places : List ℕ) (more i p : ℕ) (v d : Neighbours) →
     IsRoomy old rows places more i → p < length rows → v.outgoing ≡ (get_or rows p d).outgoing →
     v.incoming ≡ (get_or rows p d).incoming → (get_or rows p d).room ≤ v.room →
     IsRoomy old (set rows p v) places more i
 IsRoomy-set old rows places more i p v d h l o n k =
-    grind (arith, common_steps, map_set_same, KeepsRoom-set, All-weaker, HasRoom-kept)
+    search (map_set_same, KeepsRoom-set, All-weaker, rules)
 
 -- one place more has room
 pub IsRoomy-more : (old rows : List Neighbours) (places : List ℕ) (more i : ℕ) (v d : Neighbours) →
@@ -149,11 +155,6 @@ pub record IsFilling (f g : Neighbours → List ℕ) (old rows : List Neighbours
   pub appended : IsAppended (map f old) (map f rows) (take i places) item
   pub same : map g rows ≡ map g old
   pub kept : KeepsRoom old rows
-
--- before the first row
-pub Filling-none : (f g : Neighbours → List ℕ) (old : List Neighbours) (places : List ℕ) (item : ℕ) →
-    IsFilling f g old old places item 0
-Filling-none f g old places item = grind (arith, common_steps)
 
 module _
     (f g : Neighbours → List ℕ) (old rows : List Neighbours) (places : List ℕ) (item i : ℕ) (d : Neighbours)

@@ -27,13 +27,6 @@ pub targets_below : (edges : List (List ℕ)) (ranks : List ℕ) → IsOrder edg
     All (λ t. t < length ranks) (get_or edges a [])
 targets_below edges ranks o a k d l = edge_below edges ranks o a _ (Contains-get_or (get_or edges a []) k d l)
 
--- the successors are marked
-pub IsSearched-begin : (edges : List (List ℕ)) (ranks succs : List ℕ) (low : ℕ) (old new : List Mark) →
-    low + length old ≡ length ranks → ((a : ℕ) → mark_of low ranks old a ≡ Free) →
-    All (λ s. low ≤ get_or ranks s 0) succs → IsSpread ranks low old new Start succs →
-    IsSearched edges ranks succs low new low
-IsSearched-begin edges ranks succs low old new l free least h = grind (arith, common_steps)
-
 -- a marked node's targets are
 pub IsSearched-more : (edges : List (List ℕ)) (ranks succs : List ℕ) (low : ℕ) (old new : List Mark) (r v : ℕ) →
     IsOrder edges ranks → IsSearched edges ranks succs low old r → low ≤ r → get_or ranks v 0 ≡ r →

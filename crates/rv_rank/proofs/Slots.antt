@@ -93,11 +93,6 @@ IsMended-more slot members nodes ranks new_nodes new_ranks r h b e m within apar
       others = λ a n. rank_there a (λ q. n i m (sym q)) ∙ h.others a n;
     }
 
--- below the lowest slot nothing changes
-pub IsMended-none : (slot : ℕ → Bool) (members nodes ranks : List ℕ) (low : ℕ) →
-    ((k : ℕ) → k < low → slot k ≡ false) → IsMended slot members nodes ranks nodes ranks low
-IsMended-none slot members nodes ranks low below = grind (arith, common_steps)
-
 -- there is one member more than visits
 pub members_of-long : (visits : List ℕ) (split node : ℕ) → split ≤ length visits →
     length (members_of visits split node) ≡ length visits + 1

@@ -1,12 +1,12 @@
 -- The way back through the marks.
-use Rattle.std.proofs.Common.{◌≡◌, ◌≢◌, ℕ, suc, zero, ◌+◌, ◌-◌, ◌<◌, List, [], ◌∷◌, ◌++◌, length, get_or}
-use Rattle.std.proofs.Common.{reverse, inl, inr, sym, ◌∙◌, arith, ap, refl}
+use Rattle.std.proofs.Common.{◌≡◌, ℕ, suc, zero, ◌+◌, ◌-◌, ◌<◌, List, [], ◌∷◌, ◌++◌, length, get_or}
+use Rattle.std.proofs.Common.{reverse, inl, inr, sym, ◌∙◌, arith, ap}
 use Rattle.std.specs.List.{Contains}
 use Rattle.std.proofs.lemmas.List.{get_or-reverse, length-reverse, get_or_push, get_or_append_left, length_push}
 use Rattle.std.proofs.lemmas.Bool.{cases_lt}
 use Rattle.std.proofs.lemmas.Grind.{common_steps}
 use Rattle.rv_rank.specs.declared.search.Mark.{Mark}
-use Rattle.rv_rank.specs.declared.search.Mark.TheVariants.{Free, Start, After, Behind}
+use Rattle.rv_rank.specs.declared.search.Mark.TheVariants.{After}
 use Rattle.rv_rank.specs.Graph.{Edge, IsOrder, IsTrail}
 use Rattle.rv_rank.specs.Marks.{mark_of, IsMarked, IsSearched}
 
@@ -87,15 +87,8 @@ IsTrail-reverse edges low ranks succs marks end node back o h w =
           omega (arith, rw q at r, ap (λ x. get_or ranks x 0) same);
     }
 
-start_cases : (m : Mark) → m ≢ Free → m ≢ Behind → ((u : ℕ) → m ≡ After u → ⊥) → m ≡ Start
-start_cases Free f b a = absurd (f refl)
-start_cases Start f b a = refl
-start_cases (After u) f b a = absurd (a u refl)
-start_cases Behind f b a = absurd (b refl)
-
 -- the way back ends at a successor
 pub begun_at : (edges : List (List ℕ)) (low : ℕ) (ranks succs : List ℕ) (marks : List Mark) (node : ℕ) →
     IsSearched edges ranks succs low marks (length ranks) → IsMarked low ranks marks node →
     ((u : ℕ) → mark_of low ranks marks node ≡ After u → ⊥) → Contains succs node
-begun_at edges low ranks succs marks node h m a =
-    h.start node (start_cases (mark_of low ranks marks node) m (h.forward node) a)
+begun_at edges low ranks succs marks node h m a = grind (arith, common_steps)

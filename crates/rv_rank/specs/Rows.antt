@@ -2,12 +2,28 @@
 use Rattle.std.specs.Prelude.{◌≡◌, ℕ, ◌+◌, ◌-◌, ◌<◌, ◌≤◌, List, [], ◌∷◌, ◌++◌, map, length}
 use Rattle.std.specs.Prelude.{slice_index, slice_index_or}
 use Rattle.std.specs.List.{Contains}
+use Rattle.rv_rank.specs.declared.node.Side.{Side}
+use Rattle.rv_rank.specs.declared.node.Side.TheVariants.{Incoming, Outgoing}
 
 -- the nodes that an edge leads from, those that one leads to, and how many there is room for in all
 pub record Neighbours : Type 0 where
   pub incoming : List ℕ
   pub outgoing : List ℕ
   pub room : ℕ
+
+-- those on a side
+abbrev pub row_of : Side → Neighbours → List ℕ
+row_of Incoming n = n.incoming
+row_of Outgoing n = n.outgoing
+
+-- the side across
+abbrev pub other : Side → Side
+other Incoming = Outgoing
+other Outgoing = Incoming
+
+-- by node those on a side
+abbrev pub rows_of : Side → List Neighbours → List (List ℕ)
+rows_of side nodes = map (row_of side) nodes
 
 -- by node those that its edges lead to
 abbrev pub outgoing_of : List Neighbours → List (List ℕ)

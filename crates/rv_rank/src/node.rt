@@ -1,9 +1,16 @@
 //! A node's neighbours, in one list.
 ghost use Rattle.std.specs.Prelude.{◌≡◌, ◌<◌, ◌≤◌, ◌+◌, ◌*◌, ◌++◌, [], ◌∷◌, length, max, IfOk, OnOk, OnErr};
-ghost use Rattle.rv_rank.specs.Rows.{degree};
+ghost use Rattle.rv_rank.specs.Rows.{degree, row_of, other};
 
 use std::alloc::{AllocError, Global};
 use std::marker::Model;
+
+/// A side of a node: the nodes that an edge leads from, or those that one leads to.
+#[derive(Clone, Copy, Debug)]
+pub(crate) enum Side {
+    Incoming,
+    Outgoing,
+}
 
 /// The neighbours of a node: its predecessors, and then its successors.
 ///
@@ -78,25 +85,29 @@ impl Node {
         Ok(())
     }
 
-    /// Puts a node at the end of those that an edge leads from, and before those that one leads to.
-    /// There is room.
-    pub(crate) fn append_incoming(&mut self, node: u32)
-        requires { degree self.old < self.old.room }
-        ensures incoming { self.new.incoming ≡ self.old.incoming ++ node ∷ [] }
-        ensures outgoing { self.new.outgoing ≡ self.old.outgoing }
-        ensures kept { self.old.room ≤ self.new.room }
+    /// The nodes on this side.
+    pub(crate) fn row(&self, side: Side) -> &[u32]
+        ensures { result.now ≡ row_of side self.now }
     {
-        self.neighbours.insert(self.split, node).unwrap();
-        self.split += 1;
+        match side {
+            Side::Incoming => self.incoming(),
+            Side::Outgoing => self.outgoing(),
+        }
     }
 
-    /// Puts a node at the end of those that an edge leads to. There is room.
-    pub(crate) fn append_outgoing(&mut self, node: u32)
+    /// Puts a node at the end of those on this side. There is room.
+    pub(crate) fn append(&mut self, side: Side, node: u32)
         requires { degree self.old < self.old.room }
-        ensures incoming { self.new.incoming ≡ self.old.incoming }
-        ensures outgoing { self.new.outgoing ≡ self.old.outgoing ++ node ∷ [] }
+        ensures appended { row_of side self.new ≡ row_of side self.old ++ node ∷ [] }
+        ensures other { row_of (other side) self.new ≡ row_of (other side) self.old }
         ensures kept { self.old.room ≤ self.new.room }
     {
-        self.neighbours.push(node).unwrap();
+        match side {
+            Side::Incoming => {
+                self.neighbours.insert(self.split, node).unwrap();
+                self.split += 1;
+            }
+            Side::Outgoing => self.neighbours.push(node).unwrap(),
+        }
     }
 }

@@ -21,10 +21,11 @@ ghost use Rattle.std.specs.Prelude.{slice_index_or, max, ◌/◌, vec_len, vec_c
 ghost use Rattle.std.specs.List.{All, Contains};
 ghost use Rattle.std.specs.Borrow.{sem};
 ghost use Rattle.rv_rank.specs.Graph.{Edge, IsGrown};
-ghost use Rattle.rv_rank.specs.Rows.{outgoing_of, incoming_of, HasRoom, KeepsRoom, IsAppended, EndsIn};
+ghost use Rattle.rv_rank.specs.Rows.{outgoing_of, incoming_of, rows_of, other, HasRoom, KeepsRoom};
+ghost use Rattle.rv_rank.specs.Rows.{IsAppended, EndsIn};
 ghost use Rattle.rv_rank.specs.Walking.{IsMirror};
 
-use crate::node::Node;
+use crate::node::{Node, Side};
 use std::alloc::{AllocError, Global};
 use std::marker::Model;
 
@@ -215,8 +216,8 @@ fn add_node(nodes: &mut Vec<Node>, preds: &[u32], succs: &[u32], own: Node)
     ensures incoming { IsGrown (incoming_of nodes.old.items) (incoming_of nodes.new.items) succs.now own.incoming }
 {
     let node = nodes.len() as u32;
-    add_to_predecessors(nodes, preds, node);
-    add_to_successors(nodes, succs, node);
+    add_to(nodes, preds, node, Side::Outgoing);
+    add_to(nodes, succs, node, Side::Incoming);
     append(nodes, own);
 }
 
@@ -254,35 +255,19 @@ fn make_room(nodes: &mut [Node], places: &[u32], more: usize) -> Result<(), Allo
     Ok(())
 }
 
-/// Puts `node` at the end of the successors of each of its predecessors, once.
-fn add_to_predecessors(nodes: &mut [Node], preds: &[u32], node: u32)
-    requires placed { All (λ p. p < length nodes.old) preds.now }
-    requires room { All (HasRoom nodes.old 1) preds.now }
-    requires fresh { All (λ row. All (λ a. a < node) row) (outgoing_of nodes.old) }
-    ensures outgoing { IsAppended (outgoing_of nodes.old) (outgoing_of nodes.new) preds.now node }
-    ensures incoming { incoming_of nodes.new ≡ incoming_of nodes.old }
+/// Puts `node` at the end of the neighbours of each of these nodes on this side, once.
+fn add_to(nodes: &mut [Node], places: &[u32], node: u32, side: Side)
+    requires placed { All (λ p. p < length nodes.old) places.now }
+    requires room { All (HasRoom nodes.old 1) places.now }
+    requires fresh { All (λ row. All (λ a. a < node) row) (rows_of side nodes.old) }
+    ensures appended { IsAppended (rows_of side nodes.old) (rows_of side nodes.new) places.now node }
+    ensures other { rows_of (other side) nodes.new ≡ rows_of (other side) nodes.old }
     ensures kept { KeepsRoom nodes.old nodes.new }
 {
-    for place in preds {
-        let pred = &mut nodes[*place as usize];
-        if !ends_in(pred.outgoing(), node) {
-            pred.append_outgoing(node);
-        }
-    }
-}
-
-/// Puts `node` at the end of the predecessors of each of its successors, once.
-fn add_to_successors(nodes: &mut [Node], succs: &[u32], node: u32)
-    requires placed { All (λ s. s < length nodes.old) succs.now }
-    requires room { All (HasRoom nodes.old 1) succs.now }
-    requires fresh { All (λ row. All (λ a. a < node) row) (incoming_of nodes.old) }
-    ensures incoming { IsAppended (incoming_of nodes.old) (incoming_of nodes.new) succs.now node }
-    ensures outgoing { outgoing_of nodes.new ≡ outgoing_of nodes.old }
-{
-    for place in succs {
-        let succ = &mut nodes[*place as usize];
-        if !ends_in(succ.incoming(), node) {
-            succ.append_incoming(node);
+    for place in places {
+        let neighbour = &mut nodes[*place as usize];
+        if !ends_in(neighbour.row(side), node) {
+            neighbour.append(side, node);
         }
     }
 }

@@ -1,15 +1,15 @@
+use Rattle.rv_rank.proofs.Marks.{mark_at-below}
 use Rattle.std.proofs.Common.{rules, arith, length, ◌<◌, sym, ◌∙◌}
 use Rattle.std.proofs.lemmas.Grind.{common_steps}
 use Rattle.rv_rank.specs.Marks.{is_slot}
 use Rattle.rv_rank.specs.Mended.{members_of}
-use Rattle.rv_rank.proofs.Marks.{slot_below}
 use Rattle.rv_rank.proofs.Slots.{below_yes, below_no, below_mono, below_none, below_few}
-use Rattle.rv_rank.proofs.Slots.{members_of-long, IsMended-none, IsMended-more, IsMended-skip}
+use Rattle.rv_rank.proofs.Slots.{members_of-long, IsMended-more, IsMended-skip}
 use Rattle.rv_rank.proofs.order.mend.Goals as goal
 use Rattle.rv_rank.proofs.order.mend.Goals.{then-is_slot, else-is_slot}
 
 pub loop-rank-init : goal.loop-rank-init
-loop-rank-init c = search (slot_below, IsMended-none, below_none)
+loop-rank-init c = search (below_none, mark_at-below, rules)
 
 pub member-node-requires-clause-place : goal.member-node-requires-clause-place
 member-node-requires-clause-place c = search (below_mono, rules)

@@ -1,3 +1,5 @@
+use Rattle.rv_rank.proofs.Marks.{cases_free}
+use Rattle.rv_rank.proofs.Marks.{marked_within}
 use Rattle.std.proofs.Common.{arith, get_or, length, ◌≡◌, ◌<◌}
 use Rattle.std.proofs.lemmas.List.{take_all}
 use Rattle.std.proofs.lemmas.List.Elements.{All-more, Contains-get_or}
@@ -5,7 +7,7 @@ use Rattle.std.proofs.Common.{rules}
 use Rattle.std.proofs.lemmas.Grind.{common_steps}
 use Rattle.rv_rank.specs.Marks.{mark_of}
 use Rattle.rv_rank.specs.declared.search.Mark.TheVariants.{Free}
-use Rattle.rv_rank.proofs.Marks.{read_free, read_marked, low_free}
+use Rattle.rv_rank.proofs.Marks.{read_free, read_marked}
 use Rattle.rv_rank.proofs.search.first_marked.Goals as goal
 use Rattle.rv_rank.proofs.search.first_marked.Goals.{else-rank-low-via-then-rank-low+else-not-is_free}
 use Rattle.rv_rank.proofs.search.first_marked.Goals.{else-rank-low-via-else-rank-low}
@@ -24,13 +26,14 @@ loop-node-preserved c =
     let is = c.rank-rank.ensures.value in
     let within : node < length ranks = omega (arith, c.requires.placed i 0 c.loop-node-test.true) in
     let free : mark_of low ranks marks node ≡ Free =
-    grind (
-      arith,
-      common_steps,
+    search (
       else-rank-low-via-then-rank-low+else-not-is_free,
       read_free,
       else-rank-low-via-else-rank-low,
-      low_free,
+      All-more,
+      cases_free,
+      marked_within,
+      rules,
     ) in
     All-more (λ a. mark_of low ranks marks a ≡ Free) nodes i 0 c.loop-node-test.true c.loop-node.invariant free
 

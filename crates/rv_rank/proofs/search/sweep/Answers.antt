@@ -1,13 +1,15 @@
+use Rattle.std.proofs.lemmas.Bool.{cases_lt}
+use Rattle.rv_rank.proofs.Marks.{mark_at-below}
+use Rattle.rv_rank.proofs.Marks.{mark_at-above}
 use Rattle.std.proofs.Common.{length, ap}
 use Rattle.std.proofs.lemmas.Result.{err_from_is_err_and}
 use Rattle.std.proofs.Common.{rules}
-use Rattle.rv_rank.proofs.Marks.{all_free}
 use Rattle.rv_rank.proofs.Listing.{listed_all_few}
 use Rattle.rv_rank.proofs.Finding.{circle_from_trail, only_ahead, found_both}
 use Rattle.rv_rank.proofs.search.sweep.Goals as goal
 
 pub sweep_forward-requires-clause-free : goal.sweep_forward-requires-clause-free
-sweep_forward-requires-clause-free c = all_free c.args.low c.args.order.now.ranks c.args.marks.now c.requires.free
+sweep_forward-requires-clause-free c = search (cases_lt, mark_at-below, mark_at-above, rules)
 
 pub returns-in_err-path-clause-affected : goal.returns-in_err-path-clause-affected
 returns-in_err-path-clause-affected c =

@@ -1,3 +1,5 @@
+use Rattle.rv_rank.proofs.Listing.{listed_all_few}
+use Rattle.std.proofs.Common.{length-drop}
 use Rattle.std.proofs.Common.{arith, get_or, [], length, ◌≡◌, ◌<◌, ◌≤◌, ◌+◌, ◌-◌, ◌∙◌, refl, ap}
 use Rattle.std.proofs.Common.{sym, ℕ, true, drop, reverse, length-append}
 use Rattle.std.specs.List.{filter}
@@ -8,7 +10,7 @@ use Rattle.std.proofs.Common.{rules}
 use Rattle.rv_rank.specs.Marks.{mark_of, is_behind, is_behind_of}
 use Rattle.rv_rank.specs.declared.search.Mark.TheVariants.{Behind}
 use Rattle.rv_rank.proofs.Marks.{below_free, read_of, spread_same, behind_is, not_behind}
-use Rattle.rv_rank.proofs.Listing.{listed_down_few, listed_down_more, listed_from}
+use Rattle.rv_rank.proofs.Listing.{listed_down_more, listed_from}
 use Rattle.rv_rank.proofs.Growth.{edge_from}
 use Rattle.rv_rank.proofs.Tracing.{behind_marked, IsTraced-begin, IsTraced-more, IsTraced-skip}
 use Rattle.rv_rank.proofs.search.sweep_backward.Goals as goal
@@ -31,7 +33,7 @@ loop-rank-init c =
 
 pub backward-requires-clause-room : goal.backward-requires-clause-room
 backward-requires-clause-room c =
-    grind (arith, common_steps, listed_down_few, length-append, length-reverse)
+    search (length-append, length-reverse, listed_all_few, length-drop, rules)
 
 pub mark_above-requires-then-is_behind-clause-placed :
     goal.mark_above-requires-then-is_behind-clause-placed

@@ -1,19 +1,21 @@
+use Rattle.rv_rank.proofs.Listing.{listed_all_few}
+use Rattle.std.proofs.lemmas.List.{length-take}
 use Rattle.std.proofs.Common.{arith, get_or, [], length, ◌≡◌, ◌<◌, ◌≤◌, ◌∙◌, ap, sym, ℕ, true}
 use Rattle.std.proofs.Common.{rules}
 use Rattle.std.proofs.lemmas.Grind.{common_steps}
 use Rattle.rv_rank.specs.Marks.{mark_of, is_ahead, is_ahead_of}
 use Rattle.rv_rank.specs.declared.search.Mark.TheVariants.{After}
 use Rattle.rv_rank.proofs.Marks.{below_free, read_free, read_marked, spread_same, ahead_else}
-use Rattle.rv_rank.proofs.Listing.{listed_none, listed_few, listed_more, listed_skip}
-use Rattle.rv_rank.proofs.Searching.{IsSearched-begin, IsSearched-more, IsSearched-skip, targets_below}
+use Rattle.rv_rank.proofs.Listing.{listed_none, listed_more, listed_skip}
+use Rattle.rv_rank.proofs.Searching.{IsSearched-more, IsSearched-skip, targets_below}
 use Rattle.rv_rank.proofs.search.sweep_forward.Goals as goal
 use Rattle.rv_rank.proofs.search.sweep_forward.Goals.{then-not-is_free, else-not-is_free}
 
 pub loop-rank-init : goal.loop-rank-init
-loop-rank-init c = grind (arith, common_steps, listed_none, below_free, IsSearched-begin)
+loop-rank-init c = search (listed_none, below_free, rules)
 
 pub forward-requires-clause-room : goal.forward-requires-clause-room
-forward-requires-clause-room c = search (listed_few, rules)
+forward-requires-clause-room c = search (listed_all_few, length-take, rules)
 
 pub mark_above-requires-then-not-is_free-clause-placed :
     goal.mark_above-requires-then-not-is_free-clause-placed

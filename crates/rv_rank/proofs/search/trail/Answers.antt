@@ -1,5 +1,4 @@
 use Rattle.std.proofs.Common.{rules, arith, get_or, ◌≡◌, ◌-◌, ◌∙◌}
-use Rattle.std.proofs.lemmas.Grind.{common_steps}
 use Rattle.rv_rank.specs.declared.search.Mark.TheVariants.{Free, After}
 use Rattle.rv_rank.proofs.Trail.{IsWayBack-more, begun_at, IsTrail-reverse}
 use Rattle.rv_rank.proofs.Marks.{marked_within, read_of}
