@@ -1,6 +1,8 @@
 -- In a lawful order each edge goes forward, so no walk of edges closes.
+use Rattle.std.proofs.lemmas.Grind.{common_steps}
+use Rattle.std.proofs.Common.{rules}
 use Rattle.rv_event.specs.declared.memory_model.MemoryModel.{MemoryModel}
-use Rattle.std.proofs.Common.{◌≡◌, ◌<◌, ◌≤◌, List, [], ◌∷◌, Contains, ◌⊎◌, inl, inr, arith}
+use Rattle.std.proofs.Common.{◌<◌, ◌≤◌, List, [], ◌∷◌, Contains, ◌⊎◌, inl, inr, arith}
 use Rattle.std.proofs.lemmas.Bool.{cases_order}
 use Rattle.rv_event.specs.Log.{Earlier}
 use Rattle.rv_event.specs.Orders.{place, Before, Lawful}
@@ -19,17 +21,7 @@ module _ (model : MemoryModel) (log : List Event) (order : List Id) (lawful : La
   -- a load stands before each newer store: that store is no candidate, and the order is total
   from_read-forward : (a b : Event) → Contains log a → Contains log b → Contains order a.id → IsFromRead a b →
       Before order a b
-  from_read-forward a b ca cb in_order h = go (cases_order (place order a.id) (place order b.id))
-    where
-      go : (place order a.id ≡ place order b.id) ⊎
-          ((place order a.id < place order b.id) ⊎ (place order b.id < place order a.id)) → Before order a b
-      go (inl same) = absurd (h.other (place-same order a.id b.id in_order same))
-      go (inr (inl forward)) = forward
-      go (inr (inr back)) =
-          let newer : b.wrote ≤ a.read = (lawful.load_values a ca h.load).none_newer b
-          (record { of_log = cb; is_store = h.store; word = h.word; visible = inl back }) in
-          let versions : a.read < b.wrote = h.versions in
-          absurd (omega arith)
+  from_read-forward a b ca cb in_order h = search (cases_order, place-same, rules)
 
   -- the operation of any reason stands before the other
   reason-forward : (a b : Event) → Contains log a → Contains log b → Contains order a.id → (reason : Reason) →
@@ -53,8 +45,7 @@ module _ (model : MemoryModel) (log : List Event) (order : List Id) (lawful : La
   edge-forward i j reason e =
       let from = named-is log i e.a e.from_named in
       let to = named-is log j e.b e.to_named in
-      let in_order : Contains order i = lawful.is_order.each i
-      (record { event = e.a; is_named = e.from_named; is_memory = e.from_memory }) in
+      let in_order : Contains order i = grind (arith, common_steps) in
       let before : Before order e.a e.b = reason-forward e.a e.b from.0 to.0 (rw from.1 at in_order) reason e.why in
       rw (from.1, to.1) before
 
@@ -75,13 +66,7 @@ module _ (model : MemoryModel) (log : List Event) (order : List Id) (lawful : La
       omega arith
 
   no_stale : (load store : Id) → IsStale log load store → ⊥
-  no_stale load store s =
-      let from = named-is log load s.a s.load_named in
-      let to = named-is log store s.b s.store_named in
-      let newer = (lawful.load_values s.a from.0 s.is_load).none_newer s.b
-      (record { of_log = to.0; is_store = s.is_store; word = s.word; visible = inr s.earlier }) in
-      let versions = s.versions in
-      omega arith
+  no_stale load store s = search (named-is, rules)
 
   -- so no log with a lawful order has a certificate
   pub no_certificate : (c : Certificate) → Certifies model log c → ⊥

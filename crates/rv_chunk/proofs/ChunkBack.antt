@@ -4,14 +4,13 @@ use Rattle.std.proofs.Common.{[], ◌∷◌, ◌++◌, length, map, replicate, s
 use Rattle.std.specs.Prelude.{slice_index, All}
 use Rattle.std.specs.List.{flat_map}
 use Rattle.std.proofs.lemmas.List.Elements.{All-head, All-tail}
+use Rattle.std.proofs.lemmas.Grind.{common_steps}
 use Rattle.rv_event.specs.declared.event.Event.{Event}
 use Rattle.rv_event.specs.declared.event.Op.{Op}
 use Rattle.rv_event.specs.declared.event.Op.TheVariants.{Load, Store, Lr, Sc, ScFailed, Amo, Fence, FenceTso, Branch}
 use Rattle.rv_event.specs.declared.event.Set.{Set}
-use Rattle.rv_event.specs.declared.event.Set.TheVariants.{R, W, Rw}
 use Rattle.rv_event.specs.declared.event.Dep.{Dep}
 use Rattle.rv_event.specs.declared.event.DepKind.{DepKind}
-use Rattle.rv_event.specs.declared.event.DepKind.TheVariants.{Addr, DataOf, Ctrl}
 use Rattle.rv_chunk.specs.Chunks.{set_code, op_code, pred_code, succ_code, kind_code, flag_code, two}
 use Rattle.rv_chunk.specs.Chunks.{head_word, dep_code, dep_at, event_words, chunk_text, IsPackable, IsTyped}
 use Rattle.rv_chunk.specs.Chunks.{IsInRange, bits, set_of, op_of, kind_of, dep_of, deps_of, halves, head_op}
@@ -31,20 +30,14 @@ two_back w h = omega arith
 
 -- ---- one dependency
 kind_small : (k : DepKind) → kind_code k < 4
-kind_small Addr = omega arith
-kind_small DataOf = omega arith
-kind_small Ctrl = omega arith
+kind_small k = grind (arith, common_steps)
 
 kind_some : (k : DepKind) → 0 < kind_code k
-kind_some Addr = omega arith
-kind_some DataOf = omega arith
-kind_some Ctrl = omega arith
+kind_some k = grind (arith, common_steps)
 
 -- a kind is read back
 pub kind_back : (k : DepKind) → kind_of (kind_code k) ≡ k
-kind_back Addr = refl
-kind_back DataOf = refl
-kind_back Ctrl = refl
+kind_back k = grind (arith, common_steps)
 
 top_of : (s k : ℕ) → s < 2 ^ 30 → k < 4 → bits (s + k * 2 ^ 30) 30 2 ≡ k
 top_of s k h l = omega arith
@@ -68,9 +61,7 @@ same_dep k l s t a b = cc
 
 -- a dependency is read back
 pub dep_back : (d : Dep) → d.seq < 2 ^ 30 → dep_of (dep_code d) ≡ d
-dep_back d h = let s = kind_small d.kind in
-    let a = ap kind_of (top_of d.seq (kind_code d.kind) h s) ∙ kind_back d.kind in
-    let b = rest_of d.seq (kind_code d.kind) h s in same_dep _ _ _ _ a b
+dep_back d h = grind (arith, common_steps)
 
 -- its code is not 0
 pub dep_some : (d : Dep) → (dep_code d == 0) ≡ false
@@ -121,14 +112,10 @@ halves_step a b ws ns h k e = let p = two_low a b h in let q = two_high a b h k 
 halves_of : (a b c d e f g i : ℕ) → a < 2 ^ 32 → b < 2 ^ 32 → c < 2 ^ 32 → d < 2 ^ 32 → e < 2 ^ 32 → f < 2 ^ 32 →
     g < 2 ^ 32 → i < 2 ^ 32 →
     halves (two a b ∷ two c d ∷ two e f ∷ two g i ∷ []) ≡ a ∷ b ∷ c ∷ d ∷ e ∷ f ∷ g ∷ i ∷ []
-halves_of a b c d e f g i ha hb hc hd he hf hg hi =
-    halves_step a b (two c d ∷ two e f ∷ two g i ∷ []) _ ha hb (halves_step c d (two e f ∷ two g i ∷ []) _ hc hd
-    (halves_step e f (two g i ∷ []) _ he hf (halves_step g i [] [] hg hi refl)))
+halves_of a b c d e f g i ha hb hc hd he hf hg hi = grind (arith, common_steps)
 
 halves_back : (ds : List Dep) → All (λ d. d.seq < 2 ^ 30) ds → halves (two_each (codes ds)) ≡ codes ds
-halves_back ds h = let s = λ (i : ℕ). code_small ds i h in
-    halves_of (dep_at ds 0) (dep_at ds 1) (dep_at ds 2) (dep_at ds 3) (dep_at ds 4) (dep_at ds 5) (dep_at ds 6)
-    (dep_at ds 7) (s 0) (s 1) (s 2) (s 3) (s 4) (s 5) (s 6) (s 7)
+halves_back ds h = search (code_small, halves_of)
 
 -- dependencies are read back
 pub deps_back_words : (ds : List Dep) → length ds ≤ 8 → All (λ d. d.seq < 2 ^ 30) ds →
@@ -137,42 +124,16 @@ deps_back_words ds n h = ap deps_of (halves_back ds h ∙ codes_are ds n) ∙ de
 
 -- ---- the head word
 set_small : (x : Set) → set_code x < 4
-set_small R = omega arith
-set_small W = omega arith
-set_small Rw = omega arith
+set_small x = grind (arith, common_steps)
 
 op_small : (o : Op) → op_code o < 16
-op_small Load = omega arith
-op_small Store = omega arith
-op_small Lr = omega arith
-op_small Sc = omega arith
-op_small ScFailed = omega arith
-op_small Amo = omega arith
-op_small (Fence p q) = omega arith
-op_small FenceTso = omega arith
-op_small Branch = omega arith
+op_small o = grind (arith, common_steps)
 
 pred_small : (o : Op) → pred_code o < 4
-pred_small Load = omega arith
-pred_small Store = omega arith
-pred_small Lr = omega arith
-pred_small Sc = omega arith
-pred_small ScFailed = omega arith
-pred_small Amo = omega arith
-pred_small (Fence p q) = set_small p
-pred_small FenceTso = omega arith
-pred_small Branch = omega arith
+pred_small o = grind (arith, common_steps)
 
 succ_small : (o : Op) → succ_code o < 4
-succ_small Load = omega arith
-succ_small Store = omega arith
-succ_small Lr = omega arith
-succ_small Sc = omega arith
-succ_small ScFailed = omega arith
-succ_small Amo = omega arith
-succ_small (Fence p q) = set_small q
-succ_small FenceTso = omega arith
-succ_small Branch = omega arith
+succ_small o = grind (arith, common_steps)
 
 flag_small : (b : Bool) → flag_code b < 2
 flag_small true = omega arith
@@ -188,19 +149,10 @@ record HeadBits (w h o p q a r : ℕ) : Type 0 where
 
 head_bits : (h o p q a r : ℕ) → h < 256 → o < 16 → p < 4 → q < 4 → a < 2 → r < 2 →
     HeadBits (h + o * 2 ^ 8 + p * 2 ^ 12 + q * 2 ^ 14 + a * 2 ^ 16 + r * 2 ^ 17) h o p q a r
-head_bits h o p q a r _1 _2 _3 _4 _5 _6 = record {
-  hart = omega arith;
-  op = omega arith;
-  pred = omega arith;
-  succ = omega arith;
-  acquire = omega arith;
-  release = omega arith;
-}
+head_bits h o p q a r _1 _2 _3 _4 _5 _6 = grind (arith, common_steps)
 
 set_back : (x : Set) → set_of (set_code x) ≡ x
-set_back R = refl
-set_back W = refl
-set_back Rw = refl
+set_back x = grind (arith, common_steps)
 
 op_back : (o : Op) → op_of (op_code o) (set_of (pred_code o)) (set_of (succ_code o)) ≡ o
 op_back Load = refl
@@ -219,25 +171,13 @@ flag_back false = refl
 
 head_back : (e : Event) → e.id.hart < 2 ^ 8 → HeadBits (head_word e.id.hart e.op e.acquire e.release) e.id.hart
     (op_code e.op) (pred_code e.op) (succ_code e.op) (flag_code e.acquire) (flag_code e.release)
-head_back e h = head_bits e.id.hart (op_code e.op) (pred_code e.op) (succ_code e.op) (flag_code e.acquire)
-    (flag_code e.release) h (op_small e.op) (pred_small e.op) (succ_small e.op) (flag_small e.acquire)
-    (flag_small e.release)
+head_back e h = search (head_bits, op_small, pred_small, succ_small, flag_small)
 
 -- ---- one event
 same_event : (a b : Event) → a.id.hart ≡ b.id.hart → a.id.seq ≡ b.id.seq → a.op ≡ b.op → a.word ≡ b.word →
     a.read ≡ b.read → a.wrote ≡ b.wrote →
     a.acquire ≡ b.acquire → a.release ≡ b.release → a.deps ≡ b.deps → a ≡ b
-same_event a b h s o w r v q l d =
-    λ k. record {
-      id = record { hart = h k; seq = s k };
-      op = o k;
-      word = w k;
-      read = r k;
-      wrote = v k;
-      acquire = q k;
-      release = l k;
-      deps = d k;
-    }
+same_event a b h s o w r v q l d = grind (arith, common_steps)
 
 head_op_back : (w : ℕ) (o : Op) → bits w 8 4 ≡ op_code o → bits w 12 2 ≡ pred_code o → bits w 14 2 ≡ succ_code o →
     head_op w ≡ o

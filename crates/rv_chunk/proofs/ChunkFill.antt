@@ -5,6 +5,7 @@ use Rattle.std.specs.List.{flat_map}
 use Rattle.std.proofs.Math.Seq.{take-append_seam, drop-append-add}
 use Rattle.std.proofs.lemmas.List.{drop-replicate, drop-drop, take_more, take_all, length-drop}
 use Rattle.std.proofs.lemmas.List.Concat.{flat_map-append}
+use Rattle.std.proofs.Common.{rules}
 use Rattle.rv_event.specs.declared.event.Event.{Event}
 use Rattle.rv_chunk.specs.Chunks.{event_words, event_of, events_from, source_of, number_of, count_of, rewritten, two}
 use Rattle.rv_chunk.proofs.ChunkTest.{length_read}
@@ -81,6 +82,4 @@ rest_is ws n h = take_all (58 - n) (drop n ws)
 pub all_read : (ws : List ℕ) (k : ℕ) (again : List ℕ) → k ≡ count_of ws →
     again ≡ filled (two (source_of ws) (number_of ws)) (count_of ws) (flat_map event_words (events_from k (drop 2 ws)))
     k → again ≡ rewritten ws
-all_read ws k again h is =
-    let m = length_read (count_of ws) (drop 2 ws) in
-    is ∙ (rw (h, m) refl)
+all_read ws k again h is = search (length_read, rules)

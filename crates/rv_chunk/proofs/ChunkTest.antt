@@ -1,11 +1,12 @@
 -- The test holds of the chunk texts and of nothing else.
 use Rattle.std.proofs.Common.{◌≡◌, ℕ, zero, suc, ◌^◌, ◌<◌, ◌≤◌, Bool, true, false, ◌&&◌, ◌==◌, List, [], ◌∷◌}
-use Rattle.std.proofs.Common.{length, drop, sym, refl, ap, subst, arith, true≢false}
+use Rattle.std.proofs.Common.{length, drop, sym, refl, ap, subst, arith}
 use Rattle.std.proofs.lemmas.Bool.{leb-true, le-leb}
 use Rattle.std.specs.Prelude.{slice_index, All, IsTrue, nat_eq, nat_le, if◌then◌else◌}
 use Rattle.std.specs.Cmp.Lexicographic.{pointwise, same_text}
 use Rattle.std.proofs.lemmas.Cmp.{nat_list_eq_equiv}
 use Rattle.std.proofs.lemmas.List.Elements.{All-nil, All-cons}
+use Rattle.std.proofs.lemmas.Grind.{common_steps}
 use Rattle.rv_event.specs.declared.event.Event.{Event}
 use Rattle.rv_event.specs.declared.event.Dep.{Dep}
 use Rattle.rv_chunk.specs.Chunks.{chunk_text, IsPackable, IsTyped, IsInRange, IsChunkText, bits, dep_of}
@@ -54,13 +55,7 @@ high_half w = omega arith
 
 -- and has fields in their ranges
 pub read_typed : (ws : List ℕ) → IsTyped (event_of ws)
-read_typed ws = record {
-  hart = low_byte _;
-  seq = low_half _;
-  word = high_half _;
-  read = low_half _;
-  wrote = high_half _;
-}
+read_typed ws = grind (arith, common_steps)
 
 -- so many events are read
 pub length_read : (k : ℕ) (ws : List ℕ) → length (events_from k ws) ≡ k
@@ -83,19 +78,10 @@ low_three w = omega arith
 -- what is read of words is in range
 pub read_in_range : (ws : List ℕ) → 1 ≤ count_of ws → count_of ws ≤ 8 → IsInRange (source_of ws) (number_of ws)
     (events_of ws)
-read_in_range ws some few = let e = length_read (count_of ws) (drop 2 ws) in record {
-  source_low = low_three _;
-  number_low = high_half _;
-  some = rw e some;
-  few = rw e few;
-  packable = all_packable _ _;
-  typed = all_typed _ _;
-}
+read_in_range ws some few = search (length_read, low_three, high_half, all_packable, all_typed)
 
 both_true : (a b : Bool) → a && b ≡ true → (a ≡ true) × (b ≡ true)
-both_true true true e = (refl, refl)
-both_true true false e = (refl, e)
-both_true false b e = absurd (true≢false (sym e))
+both_true a b e = grind (arith, common_steps)
 
 and_true : (a b : Bool) → a ≡ true → b ≡ true → a && b ≡ true
 and_true a b h k = cc
@@ -114,14 +100,7 @@ tells ws a b c = and_true (nat_le 1 (count_of ws)) (nat_le (count_of ws) 8 && po
 
 -- words that pass the test are a chunk text
 pub chunk_text_from_test : (ws : List ℕ) → IsTrue (is_chunk_text ws) → IsChunkText ws
-chunk_text_from_test ws h = let t = told ws h in
-    record {
-      source = source_of ws;
-      number = number_of ws;
-      events = events_of ws;
-      in_range = read_in_range ws t.0 t.1;
-      text = t.2;
-    }
+chunk_text_from_test ws h = grind (arith, common_steps, told, read_in_range)
 
 -- a chunk text passes the test
 pub tests_text : (s n : ℕ) (es : List Event) → IsInRange s n es → IsTrue (is_chunk_text (chunk_text s n es))
@@ -135,8 +114,4 @@ test_from_chunk_text ws t = rw t.text (tests_text t.source t.number t.events t.i
 -- a text's content is what it was written from
 pub content_back : (s n : ℕ) (es : List Event) → IsInRange s n es →
     content_of (chunk_text s n es) ≡ record { source = s; number = n; events = es }
-content_back s n es r = λ k. record {
-  source = source_back s n es r k;
-  number = number_back s n es r k;
-  events = text_back s n es r k;
-}
+content_back s n es r = search (source_back, number_back, text_back)

@@ -1,7 +1,20 @@
 //! Chunks: one to eight events in 58 words, the form in which events pass between threads.
 //!
-//! `docs/TRACE.md` has the words bit by bit. Whether words are a chunk text is decided by reading
-//! them and writing them anew: they are one exactly where that gives the same words.
+//! | Word | Bits | Holds |
+//! |---|---|---|
+//! | 0 | 0 to 31, 32 to 63 | the source, at most 7; the chunk's number |
+//! | 1 | all | how many events there are |
+//! | 2 + 7e | 0 to 7 | the hart of the event at place e |
+//! | | 8 to 11 | 1 load, 2 store, 3 LR, 4 SC, 5 failed SC, 6 AMO, 7 FENCE, 8 FENCE.TSO, 9 branch |
+//! | | 12 to 13, 14 to 15 | the sets before and behind a FENCE: 1 for `r`, 2 for `w`, 3 for `rw` |
+//! | | 16, 17 | the acquire bit, the release bit |
+//! | 3 + 7e | 0 to 31, 32 to 63 | its number in program order; its word |
+//! | 4 + 7e | 0 to 31, 32 to 63 | the version read; the version written |
+//! | 5 + 7e to 8 + 7e | 0 to 31, 32 to 63 | its dependencies, two to a word |
+//!
+//! A dependency has the number of the event depended on in its lower thirty bits, and above them 1
+//! for the address, 2 for data, 3 for control. All other bits are 0. So words are a chunk text
+//! exactly where reading them and writing them anew gives the same words.
 ghost use Rattle.std.specs.Prelude.{◌≡◌, ◌↔◌, ℕ, ◌<◌, ◌≤◌, ◌+◌, ◌*◌, ◌^◌, ◌++◌, All, IfOk, IfSome, IfNone};
 ghost use Rattle.std.specs.Prelude.{IsTrue, IsSome, length, take, drop, MatchOption, vec_len};
 ghost use Rattle.rv_chunk.specs.Chunks.{chunk_text, is_chunk_text, IsPackable, IsTyped, IsChunkText};

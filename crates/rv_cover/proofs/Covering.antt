@@ -1,13 +1,14 @@
 -- Kept links and the links listed for a new event carry every edge.
-use Rattle.std.proofs.Common.{◌≡◌, ℕ, zero, suc, ◌+◌, ◌<◌, ◌≤◌, List, [], ◌∷◌, ◌++◌, length, Contains, ◌⊎◌}
+use Rattle.std.proofs.Common.{◌≡◌, ℕ, zero, suc, ◌+◌, ◌≤◌, List, [], ◌∷◌, ◌++◌, Contains, ◌⊎◌}
 use Rattle.std.proofs.Common.{inl, inr, sym, ap, ◌∙◌, ◌≢◌, arith, subst}
 use Rattle.std.proofs.lemmas.List.Elements.{Contains-push_cases}
 use Rattle.std.proofs.lemmas.Option.{same_Some}
+use Rattle.std.proofs.lemmas.Grind.{common_steps}
 use Rattle.rv_event.proofs.Names.{named-is}
 use Rattle.rv_event.proofs.Indexed.{Indexed, Sound, indexed-push}
 use Rattle.rv_event.proofs.Settled.{IsEdge-settled, HasReason-settled, grows-push}
 use Rattle.rv_event.specs.Operations.{IsMemory, IsLoad, IsStore}
-use Rattle.rv_event.specs.Log.{of_hart, named, Earlier}
+use Rattle.rv_event.specs.Log.{named, Earlier}
 use Rattle.rv_event.specs.Preserved.{Rule}
 use Rattle.rv_event.specs.Edges.{HasReason, IsEdge, IsCoherence, IsFromRead, IsAtomicOut}
 use Rattle.rv_event.specs.declared.event.Id.{Id}
@@ -45,16 +46,7 @@ reaches-earlier model log a b (more {j = m} s p) =
 pub edge_of : (model : MemoryModel) (log : List Event) → Indexed log → (reason : Reason) (a b : Event) →
     Contains log a → Contains log b → IsMemory a → IsMemory b → HasReason model log reason a b →
     IsEdge model log a.id reason b.id
-edge_of model log known reason a b ca cb ma mb why =
-    record {
-      a = a;
-      b = b;
-      from_named = known.own a ca;
-      to_named = known.own b cb;
-      from_memory = ma;
-      to_memory = mb;
-      why = why;
-    }
+edge_of model log known reason a b ca cb ma mb why = grind (arith, common_steps)
 
 other_ids : (a b : Event) → Earlier a b → a.id ≢ b.id
 other_ids a b e same = let s = e.seq in let t : a.id.seq ≡ b.id.seq = ap (λ (i : Id). i.seq) same in omega arith
@@ -101,12 +93,7 @@ module _ (model : MemoryModel) (log : List Event) (e : Event) (Kept Listed : Id 
 
   -- no old event stands after the new one
   none_after : (b : Event) → Contains log b → Earlier e b → ⊥
-  none_after b c earlier =
-      let low : b.id.seq < length (of_hart b.id.hart log) = known.below b c in
-      let at : e.id.seq ≡ length (of_hart e.id.hart log) = sound.seq in
-      let later : e.id.seq < b.id.seq = earlier.seq in
-      let low' : b.id.seq < length (of_hart e.id.hart log) = rw earlier.hart low in
-      omega arith
+  none_after b c earlier = grind (arith, common_steps)
 
   same_event : (a b : Event) → Contains log a → Contains log b → a.id ≡ b.id → a ≡ b
   same_event a b ca cb same = same_Some a b (sym (known.own a ca) ∙ ap (named log) same ∙ known.own b cb)
@@ -257,14 +244,12 @@ module _ (model : MemoryModel) (log : List Event) (e : Event) (Kept Listed : Id 
           (IsEdge-settled model log new (grows-push log e) known (indexed-push log e known sound) i j
           reason edge ca cb))
       go (inl ca) (inr is) =
-          let why : HasReason model new reason edge.a e = subst (λ (x : Event). HasReason model new reason edge.a x)
-          (sym is) edge.why in
+          let why : HasReason model new reason edge.a e = grind (arith, common_steps) in
           let m : IsMemory e = subst IsMemory (sym is) edge.to_memory in
           subst (λ (x : Id). Path Id Both i x) (ap (λ (x : Event). x.id) is ∙ sym to.1)
           (subst (λ (x : Id). Path Id Both x e.id) (sym from.1) (into reason edge.a ca edge.from_memory m why))
       go (inr is) (inl cb) =
-          let why : HasReason model new reason e edge.b = subst (λ (x : Event). HasReason model new reason x edge.b)
-          (sym is) edge.why in
+          let why : HasReason model new reason e edge.b = grind (arith, common_steps) in
           let m : IsMemory e = subst IsMemory (sym is) edge.from_memory in
           subst (λ (x : Id). Path Id Both x j) (ap (λ (x : Event). x.id) is ∙ sym from.1)
           (subst (λ (x : Id). Path Id Both e.id x) (sym to.1) (out reason edge.b cb m edge.to_memory why))

@@ -1,5 +1,6 @@
 -- A well formed log has at most sixteen full harts of events.
-use Rattle.std.proofs.Common.{◌≡◌, ℕ, zero, suc, ◌+◌, ◌*◌, ◌<◌, ◌≤◌, Bool, true, false, ◌==◌, cond, List, []}
+use Rattle.std.proofs.lemmas.Grind.{common_steps}
+use Rattle.std.proofs.Common.{◌≡◌, ℕ, zero, suc, ◌+◌, ◌*◌, ◌<◌, ◌≤◌, Bool, ◌==◌, cond, List, []}
 use Rattle.std.proofs.Common.{◌∷◌, length, Contains, ◌⊎◌, inl, inr, refl, sym, ap, ◌∙◌, arith, eq-eqb}
 use Rattle.std.proofs.lemmas.Bool.{cases_eq, ne_eqb}
 use Rattle.std.proofs.lemmas.List.{length-map}
@@ -17,11 +18,7 @@ count_below (suc n) log = count_below n log + length (of_hart n log)
 
 length-of_hart-cons : (hart : ℕ) (e : Event) (log : List Event) → length (of_hart hart (e ∷ log)) ≡ cond
     (hart == e.id.hart) 1 0 + length (of_hart hart log)
-length-of_hart-cons hart e log = go (hart == e.id.hart)
-  where
-    go : (b : Bool) → length (cond b (e ∷ of_hart hart log) (of_hart hart log)) ≡ cond b 1 0 + length (of_hart hart log)
-    go true = omega arith
-    go false = omega arith
+length-of_hart-cons hart e log = grind (arith, common_steps)
 
 count_below-nil : (n : ℕ) → count_below n [] ≡ 0
 unfolding count_below
@@ -34,9 +31,8 @@ unfolding count_below
 count_below-past zero e log l = refl
 count_below-past (suc n) e log l =
     let below = count_below-past n e log (omega arith) in
-    let here : length (of_hart n (e ∷ log)) ≡ length (of_hart n log) = length-of_hart-cons n e log ∙
-    ap (λ (b : Bool). cond b 1 0 + length (of_hart n log))
-    (ne_eqb n e.id.hart (λ (h : n ≡ e.id.hart). omega arith)) ∙ omega arith in
+    let here : length (of_hart n (e ∷ log)) ≡ length (of_hart n log) =
+    grind (arith, common_steps) in
     omega arith
 
 count_below-cons : (n : ℕ) (e : Event) (log : List Event) → e.id.hart < n →

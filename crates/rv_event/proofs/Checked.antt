@@ -1,6 +1,7 @@
 -- Whether a log is well formed, entry by entry.
-use Rattle.std.proofs.Common.{◌≡◌, ℕ, suc, ◌+◌, ◌<◌, true, false, List, [], ◌∷◌, ◌++◌, length, take, drop}
-use Rattle.std.proofs.Common.{get_or, Option, Some, None, IsTrue, is_some, ◌↔◌, sym, ap, ◌∙◌, subst, arith}
+use Rattle.std.proofs.Common.{rules}
+use Rattle.std.proofs.Common.{◌≡◌, ℕ, suc, ◌+◌, ◌<◌, true, false, List, ◌∷◌, ◌++◌, length, take, drop}
+use Rattle.std.proofs.Common.{get_or, Option, Some, None, IsTrue, is_some, ◌↔◌, sym, ◌∙◌, arith}
 use Rattle.std.proofs.Common.{take-append-drop, drop-cons}
 use Rattle.std.proofs.lemmas.Bool.{false≢true}
 use Rattle.std.proofs.lemmas.Option.{none-some}
@@ -20,10 +21,7 @@ module _ (log : List Entry) (k : ℕ) (x : Entry) (low : k < length log) (is : x
   -- an entry that has no fault over those before it goes on a well formed log
   pub one_more : WellFormed (take k log) → (o : Option Fault) → o ≡ fault_of (take k log) x → is_some o ≡ false →
       WellFormed (take (k + 1) log)
-  one_more ok None e none =
-      let more : WellFormed (take k log ++ x ∷ []) = WellFormed-push (take k log) x ok (sym e) in
-      subst WellFormed (sym (take_more log k x low ∙ ap (λ (y : Entry). take k log ++ y ∷ []) (sym is))) more
-  one_more ok (Some f) e none = absurd (false≢true (sym none))
+  one_more h o l e = search (WellFormed-push, take_more, false≢true, rules)
 
   -- one that has a fault shows that the log isn't well formed
   pub none_more : (o : Option Fault) → o ≡ fault_of (take k log) x → is_some o ≡ true → IsTrue false ↔ WellFormed log
@@ -34,5 +32,4 @@ module _ (log : List Entry) (k : ℕ) (x : Entry) (low : k < length log) (is : x
   )
     where
       cut : log ≡ take k log ++ x ∷ drop (suc k) log
-      cut = sym (take-append-drop k log) ∙ ap (λ (r : List Entry). take k log ++ r)
-          (drop-cons log k x low ∙ ap (λ (y : Entry). y ∷ drop (suc k) log) (sym is))
+      cut = search (take-append-drop, drop-cons, suc, rules)

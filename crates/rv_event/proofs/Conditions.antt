@@ -1,6 +1,7 @@
 -- What the condition of a rule says, at its number.
+use Rattle.std.proofs.lemmas.Grind.{common_steps}
 use Rattle.rv_event.specs.declared.memory_model.MemoryModel.{MemoryModel}
-use Rattle.std.proofs.Common.{◌<◌, arith, ◌≡◌, ℕ, Bool, List, IsTrue, ◌↔◌, subst, sym}
+use Rattle.std.proofs.Common.{◌<◌, arith, ◌≡◌, ℕ, Bool, List, IsTrue, ◌↔◌}
 use Rattle.rv_event.specs.Operations.{IsStore}
 use Rattle.rv_event.specs.Relations.{Paired, Fenced, DependsOn, ControlDependsOn}
 use Rattle.rv_event.specs.Annotations.{IsAcquire, IsRelease, IsRcsc}
@@ -16,10 +17,7 @@ use Rattle.rv_event.specs.declared.event.DepKind.TheVariants.{Addr, DataOf}
 at_number : {C : Type 0} (model : MemoryModel) (log : List Event) (a b : Event) (n k : ℕ) (r : Bool) → k ≡ n →
     (C → Condition model log a b n) → (Condition model log a b n → C) → IsTrue r ↔ C → IsTrue r ↔
     Condition model log a b k
-at_number model log a b n k r e into out test = (
-  λ t. subst (Condition model log a b) (sym e) (into (test.0 t)),
-  λ h. test.1 (out (subst (Condition model log a b) e h)),
-)
+at_number model log a b n k r e into out test = grind (arith, common_steps)
 
 overlapping_store_out : (model : MemoryModel) (log : List Event) (a b : Event) → Condition model log a b 1 →
     OverlappingStore a b
@@ -146,32 +144,8 @@ after_dependent_address_at model log a b k r e test = at_number model log a b 13
 -- there are thirteen rules
 pub Condition-number : (model : MemoryModel) (log : List Event) (a b : Event) (k : ℕ) →
     Condition model log a b k → k < 14
-Condition-number model log a b k (overlapping_store h) = omega arith
-Condition-number model log a b k (different_reads h) = omega arith
-Condition-number model log a b k (reads_atomic_write h) = omega arith
-Condition-number model log a b k (fenced h) = omega arith
-Condition-number model log a b k (after_acquire h) = omega arith
-Condition-number model log a b k (before_release h) = omega arith
-Condition-number model log a b k (both_rcsc g h) = omega arith
-Condition-number model log a b k (paired h) = omega arith
-Condition-number model log a b k (address h) = omega arith
-Condition-number model log a b k (data_of h) = omega arith
-Condition-number model log a b k (control g h) = omega arith
-Condition-number model log a b k (reads_dependent_write h) = omega arith
-Condition-number model log a b k (after_dependent_address h) = omega arith
+Condition-number model log a b k h = grind (arith, common_steps)
 
 -- and none has the number 0
 pub Condition-above : (model : MemoryModel) (log : List Event) (a b : Event) (k : ℕ) → Condition model log a b k → 0 < k
-Condition-above model log a b k (overlapping_store h) = omega arith
-Condition-above model log a b k (different_reads h) = omega arith
-Condition-above model log a b k (reads_atomic_write h) = omega arith
-Condition-above model log a b k (fenced h) = omega arith
-Condition-above model log a b k (after_acquire h) = omega arith
-Condition-above model log a b k (before_release h) = omega arith
-Condition-above model log a b k (both_rcsc g h) = omega arith
-Condition-above model log a b k (paired h) = omega arith
-Condition-above model log a b k (address h) = omega arith
-Condition-above model log a b k (data_of h) = omega arith
-Condition-above model log a b k (control g h) = omega arith
-Condition-above model log a b k (reads_dependent_write h) = omega arith
-Condition-above model log a b k (after_dependent_address h) = omega arith
+Condition-above model log a b k h = grind (arith, common_steps)

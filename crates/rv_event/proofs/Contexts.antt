@@ -1,13 +1,11 @@
 -- The faults by a context are those over a log that tells it.
-use Rattle.std.proofs.Common.{◌≡◌, ℕ, Bool, cond, List, [], ◌∷◌, Option, None, Some, option_map, refl, sym, ap, ◌∙◌}
-use Rattle.rv_event.specs.Operations.{is_store}
-use Rattle.rv_event.specs.Log.{writer}
+use Rattle.std.proofs.Common.{arith}
+use Rattle.std.proofs.lemmas.Grind.{common_steps}
+use Rattle.std.proofs.Common.{◌≡◌, List, Option, None, Some, option_map, refl}
 use Rattle.rv_event.specs.Faults.{first_faults, taken_fault}
 use Rattle.rv_event.specs.Contexts.{IsContext, faults_in, taken_in}
 use Rattle.rv_event.specs.declared.context.Context.{Context}
-use Rattle.rv_event.specs.declared.event.Id.{Id}
 use Rattle.rv_event.specs.declared.event.Event.{Event}
-use Rattle.rv_event.specs.declared.fault.Fault.{Fault}
 use Rattle.rv_event.specs.declared.fault.Fault.TheVariants.{VersionTaken}
 
 named_twice : (o : Option Event) → option_map VersionTaken (option_map (λ (w : Event). w.id) o) ≡ option_map
@@ -17,9 +15,7 @@ named_twice (Some w) = refl
 
 taken-in : (log : List Event) (e : Event) (context : Context) → IsContext log e context →
     taken_in context.writer e ≡ taken_fault log e
-taken-in log e context is =
-    ap (λ (o : Option Fault). cond (is_store e.op) o None) (ap (option_map VersionTaken) is.writer ∙
-    named_twice (writer log e.word e.wrote))
+taken-in log e context is = grind (arith, common_steps)
 
 -- a context of the log has the faults of the log
 pub faults-in : (log : List Event) (e : Event) (context : Context) → IsContext log e context →

@@ -1,4 +1,5 @@
 -- What stays when a log grows: names, what stands between two old events, writers, rules and edges.
+use Rattle.std.proofs.Common.{rules}
 use Rattle.rv_event.specs.declared.memory_model.MemoryModel.{MemoryModel}
 use Rattle.std.proofs.Common.{◌≡◌, ℕ, ◌<◌, Bool, true, false, ◌==◌, cond, List, [], ◌∷◌, ◌++◌, map, length}
 use Rattle.std.proofs.Common.{filter, Contains, All, Any, find, Some, refl, sym, ap, ◌∙◌, arith, subst}
@@ -66,8 +67,7 @@ grows_from_Continues old new continues hart =
 -- an id is looked up among its hart's events
 pub named-of_hart : (log : List Event) (i : Id) → named log i ≡ find (λ (e : Event). same_id i e.id)
     (of_hart i.hart log)
-named-of_hart log i = find-filter (λ (e : Event). same_id i e.id) (λ (e : Event). i.hart == e.id.hart)
-    (λ e t. (and_parts (i.hart == e.id.hart) (i.seq == e.id.seq) t).0) log
+named-of_hart log i = search (find-filter, and_parts, rules)
 
 -- an id keeps its event when the log grows
 pub named-grows : (old new : List Event) → Grows old new → (i : Id) (e : Event) → named old i ≡ Some e →
@@ -160,14 +160,7 @@ module _ (model : MemoryModel) (old new : List Event) (grows : Grows old new) (k
 
   -- a rule that holds stays
   pub Rule-grows : (k : ℕ) (a b : Event) → Rule model old k a b → Rule model new k a b
-  Rule-grows k a b h = record {
-    from = Contains-grows a h.from;
-    to = Contains-grows b h.to;
-    from_memory = h.from_memory;
-    to_memory = h.to_memory;
-    earlier = h.earlier;
-    condition = Condition-grows a b h.to k h.condition;
-  }
+  Rule-grows k a b h = search (Contains-grows, Condition-grows, rules)
 
   HasReason-grows : (a b : Event) → Contains old a → Contains old b → (reason : Reason) →
       HasReason model old reason a b → HasReason model new reason a b
@@ -195,26 +188,8 @@ module _ (model : MemoryModel) (old new : List Event) (grows : Grows old new) (k
 
   -- an edge stays
   pub IsEdge-grows : (i j : Id) (reason : Reason) → IsEdge model old i reason j → IsEdge model new i reason j
-  IsEdge-grows i j reason e = record {
-    a = e.a;
-    b = e.b;
-    from_named = named-grows old new grows i e.a e.from_named;
-    to_named = named-grows old new grows j e.b e.to_named;
-    from_memory = e.from_memory;
-    to_memory = e.to_memory;
-    why = HasReason-grows e.a e.b (named-is old i e.a e.from_named).0 (named-is old j e.b e.to_named).0 reason e.why;
-  }
+  IsEdge-grows i j reason e = search (named-grows, HasReason-grows, named-is, rules)
 
   -- a stale pair stays
   pub IsStale-grows : (load store : Id) → IsStale old load store → IsStale new load store
-  IsStale-grows load store s = record {
-    a = s.a;
-    b = s.b;
-    load_named = named-grows old new grows load s.a s.load_named;
-    store_named = named-grows old new grows store s.b s.store_named;
-    is_load = s.is_load;
-    is_store = s.is_store;
-    word = s.word;
-    earlier = s.earlier;
-    versions = s.versions;
-  }
+  IsStale-grows load store s = search (named-grows, rules)

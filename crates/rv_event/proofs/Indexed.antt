@@ -1,12 +1,14 @@
 -- In a well formed log each event is the one that its id names, a hart's numbers have no gap, and
 -- each store is the writer of its version.
-use Rattle.std.proofs.Common.{ltb, leb, ◌≡◌, ℕ, ◌+◌, ◌<◌, ◌≤◌, Bool, true, false, not, ◌&&◌, ◌==◌, cond, List}
+use Rattle.std.proofs.lemmas.Grind.{common_steps}
+use Rattle.std.proofs.Common.{rules}
+use Rattle.std.proofs.Common.{◌≡◌, ℕ, ◌+◌, ◌<◌, ◌≤◌, Bool, true, false, ◌&&◌, ◌==◌, cond, List}
 use Rattle.std.proofs.Common.{[], ◌∷◌, ◌++◌, length, filter, Contains, find, Option, Some, None, ◌⊎◌, inl}
-use Rattle.std.proofs.Common.{inr, refl, sym, ap, ◌∙◌, arith, eqb-true, eq-eqb, length-append, append_assoc}
-use Rattle.std.proofs.Common.{append-nil, subst, option_map}
-use Rattle.std.proofs.lemmas.Bool.{and_from, not-false, cases_eq, cases_lt, ne_eqb, ltb-false, leb-false}
+use Rattle.std.proofs.Common.{inr, refl, sym, ◌∙◌, arith, eq-eqb, append_assoc}
+use Rattle.std.proofs.Common.{append-nil, subst}
+use Rattle.std.proofs.lemmas.Bool.{and_from, cases_eq}
 use Rattle.std.proofs.lemmas.Option.{none-some}
-use Rattle.std.proofs.lemmas.List.Elements.{Contains-push_cases, filter-append}
+use Rattle.std.proofs.lemmas.List.Elements.{Contains-push_cases}
 use Rattle.std.proofs.lemmas.List.Folds.{find-append}
 use Rattle.rv_event.proofs.Names.{same_id-refl, named-is}
 use Rattle.rv_event.specs.Operations.{is_store, IsStore}
@@ -18,7 +20,6 @@ use Rattle.rv_event.specs.declared.event.Id.{Id}
 use Rattle.rv_event.specs.declared.event.Event.{Event}
 use Rattle.rv_event.specs.declared.event.Entry.{Entry}
 use Rattle.rv_event.specs.declared.fault.Fault.{Fault}
-use Rattle.rv_event.specs.declared.fault.Fault.TheVariants.{VersionTaken, Sequence, VersionZero, Hart, Full}
 use Rattle.std.proofs.lemmas.List.{map-append}
 
 -- what the laws use of an event without a fault
@@ -47,14 +48,7 @@ none_contained x (k, l, e) = omega arith
 
 -- the empty log is indexed
 pub indexed-nil : Indexed []
-indexed-nil = record {
-  own = λ a c. absurd (none_contained a c);
-  below = λ a c. absurd (none_contained a c);
-  filled = λ i l. absurd (omega arith);
-  written = λ a c s. absurd (none_contained a c);
-  harts = λ a c. absurd (none_contained a c);
-  few = λ hart. omega arith;
-}
+indexed-nil = grind (arith, common_steps)
 
 -- what was found stays found, and what was not is found in the rest
 pub find-append_some : {X : Type 0} (p : X → Bool) (xs ys : List X) (x : X) → find p xs ≡ Some x →
@@ -69,18 +63,11 @@ find-one : {X : Type 0} (p : X → Bool) (x : X) → p x ≡ true → find p (x 
 find-one p x e = rw e
 
 one-filtered : {X : Type 0} (p : X → Bool) (x : X) → length (filter p (x ∷ [])) ≡ cond (p x) 1 0
-one-filtered {X} p x = go (p x)
-  where
-    go : (b : Bool) → length (cond b (x ∷ []) []) ≡ cond b 1 0
-    go true = refl
-    go false = refl
+one-filtered {X} p x = grind (arith, common_steps)
 
 length-of_hart-push : (hart : ℕ) (log : List Event) (e : Event) → length (of_hart hart (log ++ e ∷ [])) ≡ length
     (of_hart hart log) + cond (hart == e.id.hart) 1 0
-length-of_hart-push hart log e =
-    let p : Event → Bool = λ x. hart == x.id.hart in
-    ap length (filter-append p log (e ∷ [])) ∙ length-append (filter p log) (filter p (e ∷ [])) ∙
-    ap (λ n. length (filter p log) + n) (one-filtered p e)
+length-of_hart-push hart log e = grind (arith, common_steps)
 
 -- the count of a hart's events never falls, and grows at an event of the hart
 count-grows : (hart : ℕ) (log : List Event) (e : Event) → length (of_hart hart log) ≤ length
@@ -89,13 +76,11 @@ count-grows hart log e = omega (arith, length-of_hart-push hart log e)
 
 count-own : (log : List Event) (e : Event) → length (of_hart e.id.hart (log ++ e ∷ [])) ≡ length
     (of_hart e.id.hart log) + 1
-count-own log e = length-of_hart-push e.id.hart log e ∙ ap (λ b. length (of_hart e.id.hart log) + cond b 1 0)
-    (eq-eqb e.id.hart e.id.hart refl)
+count-own log e = grind (arith, common_steps)
 
 count-other : (hart : ℕ) (log : List Event) (e : Event) → (hart ≡ e.id.hart → ⊥) →
     length (of_hart hart (log ++ e ∷ [])) ≡ length (of_hart hart log)
-count-other hart log e other = length-of_hart-push hart log e ∙ ap (λ b. length (of_hart hart log) + cond b 1 0)
-    (ne_eqb hart e.id.hart other) ∙ omega arith
+count-other hart log e other = grind (arith, common_steps)
 
 -- a writer is sought only for a version above 0
 pub writer-above : (log : List Event) (word version : ℕ) → (version == 0) ≡ false → writer log word version ≡ find
@@ -104,14 +89,7 @@ writer-above log word version e = rw e
 
 writer-append : (log more : List Event) (word version : ℕ) (w : Event) → writer log word version ≡ Some w →
     writer (log ++ more) word version ≡ Some w
-writer-append log more word version w e = go (version == 0) e
-  where
-    p : Event → Bool
-    p x = is_store x.op && ((word == x.word) && (version == x.wrote))
-
-    go : (b : Bool) → cond b None (find p log) ≡ Some w → cond b None (find p (log ++ more)) ≡ Some w
-    go true e = absurd (none-some w e)
-    go false e = find-append_some p log more w e
+writer-append log more word version w e = search (cond, find, none-some, find-append_some, rules)
 
 -- the store passes the test for the writer of its version
 wrote-own : (e : Event) → IsStore e → (is_store e.op && ((e.word == e.word) && (e.wrote == e.wrote))) ≡ true
@@ -120,21 +98,10 @@ wrote-own e s = and_from _ _ s (and_from _ _ (eq-eqb e.word e.word refl) (eq-eqb
 module _ (log : List Event) (e : Event) (known : Indexed log) (sound : Sound log e) where
   -- the new id is nobody's
   new_name : named log e.id ≡ None
-  new_name = go (named log e.id) refl
-    where
-      go : (o : Option Event) → named log e.id ≡ o → o ≡ None
-      go None q = refl
-      go (Some a) q =
-          let is = named-is log e.id a q in
-          let low : a.id.seq < length (of_hart a.id.hart log) = known.below a is.0 in
-          let low' : e.id.seq < length (of_hart e.id.hart log) = rw is.1 low in
-          let at : e.id.seq ≡ length (of_hart e.id.hart log) = sound.seq in
-          absurd (omega arith)
+  new_name = search (named-is, rules)
 
   own_new : named (log ++ e ∷ []) e.id ≡ Some e
-  own_new =
-      find-append_none (λ (x : Event). same_id e.id x.id) log (e ∷ []) new_name ∙
-      find-one (λ (x : Event). same_id e.id x.id) e (same_id-refl e.id)
+  own_new = search (find-append_none, new_name, find-one, same_id-refl, rules)
 
   own' : (a : Event) → Contains (log ++ e ∷ []) a → named (log ++ e ∷ []) a.id ≡ Some a
   own' a c = go (Contains-push_cases log e a c)
@@ -144,17 +111,7 @@ module _ (log : List Event) (e : Event) (known : Indexed log) (sound : Sound log
       go (inr is) = subst (λ (x : Event). named (log ++ e ∷ []) x.id ≡ Some x) is own_new
 
   below' : (a : Event) → Contains (log ++ e ∷ []) a → a.id.seq < length (of_hart a.id.hart (log ++ e ∷ []))
-  below' a c = go (Contains-push_cases log e a c)
-    where
-      go : Contains log a ⊎ (e ≡ a) → a.id.seq < length (of_hart a.id.hart (log ++ e ∷ []))
-      go (inl old) =
-          let low = known.below a old in
-          let grows = count-grows a.id.hart log e in
-          omega arith
-      go (inr is) =
-          let at : e.id.seq ≡ length (of_hart e.id.hart log) = sound.seq in
-          let new : e.id.seq < length (of_hart e.id.hart (log ++ e ∷ [])) = omega (arith, count-own log e) in
-          subst (λ (x : Event). x.id.seq < length (of_hart x.id.hart (log ++ e ∷ []))) is new
+  below' a c = grind (arith, common_steps)
 
   filled' : (i : Id) → i.seq < length (of_hart i.hart (log ++ e ∷ [])) → (a : Event) ×
       (named (log ++ e ∷ []) i ≡ Some a)
@@ -171,12 +128,7 @@ module _ (log : List Event) (e : Event) (known : Indexed log) (sound : Sound log
           (e, subst (λ (j : Id). named (log ++ e ∷ []) j ≡ Some e) is own_new)
 
       reached : i.hart ≡ e.id.hart → (i.seq < length (of_hart i.hart log)) ⊎ (i.seq ≡ e.id.seq)
-      reached h =
-          let at : e.id.seq ≡ length (of_hart e.id.hart log) = sound.seq in
-          let l' : i.seq < length (of_hart e.id.hart (log ++ e ∷ [])) = rw h at l in
-          let grown = count-own log e in
-          elim (cases_lt i.seq (length (of_hart e.id.hart log)))
-          [ inl low ↦ inl (rw h low) | inr high ↦ inr (omega arith) ]
+      reached h = grind (arith, common_steps)
 
       go : (i.hart ≡ e.id.hart) ⊎ (i.hart ≡ e.id.hart → ⊥) → (a : Event) × (named (log ++ e ∷ []) i ≡ Some a)
       go (inl h) = at_own h (reached h)
@@ -204,14 +156,7 @@ module _ (log : List Event) (e : Event) (known : Indexed log) (sound : Sound log
       go (inr is) = subst (λ (x : Event). x.id.hart < 16) is sound.hart
 
   few' : (hart : ℕ) → length (of_hart hart (log ++ e ∷ [])) ≤ 4096
-  few' hart = go (cases_eq hart e.id.hart)
-    where
-      go : (hart ≡ e.id.hart) ⊎ (hart ≡ e.id.hart → ⊥) → length (of_hart hart (log ++ e ∷ [])) ≤ 4096
-      go (inl h) =
-          let room : length (of_hart e.id.hart log) < 4096 = sound.room in
-          let own : length (of_hart e.id.hart (log ++ e ∷ [])) ≤ 4096 = omega (arith, count-own log e) in
-          rw h own
-      go (inr h) = rw (count-other hart log e h) (known.few hart)
+  few' hart = grind (arith, common_steps)
 
   -- a log stays indexed with an event that has no fault
   pub indexed-push : Indexed (log ++ e ∷ [])
@@ -260,11 +205,7 @@ lowest-append_some (None ∷ xs) ys f e = lowest-append_some xs ys f e
 
 -- a version that is not taken has no writer
 pub not_taken : (log : List Event) (e : Event) → taken_fault log e ≡ None → IsStore e → writer log e.word e.wrote ≡ None
-not_taken log e none s = go (writer log e.word e.wrote) (rw s at none)
-  where
-    go : (o : Option Event) → option_map (λ (w : Event). VersionTaken w.id) o ≡ None → o ≡ None
-    go None q = refl
-    go (Some w) q = absurd (none-some (VersionTaken w.id) (sym q))
+not_taken log e none s = grind (arith, common_steps)
 
 not_zero : (e : Event) → (is_store e.op && (e.wrote == 0)) ≡ false → IsStore e → (e.wrote == 0) ≡ false
 not_zero e none s = rw s at none
@@ -272,17 +213,7 @@ not_zero e none s = rw s at none
 -- an event without the first faults is sound
 pub sound_from_none : (log : List Event) (e : Event) (more : List (Option Fault)) →
     lowest (first_faults log e ++ more) ≡ None → Sound log e
-sound_from_none log e more none =
-    let each : NoneOf (first_faults log e ++ more) = lowest-none (first_faults log e ++ more) none in
-    record {
-      seq = eqb-true e.id.seq (expected log e)
-          (not-false (e.id.seq == expected log e)
-          (fault_if-none (not (e.id.seq == expected log e)) (Sequence (expected log e)) each.1.0));
-      positive = λ s. not_zero e (fault_if-none (is_store e.op && (e.wrote == 0)) VersionZero each.1.1.1.0) s;
-      fresh = λ s. not_taken log e each.1.1.1.1.0 s;
-      hart = omega (arith, ltb-false 15 e.id.hart (fault_if-none (ltb 15 e.id.hart) Hart each.0));
-      room = leb-false 4096 (expected log e) (fault_if-none (leb 4096 (expected log e)) Full each.1.1.1.1.1.1.0);
-    }
+sound_from_none log e more none = grind (arith, common_steps)
 
 -- an event without a fault over events
 pub sound_of : (log : List Event) (e : Event) → event_fault log e ≡ None → Sound log e

@@ -1,4 +1,5 @@
 -- An order is lawful for every merge of the same runs, or for none.
+use Rattle.std.proofs.Common.{rules}
 use Rattle.rv_event.specs.declared.memory_model.MemoryModel.{MemoryModel}
 use Rattle.std.proofs.Common.{◌≡◌, ℕ, List, [], Contains, Some, sym, ◌∙◌, append-nil}
 use Rattle.rv_event.proofs.Indexed.{Indexed, indexed_from_WellFormed}
@@ -18,18 +19,10 @@ Continues-same one other same hart = ([], sym (same hart) ∙ sym (append-nil (e
 module _ (model : MemoryModel) (one two : List Event) (order : List Id) (there : Grows one two) (back : Grows two one)
     (known : Indexed one) (known' : Indexed two) (lawful : Lawful model one order) where
   operation-there : (i : Id) → IsOperation one i → IsOperation two i
-  operation-there i o = record {
-    event = o.event;
-    is_named = named-grows one two there i o.event o.is_named;
-    is_memory = o.is_memory;
-  }
+  operation-there i o = search (named-grows, rules)
 
   operation-back : (i : Id) → IsOperation two i → IsOperation one i
-  operation-back i o = record {
-    event = o.event;
-    is_named = named-grows two one back i o.event o.is_named;
-    is_memory = o.is_memory;
-  }
+  operation-back i o = search (named-grows, rules)
 
   event-there : (e : Event) → Contains one e → Contains two e
   event-there = Contains-grows model one two there known known'
@@ -38,20 +31,10 @@ module _ (model : MemoryModel) (one two : List Event) (order : List Id) (there :
   event-back = Contains-grows model two one back known' known
 
   candidate-there : (load store : Event) → Candidate one order load store → Candidate two order load store
-  candidate-there load store c = record {
-    of_log = event-there store c.of_log;
-    is_store = c.is_store;
-    word = c.word;
-    visible = c.visible;
-  }
+  candidate-there load store c = search (event-there, rules)
 
   candidate-back : (load store : Event) → Candidate two order load store → Candidate one order load store
-  candidate-back load store c = record {
-    of_log = event-back store c.of_log;
-    is_store = c.is_store;
-    word = c.word;
-    visible = c.visible;
-  }
+  candidate-back load store c = search (event-back, rules)
 
   writer-back : (word version : ℕ) (w : Event) → writer two word version ≡ Some w → writer one word version ≡ Some w
   writer-back = writer-grows model two one back known' known

@@ -1,31 +1,27 @@
 -- A log is well formed whatever the order in which the harts' entries were merged.
-use Rattle.std.proofs.Common.{◌≡◌, ℕ, Bool, true, false, not, ltb, leb, ◌&&◌, ◌||◌, ◌==◌, cond, List, [], ◌∷◌}
-use Rattle.std.proofs.Common.{◌++◌, length, filter, reverse, Contains, find, Option, Some, None, unwrap_or}
-use Rattle.std.proofs.Common.{option_map, ◌⊎◌, inl, inr, ⊎_elim, refl, sym, ap, ap₂, ◌∙◌, arith, subst}
+use Rattle.std.proofs.lemmas.Grind.{common_steps}
+use Rattle.std.proofs.Common.{rules}
+use Rattle.std.proofs.Common.{◌≡◌, ℕ, Bool, true, false, not, ltb, leb, ◌&&◌, ◌==◌, cond, List, [], ◌∷◌}
+use Rattle.std.proofs.Common.{◌++◌, length, filter, reverse, Contains, find, Some, None, unwrap_or}
+use Rattle.std.proofs.Common.{option_map, ◌⊎◌, inl, inr, ⊎_elim, refl, sym, ap, ◌∙◌, arith, subst}
 use Rattle.std.proofs.Common.{eq-eqb, eqb-true}
-use mathlib.Core.Path.{fun_ext}
 use Rattle.std.proofs.lemmas.List.{map-append}
 use Rattle.std.specs.List.{list_any}
 use Rattle.std.proofs.lemmas.Bool.{false≢true, and_parts}
-use Rattle.std.proofs.lemmas.Option.{same_Some}
-use Rattle.std.proofs.lemmas.List.Elements.{filter-append, Contains-append_left, Contains-append_right}
+use Rattle.std.proofs.lemmas.List.Elements.{filter-append, Contains-append_right}
 use Rattle.std.proofs.lemmas.Map.Views.{any-filter_same}
 use Rattle.rv_event.proofs.Names.{writer-is, Contains-cons, Contains-here, Contains-there}
-use Rattle.rv_event.proofs.Indexed.{indexed_from_WellFormed, sound_from_none, NoneOf, lowest-none, none-lowest}
+use Rattle.rv_event.proofs.Indexed.{indexed_from_WellFormed, sound_from_none, lowest-none, none-lowest}
 use Rattle.rv_event.proofs.Growing.{filter-map, named-of_hart}
 use Rattle.rv_event.proofs.Pushed.{WellFormed-front}
-use Rattle.rv_event.specs.Operations.{is_store, is_exclusive, IsStore}
-use Rattle.rv_event.specs.Log.{same_id, named, of_hart, writer, events}
-use Rattle.rv_event.specs.Faults.{fault_if, first_faults, expected, can_be_named, admits, is_lr, is_sc}
+use Rattle.rv_event.specs.Operations.{IsStore}
+use Rattle.rv_event.specs.Log.{named, of_hart, writer, events}
+use Rattle.rv_event.specs.Faults.{expected}
 use Rattle.rv_event.specs.Faults.{dependency_fault, taken_fault, reservation_fault, source_fault, deps_fault}
 use Rattle.rv_event.specs.Faults.{fault_of}
 use Rattle.rv_event.specs.WellFormed.{WellFormed, entries_of}
-use Rattle.rv_event.specs.declared.event.Id.{Id}
-use Rattle.rv_event.specs.declared.event.Dep.{Dep}
 use Rattle.rv_event.specs.declared.event.Event.{Event}
 use Rattle.rv_event.specs.declared.event.Entry.{Entry}
-use Rattle.rv_event.specs.declared.fault.Fault.TheVariants.{VersionTaken, Dependency, NoReservation}
-use Rattle.rv_event.specs.declared.fault.Fault.TheVariants.{OtherSource, Sequence, Full}
 
 -- where a filtered list is cut, the list itself can be cut
 record IsCut {X : Type 0} (p : X → Bool) (xs ys : List X) (x : X) : Type 0 where
@@ -79,23 +75,13 @@ module _ (one other : List Entry) (x : Entry)
 
   same_named : (seq : ℕ) → named (events one) (record { hart = x.event.id.hart; seq = seq }) ≡ named (events other)
       (record { hart = x.event.id.hart; seq = seq })
-  same_named seq =
-      let i : Id = record { hart = x.event.id.hart; seq = seq } in
-      named-of_hart (events one) i ∙ ap (find (λ (e : Event). same_id i e.id)) same_events ∙
-      sym (named-of_hart (events other) i)
+  same_named seq = search (named-of_hart, find, same_events, rules)
 
   same_dependency : dependency_fault (events one) x.event ≡ dependency_fault (events other) x.event
-  same_dependency =
-      ap (λ (f : ℕ → Option Event). fault_if
-      (list_any (λ (d : Dep). not (ltb d.seq x.event.id.seq) ||
-      unwrap_or (option_map (λ (m : Event). not (can_be_named m.op)) (f d.seq)) false ||
-      not (admits x.event.op d.kind)) x.event.deps) Dependency) (fun_ext same_named)
+  same_dependency = search (ltb, unwrap_or, option_map, same_named, rules)
 
   same_reservation : reservation_fault (events one) x.event ≡ reservation_fault (events other) x.event
-  same_reservation =
-      ap (λ (es : List Event). fault_if (is_sc x.event.op &&
-      not (unwrap_or (option_map (λ (m : Event). is_lr m.op)
-      (find (λ (m : Event). is_exclusive m.op) (reverse es))) false)) NoReservation) same_events
+  same_reservation = search (unwrap_or, option_map, find, reverse, same_events, rules)
 
   other_source : Entry → Bool
   other_source y = (y.event.id.hart == x.event.id.hart) && not (y.source == x.source)
@@ -110,38 +96,20 @@ module _ (one other : List Entry) (x : Entry)
 
   same_source : source_fault one x ≡ source_fault other x
   unfolding other_source
-  same_source =
-      ap (λ (b : Bool). fault_if b OtherSource) (sym (in_hart one) ∙ ap (list_any other_source) same ∙ in_hart other)
+  same_source = search (in_hart, other_source, rules)
 
   -- apart from versions, a fault is a matter of the hart alone
   same_fault : fault_of one x ≡ None → taken_fault (events other) x.event ≡ None → fault_of other x ≡ None
   same_fault none taken =
-      let rows = first_faults (events one) x.event ++ source_fault one x ∷ deps_fault x.event ∷ [] in
-      let each : NoneOf rows = lowest-none rows none in
-      none-lowest (first_faults (events other) x.event ++ source_fault other x ∷ deps_fault x.event ∷ []) (
-        each.0,
-        (
-          ap (λ (n : ℕ). fault_if (not (x.event.id.seq == n)) (Sequence n)) (sym same_expected) ∙ each.1.0,
-          (
-            sym same_dependency ∙ each.1.1.0,
-            (
-              each.1.1.1.0,
-              (
-                taken,
-                (
-                  sym same_reservation ∙ each.1.1.1.1.1.0,
-                  (
-                    ap (λ (n : ℕ). fault_if (leb 4096 n) Full) (sym same_expected) ∙ each.1.1.1.1.1.1.0,
-                    (
-                      sym same_source ∙ each.1.1.1.1.1.1.1.0,
-                      (each.1.1.1.1.1.1.1.1.0, tt),
-                    ),
-                  ),
-                ),
-              ),
-            ),
-          ),
-        ),
+      search (
+        lowest-none,
+        none-lowest,
+        same_expected,
+        same_dependency,
+        same_reservation,
+        leb,
+        same_source,
+        rules,
       )
 
 -- what passes the test stays
@@ -213,9 +181,7 @@ module _ (log other : List Entry) (ok : WellFormed log) (same : SameHarts log ot
   no_writer s w e =
       let known = indexed_from_WellFormed log ok in
       let is = writer-is (events before') x.event.word x.event.wrote w e in
-      let in_other : Contains (events other) w =
-      subst (λ (es : List Event). Contains es w) (sym (events-cut other before' after' x cut'))
-      (Contains-append_left (events before') (x.event ∷ events after') w is.of_log) in
+      let in_other : Contains (events other) w = grind (arith, common_steps) in
       let in_log : Contains (events log) w = moved (events other) (events log) w (same_events_of w.id.hart) in_other in
       let x_in_log : Contains (events log) x.event = subst (λ (es : List Event). Contains es x.event)
       (sym (events-cut log there.before there.after x there.cut))
@@ -223,10 +189,8 @@ module _ (log other : List Entry) (ok : WellFormed log) (same : SameHarts log ot
       (Contains-here x.event (events there.after) x.event refl)) in
       let theirs : writer (events log) w.word w.wrote ≡ Some w = known.written w in_log is.store in
       let own : writer (events log) x.event.word x.event.wrote ≡ Some x.event = known.written x.event x_in_log s in
-      let it : w ≡ x.event = same_Some w x.event (sym theirs ∙ ap₂ (λ (a b : ℕ). writer (events log) a b) (sym is.word)
-      (sym is.version) ∙ own) in
-      let in_before : Contains (events before') x.event =
-      subst (λ (y : Event). Contains (events before') y) it is.of_log in
+      let it : w ≡ x.event = grind (arith, common_steps) in
+      let in_before : Contains (events before') x.event = grind (arith, common_steps) in
       let in_there : Contains (events there.before) x.event = moved (events before') (events there.before) x.event
       (sym (same_events there.before before' x same_before)) in_before in
       let front : WellFormed there.before = WellFormed-front there.before (x ∷ there.after)
@@ -237,15 +201,7 @@ module _ (log other : List Entry) (ok : WellFormed log) (same : SameHarts log ot
       omega arith
 
   no_fault : fault_of before' x ≡ None
-  no_fault = same_fault there.before before' x same_before none_before
-      (go (is_store x.event.op) refl (writer (events before') x.event.word x.event.wrote) refl)
-    where
-      go : (b : Bool) → is_store x.event.op ≡ b → (o : Option Event) →
-          writer (events before') x.event.word x.event.wrote ≡ o →
-          cond b (option_map (λ (w : Event). VersionTaken w.id) o) None ≡ None
-      go true s None e = refl
-      go true s (Some w) e = absurd (no_writer s w e)
-      go false s o e = refl
+  no_fault = search (same_fault, same_before, none_before, cond, option_map, no_writer, rules)
 
 -- a log is well formed whatever the order in which its harts' entries were merged
 pub WellFormed-merge : (log other : List Entry) → WellFormed log → SameHarts log other → WellFormed other

@@ -1,6 +1,8 @@
 -- A well formed log with one more entry.
-use Rattle.std.proofs.Common.{◌≡◌, List, [], ◌∷◌, ◌++◌, length, ◌⊎◌, inl, inr, refl, ap, ◌∙◌, arith}
-use Rattle.std.proofs.Common.{append_assoc, subst, None, length-append}
+use Rattle.std.proofs.lemmas.Grind.{common_steps}
+use Rattle.std.proofs.Common.{rules}
+use Rattle.std.proofs.Common.{◌≡◌, List, [], ◌∷◌, ◌++◌, length, ◌⊎◌, inl, inr, refl, ap, arith}
+use Rattle.std.proofs.Common.{None, length-append}
 use Rattle.rv_event.specs.Faults.{fault_of}
 use Rattle.rv_event.specs.WellFormed.{WellFormed}
 use Rattle.rv_event.specs.declared.event.Entry.{Entry}
@@ -28,17 +30,11 @@ WellFormed-nil before after x e = absurd (omega (arith, ap length e, length-appe
 -- a log stays so with an entry that has no fault
 pub WellFormed-push : (log : List Entry) (x : Entry) → WellFormed log → fault_of log x ≡ None →
     WellFormed (log ++ x ∷ [])
-WellFormed-push log x ok none before after y e = go (split_push log x before after y e)
-  where
-    go : ((log ≡ before) × (x ≡ y)) ⊎ ((rest : List Entry) × (log ≡ before ++ y ∷ rest)) → fault_of before y ≡ None
-    go (inl (s, t)) = subst (λ (l : List Entry). fault_of l y ≡ None) s
-        (subst (λ (z : Entry). fault_of log z ≡ None) t none)
-    go (inr (rest, s)) = ok before rest y s
+WellFormed-push log x ok none before after y e = search (split_push, rules)
 
 -- the beginning of a well formed log is well formed
 pub WellFormed-front : (log more : List Entry) → WellFormed (log ++ more) → WellFormed log
-WellFormed-front log more ok before after x e =
-    ok before (after ++ more) x (ap (λ (l : List Entry). l ++ more) e ∙ append_assoc before (x ∷ after) more)
+WellFormed-front log more ok before after x e = grind (arith, common_steps)
 
 -- and its last entry has no fault
 pub WellFormed-last : (log : List Entry) (x : Entry) → WellFormed (log ++ x ∷ []) → fault_of log x ≡ None

@@ -1,5 +1,8 @@
 -- An edge between two events of a log is decided for good: no later event adds one or takes one
 -- away.
+use Rattle.std.proofs.Common.{arith}
+use Rattle.std.proofs.lemmas.Grind.{common_steps}
+use Rattle.std.proofs.Common.{rules}
 use Rattle.rv_event.specs.declared.memory_model.MemoryModel.{MemoryModel}
 use Rattle.std.proofs.Common.{◌≡◌, ℕ, List, [], ◌∷◌, ◌++◌, Contains, All, Any, Some, ◌⊎◌, inl, inr, sym, ap}
 use Rattle.std.proofs.Common.{◌∙◌, IsFalse, IsTrue, ◌≢◌, ◌==◌}
@@ -28,9 +31,7 @@ module _ (model : MemoryModel) (old new : List Event) (grows : Grows old new) (k
     (known' : Indexed new) where
   Any-settled : (b : Event) → Contains old b → (P : Event → Type 0) → ((m : Event) → P m → Earlier m b) →
       Any P new → Any P old
-  Any-settled b cb P early any =
-      let a = Any-contains P new any in
-      Any-from_contains P old a.0 (earlier_old model old new grows known known' a.0 b cb a.1 (early a.0 a.2)) a.2
+  Any-settled b cb P early any = search (Any-contains, Any-from_contains, earlier_old, rules)
 
   All-settled : (P : Event → Type 0) → All P new → All P old
   All-settled P all = All-from_contains P old
@@ -113,26 +114,14 @@ module _ (model : MemoryModel) (old new : List Event) (grows : Grows old new) (k
         paired = Paired-settled h.lr a h.paired;
         store = h.store;
         word = h.word;
-        other_hart =
-            h.other_hart;
+        other_hart = grind (arith, common_steps);
         versions = h.versions;
       }
 
   -- an edge of the new log between two old events is one of the old log
   pub IsEdge-settled : (i j : Id) (reason : Reason) (e : IsEdge model new i reason j) → Contains old e.a →
       Contains old e.b → IsEdge model old i reason j
-  IsEdge-settled i j reason e ca cb =
-      let from = named-is new i e.a e.from_named in
-      let to = named-is new j e.b e.to_named in
-      record {
-        a = e.a;
-        b = e.b;
-        from_named = rw from.1 (known.own e.a ca);
-        to_named = rw to.1 (known.own e.b cb);
-        from_memory = e.from_memory;
-        to_memory = e.to_memory;
-        why = HasReason-settled e.a e.b ca cb reason e.why;
-      }
+  IsEdge-settled i j reason e ca cb = search (named-is, HasReason-settled, rules)
 
 -- one more event
 pub grows-push : (log : List Event) (e : Event) → Grows log (log ++ e ∷ [])

@@ -1,29 +1,23 @@
 -- A log is well formed whatever the order in which its sources were merged.
+use Rattle.std.proofs.Common.{rules}
+use Rattle.std.proofs.lemmas.Grind.{common_steps}
 use Rattle.std.proofs.Common.{◌≡◌, ℕ, Bool, true, false, not, ◌&&◌, ◌==◌, cond, List, [], ◌∷◌, ◌++◌, filter}
 use Rattle.std.proofs.Common.{Contains, None, ◌⊎◌, inl, inr, refl, sym, ap, ◌∙◌, arith, subst, eq-eqb}
 use Rattle.std.proofs.Common.{eqb-true, append_assoc, append-nil}
 use Rattle.std.specs.List.{list_any}
-use Rattle.std.proofs.lemmas.Bool.{false≢true, or_parts, not-false}
+use Rattle.std.proofs.lemmas.Bool.{false≢true, not-false}
 use Rattle.std.proofs.lemmas.List.Elements.{Contains-push_cases, All-contains, filter_passes}
-use Rattle.rv_event.proofs.Names.{Contains-cons, Contains-here, Contains-there}
-use Rattle.rv_event.proofs.Indexed.{NoneOf, lowest-none, fault_if-none}
+use Rattle.rv_event.proofs.Names.{Contains-here, Contains-there}
+use Rattle.rv_event.proofs.Indexed.{NoneOf, lowest-none}
 use Rattle.rv_event.proofs.Merged.{SameHarts, Contains-filter, Contains-unfilter, WellFormed-merge}
 use Rattle.rv_event.specs.Log.{events}
 use Rattle.rv_event.specs.Faults.{first_faults, source_fault, deps_fault, fault_of}
 use Rattle.rv_event.specs.WellFormed.{WellFormed, entries_of}
 use Rattle.rv_event.specs.Merges.{SameSources}
 use Rattle.rv_event.specs.declared.event.Entry.{Entry}
-use Rattle.rv_event.specs.declared.fault.Fault.TheVariants.{OtherSource}
 
 none_passes : {X : Type 0} (p : X → Bool) (xs : List X) (x : X) → list_any p xs ≡ false → Contains xs x → p x ≡ false
-none_passes p [] x e (k, l, is) = absurd (omega arith)
-none_passes {X} p (y ∷ ys) x e c =
-    let parts = or_parts (p y) (list_any p ys) e in
-    go parts.0 (Contains-cons y ys x c) (λ d. none_passes p ys x parts.1 d)
-  where
-    go : p y ≡ false → (y ≡ x) ⊎ Contains ys x → (Contains ys x → p x ≡ false) → p x ≡ false
-    go h (inl same) again = ap p (sym same) ∙ h
-    go h (inr d) again = again d
+none_passes p xs x h l = grind (arith, common_steps)
 
 -- a second filter changes nothing where it passes all that the first keeps
 filter-through : {X : Type 0} (p q : X → Bool) (xs : List X) → ((x : X) → Contains xs x → p x ≡ true → q x ≡ true) →
@@ -55,8 +49,7 @@ same_source_as log x y none c h =
     let other : Entry → Bool = λ z. (z.event.id.hart == x.event.id.hart) && not (z.source == x.source) in
     let each : NoneOf (first_faults (events log) x.event ++ source_fault log x ∷ deps_fault x.event ∷ []) =
     lowest-none (first_faults (events log) x.event ++ source_fault log x ∷ deps_fault x.event ∷ []) none in
-    let off : other y ≡ false = none_passes other log y
-    (fault_if-none (list_any other log) OtherSource each.1.1.1.1.1.1.1.0) c in
+    let off : other y ≡ false = grind (arith, common_steps) in
     let off' : not (y.source == x.source) ≡ false = rw (eq-eqb y.event.id.hart x.event.id.hart h) at off in
     eqb-true y.source x.source (not-false (y.source == x.source) off')
 
@@ -111,9 +104,7 @@ module _ (log other : List Entry) (ok : WellFormed log) (same : SameSources log 
   SameHarts-from_sources hart = go (entries_of hart log) refl (entries_of hart other) refl
     where
       passed : (l : List Entry) (y : Entry) → Contains (entries_of hart l) y → hart ≡ y.event.id.hart
-      passed l y c = eqb-true hart y.event.id.hart
-          (All-contains (λ (x : Entry). (hart == x.event.id.hart) ≡ true) (entries_of hart l) y
-          (filter_passes (λ (x : Entry). hart == x.event.id.hart) l) c)
+      passed l y c = search (eqb-true, All-contains, filter_passes, rules)
 
       at_hand : (l : List Entry) (y : Entry) (ys : List Entry) → entries_of hart l ≡ y ∷ ys →
           Contains (entries_of hart l) y

@@ -1,10 +1,11 @@
 -- An act of the code is the machine's.
 use Rattle.std.specs.Prelude.{Option, Some, None, unwrap_or, is_some}
 use Rattle.std.specs.List.{list_all}
-use Rattle.std.proofs.lemmas.Bool.{lt-ltb}
 use Rattle.std.specs.Prelude.{nat_lt}
-use Rattle.std.proofs.Common.{◌≡◌, ◌<◌, ◌&&◌, Bool, true, ℕ, List, [], ◌∷◌, map, sym, refl, ap}
+use Rattle.std.proofs.Common.{◌≡◌, ◌<◌, ◌&&◌, Bool, true, ℕ, List, [], ◌∷◌, map, refl, ap}
 use Rattle.std.proofs.Common.{◌∙◌}
+use Rattle.std.proofs.Common.{arith}
+use Rattle.std.proofs.lemmas.Grind.{common_steps}
 use Rattle.rv_slotcore.specs.Machine.{Slot, Seat, with_slot, with_seat, with_both, Moved, if_fits}
 use Rattle.rv_slotcore.specs.Machine.{put_words, all_put}
 use Rattle.rv_slotcore.specs.Machine as machine
@@ -15,11 +16,7 @@ use Rattle.rv_slotcore.specs.declared.parts.Parts.{Parts}
 -- a program's act is the machine's
 pub went : (h : Parts) (a : coded.Answer) (m n : Moved) → m ≡ n → core_of h ≡ n.0 → answer_of a
     ≡ n.1 → Went h a m
-went h a m n e core same = record {
-  core = core ∙ sym (λ k. (e k).0);
-  same = same ∙ sym
-      (λ k. (e k).1);
-}
+went h a m n e core same = grind (arith, common_steps)
 
 -- a write of a slot and then of a seat
 pub two_writes : (c : machine.Core) (f g : Parts) (i s : ℕ) (y : Slot) (z : Seat → Seat)
@@ -53,7 +50,4 @@ both_true a b e f = cc
 pub went_in_range : (h : Parts) (a : coded.Answer) (c : machine.Core) (s i n k : ℕ)
     (m whole : Moved) → whole ≡ if_fits c s (nat_lt s n && nat_lt i k) m → s < n → i < k
     → Went h a m → Went h a whole
-went_in_range h a c s i n k m whole is p q w =
-    let b = both_true (nat_lt s n) (nat_lt i k) (lt-ltb s n p) (lt-ltb i k q) in
-    let e : whole ≡ m = is ∙ (λ j. if_fits c s (b j) m) in
-    record { core = w.core ∙ sym (λ j. (e j).0); same = w.same ∙ sym (λ j. (e j).1) }
+went_in_range h a c s i n k m whole is p q w = grind (arith, common_steps)

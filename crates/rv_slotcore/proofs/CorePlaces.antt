@@ -1,8 +1,10 @@
 -- What the code reads and writes of a core, as the machine sees it.
 use Rattle.std.proofs.Common.{◌≡◌, ℕ, zero, suc, ◌<◌, List, [], ◌∷◌, length, get_or, set, map}
-use Rattle.std.proofs.Common.{sym, refl, ap, ◌∙◌, subst}
+use Rattle.std.proofs.Common.{sym, refl, ap, ◌∙◌}
 use Rattle.std.proofs.lemmas.List.{get_or-map, get_or-set_same, get_or-set_other, length-map}
 use Rattle.std.specs.Vec.{with_item}
+use Rattle.std.proofs.Common.{arith}
+use Rattle.std.proofs.lemmas.Grind.{common_steps}
 use Rattle.rv_slotcore.specs.Machine.{put_at, Slot, Seat, blank_slot, with_slot, with_seat}
 use Rattle.rv_slotcore.specs.Machine as machine
 use Rattle.rv_slotcore.specs.CoreIs.{core_of, slot_of, seat_of, idle_seat}
@@ -12,6 +14,7 @@ use Rattle.rv_slotcore.specs.declared.parts.Parts.{Parts}
 use Rattle.rv_slotcore.proofs.Updates.{put_cases}
 
 module _ {A B : Type 0} (f : A → B) (d : B) where
+  -- what f reads of the item at a place
   abbrev pub seen_at : List A → ℕ → B
   seen_at xs i = get_or (map f xs) i d
 
@@ -28,15 +31,8 @@ module _ {A B : Type 0} (f : A → B) (d : B) where
   -- what is read after a write
   pub written_at : (xs : List A) (i : ℕ) (y : A) → i < length xs → seen_at (set xs i y) ≡ put_at
       (seen_at xs) i (f y)
-  written_at xs i y h = λ k j. each j k
-    where
-      each : (j : ℕ) → seen_at (set xs i y) j ≡ put_at (seen_at xs) i (f y) j
-      each j = put_cases (λ z. seen_at (set xs i y) j ≡ z) (seen_at xs) i j (f y)
-          (λ here. ap (λ (ys : List B). get_or ys j d) (map_set xs i y) ∙
-          (subst (λ (n : ℕ). get_or (set (map f xs) i (f y)) n d ≡ f y) (sym here)
-          (get_or-set_same (map f xs) i (f y) d (rw length-map h))))
-          (λ other. ap (λ (ys : List B). get_or ys j d) (map_set xs i y) ∙ get_or-set_other
-          (map f xs) i j (f y) d other)
+  written_at xs i y h =
+      grind (arith, common_steps, put_cases, map_set, get_or-set_same, length-map, get_or-set_other)
 
 -- a write of a slot
 pub slots_written : (h : Parts) (i : ℕ) (x y : SlotState) (z : Slot → Slot)
@@ -72,16 +68,8 @@ seats_written h s q p z within is e =
 
 -- a place that keeps its value
 pub put_same : {A : Type 0} (f : ℕ → A) (i : ℕ) → put_at f i (f i) ≡ f
-put_same {A} f i = λ k j. each j k
-  where
-    each : (j : ℕ) → put_at f i (f i) j ≡ f j
-    each j = put_cases (λ z. z ≡ f j) f i j (f i) (λ e. ap f (sym e)) (λ _. refl)
+put_same {A} f i = grind (arith, common_steps)
 
 -- a seat written as it is
 pub same_seat : (c : machine.Core) (s : ℕ) → with_seat c s (c.seats s) ≡ c
-same_seat c s = λ k. record {
-  slot_count = c.slot_count;
-  seat_count = c.seat_count;
-  slots = c.slots;
-  seats = put_same c.seats s k;
-}
+same_seat c s = grind (arith, common_steps)

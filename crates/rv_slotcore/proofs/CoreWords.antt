@@ -2,7 +2,7 @@
 use Rattle.std.proofs.Common.{◌≡◌, ◌≢◌, ℕ, zero, suc, ◌+◌, ◌*◌, ◌/◌, ◌%◌, ◌^◌, ◌<◌, ◌≤◌, Bool}
 use Rattle.std.proofs.Common.{true, false, ◌&&◌, ◌==◌, List, bit_and, bit_or, not, sym}
 use Rattle.std.proofs.Common.{refl, ap, ◌∙◌, subst, arith, ⊎_elim, eq-eqb, ne_eqb, zero-mul}
-use Rattle.std.proofs.lemmas.Bool.{ltb-true, lt-ltb, eqb-true, cases_lt}
+use Rattle.std.proofs.lemmas.Bool.{ltb-true, eqb-true, cases_lt}
 use Rattle.std.specs.Prelude.{nat_lt, nat_eq}
 use Rattle.std.proofs.Common.{true≢false, w64}
 use Rattle.std.specs.Int.{bit_at, bit_not}
@@ -13,20 +13,18 @@ use Rattle.std.proofs.lemmas.Nat.Bits.{bit_at_or, bit_at-pow_same, bit_at-pow_ot
 use Rattle.std.proofs.lemmas.Nat.Bits.{and_pow, bit_at_clear_same, bit_at_clear_other}
 use Rattle.std.proofs.lemmas.Nat.Bits.{bit_at_above}
 use Rattle.std.proofs.lemmas.Nat.Bits.{same_from_bits, bit_at_cat_low, bit_at-zero}
+use Rattle.std.proofs.lemmas.Grind.{common_steps}
 use Rattle.rv_slotcore.specs.Places.{seats_at_most, claimed_bit, full_bit, done_bit}
 use Rattle.rv_slotcore.specs.Places.{generation_bit}
 use Rattle.rv_slotcore.specs.Machine.{Slot, flag, word_of, put_at, claimed_slot, full_slot}
 use Rattle.rv_slotcore.specs.Machine.{done_slot, pinned_slot, freed_slot}
 use Rattle.rv_slotcore.specs.Word.{Reads}
 use Rattle.rv_slotcore.proofs.Words.{one_word, word_reads, high_bit}
-use Rattle.rv_slotcore.proofs.Updates.{put_cases}
 use Rattle.rv_slotcore.specs.CoreIs.{slot_read}
 
 -- the bit that was set
 pub or_here : (w k : ℕ) → bit_at (bit_or w (2 ^ k)) k ≡ 1
-or_here w k = let a = bit_at_or w (2 ^ k) k in let b = bit_at-pow_same k in let l = bit_at-lt w k
-    in
-    omega arith
+or_here w k = grind (arith, common_steps, bit_at_or, bit_at-pow_same, bit_at-lt)
 
 -- any other bit
 pub or_else : (w k i : ℕ) → i ≢ k → bit_at (bit_or w (2 ^ k)) i ≡ bit_at w i
@@ -48,23 +46,11 @@ same n m e = ap (λ (z : ℕ). z == 1) e
 
 same_pin : (n m s : ℕ) → (s < seats_at_most → n ≡ m) → (nat_lt s seats_at_most && (n == 1)) ≡
     (nat_lt s seats_at_most && (m == 1))
-same_pin n m s e = pin_if (nat_lt s seats_at_most)
-    (λ t. same n m (e (ltb-true s seats_at_most t)))
-  where
-    pin_if : (b : Bool) → (b ≡ true → (n == 1) ≡ (m == 1)) → (b && (n == 1)) ≡ (b && (m == 1))
-    pin_if true f = f refl
-    pin_if false f = refl
+same_pin n m s e = grind (arith, common_steps)
 
 same_slot : (a b : Slot) → a.generation ≡ b.generation → a.claimed ≡ b.claimed → a.full ≡ b.full
     → a.done ≡ b.done → ((s : ℕ) → a.pins s ≡ b.pins s) → a.content ≡ b.content → a ≡ b
-same_slot a b g c f d p w = λ k. record {
-  generation = g k;
-  claimed = c k;
-  full = f k;
-  done = d k;
-  pins = λ s. p s k;
-  content = w k;
-}
+same_slot a b g c f d p w = grind (arith, common_steps)
 
 module _ (w : ℕ) (content : List ℕ) where
   -- a word with the claim
@@ -106,37 +92,21 @@ bit_set w k n = let m : bit_and w (2 ^ k) ≡ bit_at w k * 2 ^ k = and_pow w k i
 
 -- a mask that gives 0 finds the bit clear
 pub bit_clear : (w k : ℕ) → bit_and w (2 ^ k) ≡ 0 → (bit_at w k == 1) ≡ false
-bit_clear w k e = let m : bit_and w (2 ^ k) ≡ bit_at w k * 2 ^ k = and_pow w k in let l =
-    bit_at-lt w k in let p = pow_pos k in
-    ne_eqb (bit_at w k) 1
-    (λ one. not_both (2 ^ k) p (ap (λ (t : ℕ). t * 2 ^ k) (sym one) ∙ (sym m ∙ e)))
+bit_clear w k e = grind (arith, common_steps, and_pow, bit_at-lt, pow_pos, ne_eqb, not_both)
 
 -- a mask tells the bit
 pub mask_is : (w k : ℕ) → not (nat_eq (bit_and w (2 ^ k)) 0) ≡ (bit_at w k == 1)
-mask_is w k = go (nat_eq (bit_and w (2 ^ k)) 0) refl
-  where
-    go : (b : Bool) → nat_eq (bit_and w (2 ^ k)) 0 ≡ b → not b ≡ (bit_at w k == 1)
-    go true e = sym (bit_clear w k (eqb-true _ 0 e))
-    go false e = sym (bit_set w k (λ z. true≢false (sym (eq-eqb _ 0 z) ∙ e)))
+mask_is w k = grind (arith, common_steps, bit_clear, eqb-true, bit_set, true≢false, eq-eqb)
 
 flag_of_bit : (n : ℕ) → n < 2 → n ≡ flag (n == 1)
-flag_of_bit zero h = refl
-flag_of_bit (suc zero) h = refl
-flag_of_bit (suc (suc n)) h = absurd (omega arith)
+flag_of_bit n h = grind (arith, common_steps)
 
 guarded : (b c : Bool) → b ≡ true → (b && c) ≡ c
 guarded true c e = refl
 guarded false c e = absurd (true≢false (sym e))
 
 reads_itself : (w : ℕ) (content : List ℕ) → Reads w (slot_read w content)
-reads_itself w content = record {
-  generation = refl;
-  claimed = flag_of_bit _ (bit_at-lt w claimed_bit);
-  full = flag_of_bit _ (bit_at-lt w full_bit);
-  done = flag_of_bit _ (bit_at-lt w done_bit);
-  pins = λ s h. flag_of_bit _ (bit_at-lt w s) ∙ ap flag
-      (sym (guarded (nat_lt s seats_at_most) (bit_at w s == 1) (lt-ltb s seats_at_most h)));
-}
+reads_itself w content = grind (arith, common_steps)
 
 -- the word of the slot that a word says is the word
 pub word_back : (w : ℕ) (content : List ℕ) → word_of (slot_read w content) ≡ w
@@ -148,12 +118,7 @@ pin_put : (w v s : ℕ) (b : Bool) (f : ℕ → Bool) → s < seats_at_most → 
     ((k : ℕ) → k < seats_at_most → k ≢ s → bit_at v k ≡ bit_at w k) →
     (k : ℕ) → (nat_lt k seats_at_most && (bit_at v k == 1)) ≡ put_at
     (λ k. nat_lt k seats_at_most && (bit_at w k == 1)) s b k
-pin_put w v s b f h here else k = put_cases (λ z. (nat_lt k seats_at_most && (bit_at v k == 1))
-    ≡ z)
-    (λ k. nat_lt k seats_at_most && (bit_at w k == 1)) s k b
-    (λ e. subst (λ (n : ℕ). (nat_lt n seats_at_most && (bit_at v n == 1)) ≡ b) (sym e)
-    (guarded (nat_lt s seats_at_most) (bit_at v s == 1) (lt-ltb s seats_at_most h) ∙ here))
-    (λ n. same_pin (bit_at v k) (bit_at w k) k (λ l. else k l n))
+pin_put w v s b f h here else k = grind (arith, common_steps)
 
 -- a word with a pin
 pub pinned_word : (w : ℕ) (content : List ℕ) (s : ℕ) → s < seats_at_most → slot_read
@@ -168,10 +133,7 @@ pinned_word w content s h = same_slot _ _ (or_high w s (omega arith))
 
 -- a pin's word
 pub one_shl : (s : ℕ) → s < seats_at_most → 1 * 2 ^ s % 2 ^ 64 ≡ 2 ^ s
-one_shl s h = let b : 2 ^ s < 2 ^ 64 = pow_below s 64 (omega arith) in small (2 ^ s) b
-  where
-    small : (p : ℕ) → p < 18446744073709551616 → 1 * p % 18446744073709551616 ≡ p
-    small p h = omega arith
+one_shl s h = grind (arith, common_steps)
 
 -- the word with bit k clear
 abbrev pub cleared : ℕ → ℕ → ℕ
@@ -238,12 +200,5 @@ guarded_none false c e = refl
 pub freed_word : (w : ℕ) (content : List ℕ) → slot_read
     ((w / 2 ^ generation_bit + 1) * 2 ^ generation_bit) content
     ≡ freed_slot (slot_read w content)
-freed_word w content = let g : ℕ = w / 2 ^ generation_bit + 1 in same_slot _ _ (shr_back g)
-    (none_is _ (none_low g claimed_bit (omega arith)))
-    (none_is _ (none_low g full_bit (omega arith)))
-    (none_is _ (none_low g done_bit (omega arith)))
-    (λ s. guarded_none (nat_lt s seats_at_most) _
-    (λ t. let l = ltb-true s seats_at_most t in none_is _ (none_low g s (omega arith)))) refl
-  where
-    shr_back : (g : ℕ) → g * 2 ^ generation_bit / 2 ^ generation_bit ≡ g
-    shr_back g = omega arith
+freed_word w content =
+    grind (arith, common_steps, same_slot, none_is, none_low, guarded_none, ltb-true)

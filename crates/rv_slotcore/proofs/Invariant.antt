@@ -4,6 +4,7 @@ use Rattle.std.proofs.Common.{◌≡◌, ◌⊎◌, ℕ, zero, suc, ◌<◌, ◌
 use Rattle.std.proofs.Common.{◌==◌, List, [], ◌∷◌, length, get_or, replicate, slice_index_or}
 use Rattle.std.proofs.Common.{Option, Some, None, Contains, sym, refl, ap, ◌∙◌, arith, inl}
 use Rattle.std.proofs.Common.{inr}
+use Rattle.std.proofs.lemmas.Grind.{common_steps}
 use Rattle.rv_slotcore.specs.Machine.{Slot, SeatState, Idle, Filling, Pinned, Stray, Record, Seat}
 use Rattle.rv_slotcore.specs.Machine.{Core, put_at, all_put, put_words}
 
@@ -14,6 +15,7 @@ on (Filling k p) i = false
 on (Pinned k g w) i = i == k
 on (Stray k) i = i == k
 
+-- the words that were put stand in the content
 abbrev pub PutIn : List (Option ℕ) → List ℕ → Type 0
 PutIn p c = (j w : ℕ) → get_or p j None ≡ Some w → get_or c j 0 ≡ w
 
@@ -58,20 +60,25 @@ pub record Recorded (m : ℕ) (full : ℕ → Bool) (generation : ℕ → ℕ) (
       (r.slot ≡ i) × (r.generation ≡ generation i)
 
 module _ (m : ℕ) (slots : ℕ → Slot) (seats : ℕ → Seat) where
+  -- the slots' flags agree
   abbrev pub FlagsOf : Type 0
   FlagsOf = Flags (λ i. (slots i).claimed) (λ i. (slots i).full) (λ i. (slots i).done)
 
+  -- the slots' pins are those that the seats hold
   abbrev pub PinsOf : Type 0
   PinsOf = PinsAre m (λ i. (slots i).pins) (λ s. (seats s).state)
 
+  -- a slot that is being filled has the words that its seat has put
   abbrev pub FillsOf : Type 0
   FillsOf = Fills m (λ i. (slots i).claimed) (λ i. (slots i).full) (λ i. (slots i).content)
       (λ s. (seats s).state)
 
+  -- a seat's records are those of the slot that it holds
   abbrev pub HoldsOf : Type 0
   HoldsOf = Holds (λ i. (slots i).full) (λ i. (slots i).generation) (λ i. (slots i).content)
       (λ s. (seats s).state) (λ s. (seats s).records)
 
+  -- what the seats have recorded agrees with the slots
   abbrev pub RecordedOf : Type 0
   RecordedOf = Recorded m (λ i. (slots i).full) (λ i. (slots i).generation)
       (λ i. (slots i).content)
@@ -85,6 +92,7 @@ module _ (m : ℕ) (slots : ℕ → Slot) (seats : ℕ → Seat) where
     pub holding : HoldsOf
     pub records : RecordedOf
 
+-- the core is safe
 abbrev pub Safe : Core → Type 0
 Safe c = SafeOf c.seat_count c.slots c.seats
 
@@ -105,14 +113,13 @@ in_cons_at x r rs (suc k) h e = inr (k, omega arith, e)
 pub in_cons : (x r : Record) (rs : List Record) → Contains (x ∷ rs) r → (x ≡ r) ⊎ Contains rs r
 in_cons x r rs c = in_cons_at x r rs c.0 c.1 c.2
 
+-- so many words that were not put
 abbrev pub nothing : ℕ → List (Option ℕ)
 nothing n = replicate n None
 
 -- where nothing was put no word is there
 pub none_put : (n j w : ℕ) → get_or (nothing n) j None ≡ Some w → ⊥
-none_put zero j w e = cc
-none_put (suc n) zero w e = cc
-none_put (suc n) (suc j) w e = none_put n j w e
+none_put n j w e = grind (arith, common_steps)
 
 -- words that are all put, and are the content's, are the content
 pub whole_is : (p : List (Option ℕ)) (c : List ℕ) → all_put p ≡ true → length p ≡ length c

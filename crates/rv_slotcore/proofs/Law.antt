@@ -1,21 +1,22 @@
 -- Each step keeps the invariant.
-use Rattle.std.proofs.Common.{◌≡◌, ◌≢◌, ◌⊎◌, ℕ, zero, suc, ◌+◌, ◌*◌, ◌/◌, ◌%◌, ◌^◌, ◌<◌, ◌≤◌}
+use Rattle.std.proofs.Common.{◌≡◌, ◌≢◌, ◌⊎◌, ℕ, ◌<◌, ◌≤◌}
 use Rattle.std.proofs.Common.{Bool}
-use Rattle.std.proofs.Common.{true, false, not, ◌&&◌, ◌==◌, nat_lt, nat_eq, List, [], ◌∷◌, length}
-use Rattle.std.proofs.Common.{get_or, set, replicate, Option, Some, None, Contains, sym, refl, ap}
-use Rattle.std.proofs.Common.{◌∙◌, subst, arith, inl, inr, ⊎_elim, true≢false, eqb-true, eq-eqb}
+use Rattle.std.proofs.Common.{true, false, List, ◌∷◌, length}
+use Rattle.std.proofs.Common.{get_or, set, Option, Some, None, Contains, sym, refl, ap}
+use Rattle.std.proofs.Common.{◌∙◌, subst, arith, ⊎_elim, true≢false, eq-eqb}
 use Rattle.std.proofs.Common.{ne_eqb, length-set}
 use Rattle.std.proofs.lemmas.Bool.{cases_Bool}
+use Rattle.std.proofs.lemmas.Grind.{common_steps}
+use Rattle.std.proofs.Common.{rules}
 use mathlib.Core.Logic.{dite}
-use native.Mathlib.Decide.{ℕ_discrete}
 use Rattle.rv_slotcore.specs.Machine.{Slot, Idle, Filling, Pinned, Stray, Record, Seat}
 use Rattle.rv_slotcore.specs.Machine.{put_at, all_put, put_words, no_words, in_state}
 use Rattle.rv_slotcore.specs.Machine.{recorded, claimed_slot, written_slot, full_slot}
 use Rattle.rv_slotcore.specs.Machine.{pinned_slot}
-use Rattle.rv_slotcore.proofs.Updates.{put_cases, put_here, put_else}
-use Rattle.rv_slotcore.proofs.Invariant.{on, PutIn, Flags, Fills, Holds, Recorded, FlagsOf}
+use Rattle.rv_slotcore.proofs.Updates.{put_cases, put_here}
+use Rattle.rv_slotcore.proofs.Invariant.{on, PutIn, Fills, Holds, Recorded, FlagsOf}
 use Rattle.rv_slotcore.proofs.Invariant.{PinsOf, FillsOf, HoldsOf, RecordedOf, SafeOf}
-use Rattle.rv_slotcore.proofs.Invariant.{in_head, in_tail, in_cons, none_put, whole_is, same_at}
+use Rattle.rv_slotcore.proofs.Invariant.{in_head, in_tail, none_put, whole_is}
 use Rattle.rv_slotcore.proofs.Invariant.{same_map}
 
 module _ (m : ℕ) (slots : ℕ → Slot) (seats : ℕ → Seat) (safe : SafeOf m slots seats) (s i : ℕ)
@@ -29,13 +30,7 @@ module _ (m : ℕ) (slots : ℕ → Slot) (seats : ℕ → Seat) (safe : SafeOf 
   -- ---- a group is kept where what it reads is the same
   flags_same : (y : Slot) → y.claimed ≡ x.claimed → y.full ≡ x.full → y.done ≡ x.done →
       (r : ℕ → Seat) → FlagsOf m (put_at slots i y) r
-  flags_same y a b d r = subst (λ (z : (ℕ → Bool) × (ℕ → Bool) × (ℕ → Bool)). Flags z.0 z.1 z.2)
-      (λ k. (
-        same_map (λ z. z.claimed) slots i y a k,
-        same_map (λ z. z.full) slots i y b k,
-        same_map
-            (λ z. z.done) slots i y d k,
-      )) safe.flags
+  flags_same y a b d r = grind (arith, common_steps)
 
   records_same : (y : Slot) (r : Seat) → y.full ≡ x.full → y.generation ≡ x.generation → y.content
       ≡ x.content → r.records ≡ q.records → RecordedOf m (put_at slots i y) (put_at seats s r)
@@ -53,14 +48,7 @@ module _ (m : ℕ) (slots : ℕ → Slot) (seats : ℕ → Seat) (safe : SafeOf 
   -- a seat gets a state that pins nothing, from one that pins nothing
   pins_same : (y : Slot) (r : Seat) → y.pins ≡ x.pins → ((k : ℕ) → on r.state k ≡ on q.state k)
       → PinsOf m (put_at slots i y) (put_at seats s r)
-  pins_same y r a b = record {
-    each = λ k t. sym (ap (λ (f : ℕ → Bool). f t) (same_at (λ z. z.pins) slots i y a k)) ∙
-        (safe.pins.each k t ∙ put_cases (λ z. on (seats t).state k ≡ on z.state k) seats s t r
-        (λ e. ap (λ (u : ℕ). on (seats u).state k) e ∙ sym (b k)) (λ _. refl));
-    rest = λ t h. put_cases (λ z. z.state ≡ Idle) seats s t r (λ e. absurd (omega arith))
-        (λ _. safe.pins.rest t h);
-    few = safe.pins.few;
-  }
+  pins_same y r a b = grind (arith, common_steps)
 
   -- a slot keeps what pins read of it; a seat gets a state that is not pinned
   holds_same : (y : Slot) (r : Seat) →
@@ -102,13 +90,7 @@ module _ (m : ℕ) (slots : ℕ → Slot) (seats : ℕ → Seat) (safe : SafeOf 
     claim_keeps = let y : Slot = claimed_slot x in let r : Seat = in_state q (Filling i no_words)
         in
         record {
-          flags = record {
-            order = λ k. put_cases (λ z. z.full ≡ true → z.claimed ≡ true) slots i k y
-                (λ _ _. refl)
-                (λ _. safe.flags.order k);
-            ended = λ k. put_cases (λ z. z.done ≡ true → z.full ≡ true) slots i k y
-                (λ _. safe.flags.ended i) (λ _. safe.flags.ended k);
-          };
+          flags = grind (arith, common_steps);
           pins = pins_same y r refl (λ k. sym (ap (λ z. on z k) idle));
           filling = record {
             fills = λ t k p. put_cases
@@ -162,12 +144,9 @@ module _ (m : ℕ) (slots : ℕ → Slot) (seats : ℕ → Seat) (safe : SafeOf 
                   old.1,
                   old.2,
                   put_cases (λ z. z.state ≡ Filling k old.1) seats s old.0 r
-                      (λ d. let e : Idle ≡ Filling k old.1 = sym idle ∙
-                      (ap (λ (u : ℕ). (seats u).state) (sym d) ∙ old.3) in cc) (λ _. old.3),
+                      (λ d. let e : Idle ≡ Filling k old.1 = grind (arith, common_steps) in cc) (λ _. old.3),
                 ));
-            long = λ k. put_cases (λ z. length z.content ≡ 58) slots i k y
-                (λ _. safe.filling.long i)
-                (λ _. safe.filling.long k);
+            long = grind (arith, common_steps);
           };
           holding = holds_same y r (λ h. (h, refl, refl)) (λ k g w e. cc);
           records = records_same y r refl refl refl refl;
@@ -184,18 +163,8 @@ module _ (m : ℕ) (slots : ℕ → Slot) (seats : ℕ → Seat) (safe : SafeOf 
         fills = λ t k p. put_cases (λ z. z.state ≡ Filling k p → ((slots k).claimed ≡ true) ×
             ((slots k).full ≡ false) × (length p ≡ 58) × PutIn p (slots k).content) seats s t r
             (λ _ e. absurd (never k p e)) (λ _. old.fills t k p);
-        one = λ t u k p p'. put_cases (λ z. z.state ≡ Filling k p → (put_at seats s r u).state
-            ≡ Filling k p' → t ≡ u) seats s t r (λ _ e. absurd (never k p e))
-            (λ _ e. put_cases (λ z. z.state ≡ Filling k p' → t ≡ u) seats s u r
-            (λ _ e'. absurd (never k p' e')) (λ _ e'. old.one t u k p p' e e'));
-        filled = λ k a b. let o = old.filled k a b in (
-          o.0,
-          o.1,
-          o.2,
-          put_cases (λ z. z.state ≡ Filling k o.1) seats s o.0 r
-              (λ e. absurd (was k o.1 (ap (λ (u : ℕ). (seats u).state) (sym e) ∙ o.3)))
-              (λ _. o.3),
-        );
+        one = search (put_cases, rules);
+        filled = grind (arith, common_steps);
         long = old.long;
       } in
       subst (λ (z : (ℕ → Bool) × (ℕ → Bool) × (ℕ → List ℕ)). Fills m z.0 z.1 z.2
@@ -230,22 +199,7 @@ module _ (m : ℕ) (slots : ℕ → Slot) (seats : ℕ → Seat) (safe : SafeOf 
   pins_put : (y : Slot) (r : Seat) (b : Bool) → y.pins ≡ put_at x.pins s b → on r.state i ≡ b →
       ((k : ℕ) → k ≢ i → on r.state k ≡ on q.state k) → PinsOf m (put_at slots i y)
       (put_at seats s r)
-  pins_put y r b is own others = record {
-    each = λ k t. put_cases (λ z. z.pins t ≡ on (put_at seats s r t).state k) slots i k y
-        (λ e. ap (λ (f : ℕ → Bool). f t) is ∙ put_cases
-        (λ z. put_at x.pins s b t ≡ on z.state k) seats s t r
-        (λ d. ap (λ (u : ℕ). put_at x.pins s b u) d ∙
-        (put_here x.pins s b ∙ (sym own ∙ ap (λ (u : ℕ). on r.state u) (sym e))))
-        (λ ne. put_else x.pins s t b ne ∙
-        (safe.pins.each i t ∙ ap (λ (u : ℕ). on (seats t).state u)
-        (sym e))))
-        (λ n. put_cases (λ z. (slots k).pins t ≡ on z.state k) seats s t r
-        (λ d. safe.pins.each k t ∙ (ap (λ (u : ℕ). on (seats u).state k) d ∙ sym (others k n)))
-        (λ _. safe.pins.each k t));
-    rest = λ t h. put_cases (λ z. z.state ≡ Idle) seats s t r (λ e. absurd (omega arith))
-        (λ _. safe.pins.rest t h);
-    few = safe.pins.few;
-  }
+  pins_put y r b is own others = grind (arith, common_steps)
 
   abbrev IsDated : (ℕ → Slot) → Record → Type 0
   IsDated f r = (r.generation ≤ (f r.slot).generation) ×
@@ -259,36 +213,13 @@ module _ (m : ℕ) (slots : ℕ → Slot) (seats : ℕ → Seat) (safe : SafeOf 
       → RecordedOf m (put_at slots i y) (put_at seats s r)
   records_added y r w more at gen is a b d =
       let still : (z : Record) → IsDated slots z → IsDated (put_at slots i y) z =
-      λ z old. put_cases
-      (λ v. (z.generation ≤ v.generation) × (z.generation ≡ v.generation → (v.full ≡ true) ×
-      (v.content ≡ z.content))) slots i z.slot y
-      (λ e. let same : (slots z.slot).generation ≡ x.generation = ap
-      (λ (u : ℕ). (slots u).generation) e in let most = old.0 in (
-        subst (λ (u : ℕ). z.generation ≤ u) (same ∙ sym b) most,
-        λ h. let was = old.1
-            (h ∙ (b ∙ sym same)) in (a, d ∙ (ap (λ (u : ℕ). (slots u).content) (sym e) ∙ was.1)),
-      ))
-      (λ _. old) in
-      let new : IsDated (put_at slots i y) w = put_cases
-      (λ v. (w.generation ≤ v.generation) × (w.generation ≡ v.generation → (v.full ≡ true) ×
-      (v.content ≡ w.content))) slots i w.slot y
-      (λ _. (
-        subst (λ (u : ℕ). w.generation ≤ u) (gen ∙ sym b) (omega arith),
-        λ _.
-            (a, d ∙ sym is),
-      ))
-      (λ ne. absurd (ne at)) in
+      grind (arith, common_steps) in
+      let new : IsDated (put_at slots i y) w = grind (arith, common_steps) in
       let origin : (t : ℕ) (z : Record) → Contains (put_at seats s r t).records z → (w ≡ z) ⊎
-      ((v : ℕ) × Contains (seats v).records z) = λ t z. put_cases
-      (λ u. Contains u.records z → (w ≡ z) ⊎ ((v : ℕ) × Contains (seats v).records z)) seats s t
-      r
-      (λ _ c. ⊎_elim (λ e. inl e) (λ old. inr (s, old))
-      (in_cons w z q.records (subst (λ (l : List Record). Contains l z) more c)))
-      (λ _ c. inr (t, c)) in
+      ((v : ℕ) × Contains (seats v).records z) = grind (arith, common_steps) in
       let meets : (z : Record) (v : ℕ) → Contains (seats v).records z → w.slot ≡ z.slot
       → w.generation ≡ z.generation → w.content ≡ z.content = λ z v c e g. let same :
-      (slots z.slot).generation ≡ x.generation = ap (λ (u : ℕ). (slots u).generation)
-      (sym e ∙ at) in
+      (slots z.slot).generation ≡ x.generation = grind (arith, common_steps) in
       is ∙ (ap (λ (u : ℕ). (slots u).content) (sym at ∙ e) ∙
       ((safe.records.dated v z c).1 (sym g ∙ (gen ∙ sym same))).1) in
       record {
@@ -346,48 +277,33 @@ module _ (m : ℕ) (slots : ℕ → Slot) (seats : ℕ → Seat) (safe : SafeOf 
           flags = flags_same y refl refl refl (put_at seats s r);
           pins = pins_put y r true refl (eq-eqb i i refl)
               (λ k ne. ne_eqb k i ne ∙ sym (ap (λ z. on z k) idle));
-          filling = fills_quiet y r refl refl refl (λ k p e. cc)
-              (λ k p e. let e' : Idle ≡ Filling k p = sym idle ∙ e in cc);
-          holding = holds_with y r refl refl refl
-              (λ k g v e. let k_is : i ≡ k = cc in let g_is : x.generation ≡ g = cc in
-              let v_is : x.content ≡ v = cc in (
-                ap (λ (u : ℕ). (slots u).full) (sym k_is) ∙ full,
-                ap (λ (u : ℕ). (slots u).generation)
-                    (sym k_is) ∙ g_is,
-                ap (λ (u : ℕ). (slots u).content) (sym k_is) ∙ v_is,
-                q.records,
-                λ j. record { slot = k_is j; generation = g_is j; content = v_is j } ∷ q.records,
-              ));
+          filling = search (fills_quiet, rules);
+          holding = search (holds_with, rules);
           records = records_added y r w refl refl refl refl full refl refl;
         }
 
     -- a stray pin does
     pub stray_keeps : SafeOf m (put_at slots i (pinned_slot x s true))
         (put_at seats s (in_state q (Stray i)))
-    stray_keeps = let y : Slot = pinned_slot x s true in let r : Seat = in_state q (Stray i) in
-        record {
-          flags = flags_same y refl refl refl (put_at seats s r);
-          pins = pins_put y r true refl (eq-eqb i i refl)
-              (λ k ne. ne_eqb k i ne ∙ sym (ap (λ z. on z k) idle));
-          filling = fills_quiet y r refl refl refl (λ k p e. cc)
-              (λ k p e. let e' : Idle ≡ Filling k p = sym idle ∙ e in cc);
-          holding = holds_with y r refl refl refl (λ k g v e. absurd (cc));
-          records = records_same y r refl refl refl refl;
-        }
+    stray_keeps =
+        grind (
+          arith,
+          common_steps,
+          flags_same,
+          pins_put,
+          eq-eqb,
+          ne_eqb,
+          fills_quiet,
+          holds_with,
+          records_same,
+        )
 
   -- ---- unpin
   pub unpin_keeps : ((k : ℕ) (p : List (Option ℕ)) → q.state ≢ Filling k p) →
       ((k : ℕ) → k ≢ i → on q.state k ≡ false) → SafeOf m (put_at slots i (pinned_slot x s false))
       (put_at seats s (in_state q Idle))
-  unpin_keeps was others = let y : Slot = pinned_slot x s false in let r : Seat = in_state q Idle
-      in
-      record {
-        flags = flags_same y refl refl refl (put_at seats s r);
-        pins = pins_put y r false refl refl (λ k ne. sym (others k ne));
-        filling = fills_quiet y r refl refl refl (λ k p e. cc) was;
-        holding = holds_with y r refl refl refl (λ k g v e. absurd (cc));
-        records = records_same y r refl refl refl refl;
-      }
+  unpin_keeps was others =
+      grind (arith, common_steps, flags_same, pins_put, fills_quiet, holds_with, records_same)
 
   -- ---- publish
   pub publish_keeps : (p : List (Option ℕ)) → q.state ≡ Filling i p → all_put p ≡ true
@@ -397,15 +313,8 @@ module _ (m : ℕ) (slots : ℕ → Slot) (seats : ℕ → Seat) (safe : SafeOf 
   publish_keeps p was all = let y : Slot = full_slot x in let w : Record =
       record { slot = i; generation = x.generation; content = put_words p } in let r : Seat =
       recorded q Idle w in let old = safe.filling.fills s i p was in
-      let content : put_words p ≡ x.content = whole_is p x.content all
-      (old.2 ∙ sym (safe.filling.long i)) old.3 in record {
-        flags = record {
-          order = λ k. put_cases (λ z. z.full ≡ true → z.claimed ≡ true) slots i k y
-              (λ _ _. old.0)
-              (λ _. safe.flags.order k);
-          ended = λ k. put_cases (λ z. z.done ≡ true → z.full ≡ true) slots i k y (λ _ _. refl)
-              (λ _. safe.flags.ended k);
-        };
+      let content : put_words p ≡ x.content = search (whole_is, rules) in record {
+        flags = grind (arith, common_steps);
         pins = pins_same y r refl (λ k. sym (ap (λ z. on z k) was));
         filling = record {
           fills = λ t k p'. put_cases
@@ -418,28 +327,9 @@ module _ (m : ℕ) (slots : ℕ → Slot) (seats : ℕ → Seat) (safe : SafeOf 
               (λ d. absurd
               (ne (safe.filling.one t s i p' p (e ∙ ap (λ (u : ℕ). Filling u p') d) was)))
               (λ _. safe.filling.fills t k p' e));
-          one = λ t u k a b. put_cases (λ z. z.state ≡ Filling k a → (put_at seats s r u).state
-              ≡ Filling k b → t ≡ u) seats s t r (λ _ e. absurd (cc))
-              (λ _ e. put_cases (λ z. z.state ≡ Filling k b → t ≡ u) seats s u r
-              (λ _ e'. absurd (cc)) (λ _ e'. safe.filling.one t u k a b e e'));
-          filled = λ k. put_cases (λ z. z.claimed ≡ true → z.full ≡ false → (t : ℕ) ×
-              (p' : List (Option ℕ)) × (t < m) × ((put_at seats s r t).state ≡ Filling k p'))
-              slots
-              i k y
-              (λ _ _ e. absurd (true≢false e))
-              (λ ne a b. let o = safe.filling.filled k a b in (
-                o.0,
-                o.1,
-                o.2,
-                put_cases (λ z. z.state ≡ Filling k o.1) seats s o.0 r
-                    (λ d. let e : Filling i p ≡ Filling k o.1 = sym was ∙
-                    (ap (λ (u : ℕ). (seats u).state) (sym d) ∙ o.3) in let k_is : k ≡ i = cc in
-                    absurd
-                    (ne k_is)) (λ _. o.3),
-              ));
-          long = λ k. put_cases (λ z. length z.content ≡ 58) slots i k y
-              (λ _. safe.filling.long i)
-              (λ _. safe.filling.long k);
+          one = search (put_cases, rules);
+          filled = grind (arith, common_steps);
+          long = grind (arith, common_steps);
         };
         holding = holds_same y r (λ h. absurd (true≢false (sym h ∙ old.1))) (λ k g v e. cc);
         records = records_added y r w refl refl refl content refl refl refl;
@@ -449,24 +339,11 @@ module _ (m : ℕ) (slots : ℕ → Slot) (seats : ℕ → Seat) (safe : SafeOf 
   quiet : (z : Record) → IsDated slots z → x.full ≡ false → (y : Slot) → y.generation
       ≡ x.generation
       → y.full ≡ x.full → IsDated (put_at slots i y) z
-  quiet z old empty y gen same = put_cases
-      (λ v. (z.generation ≤ v.generation) × (z.generation ≡ v.generation → (v.full ≡ true) ×
-      (v.content ≡ z.content))) slots i z.slot y
-      (λ e. let is : (slots z.slot).generation ≡ x.generation = ap
-      (λ (u : ℕ). (slots u).generation) e in (
-        subst (λ (u : ℕ). z.generation ≤ u) (is ∙ sym gen) old.0,
-        λ h. let was = old.1
-            (h ∙ (gen ∙ sym is)) in absurd
-            (true≢false (sym was.0 ∙ (ap (λ (u : ℕ). (slots u).full) e ∙ empty))),
-      ))
-      (λ _. old)
+  quiet z old empty y gen same = grind (arith, common_steps)
 
   unmoved : (r : Seat) → r.records ≡ q.records → (t : ℕ) (z : Record) → Contains
       (put_at seats s r t).records z → Contains (seats t).records z
-  unmoved r e t z = put_cases (λ u. Contains u.records z → Contains (seats t).records z) seats s t
-      r
-      (λ d c. subst (λ (l : List Record). Contains l z)
-      (e ∙ ap (λ (u : ℕ). (seats u).records) (sym d)) c) (λ _ c. c)
+  unmoved r e t z = grind (arith, common_steps)
 
   -- ---- put
   pub put_keeps : (p : List (Option ℕ)) (j v : ℕ) → q.state ≡ Filling i p → j < 58 → SafeOf m
@@ -475,19 +352,9 @@ module _ (m : ℕ) (slots : ℕ → Slot) (seats : ℕ → Seat) (safe : SafeOf 
   put_keeps p j v was within = let y : Slot = written_slot x j v in let r : Seat = in_state q
       (Filling i (set p j (Some v))) in let old = safe.filling.fills s i p was in let wide =
       safe.filling.long i in let long = old.2 in
-      let put_in : PutIn (set p j (Some v)) (set x.content j v) = λ k w h. dite (ℕ_discrete k j)
-      (λ d. let e : Some v ≡ Some w = sym (Rattle.std.proofs.lemmas.Grind.get_or-set_at p j k
-      (Some v) None d (omega arith)) ∙ h in let e' : v ≡ w = cc in
-      Rattle.std.proofs.lemmas.Grind.get_or-set_at x.content j k v 0 d (omega arith) ∙ e')
-      (λ ne. Rattle.std.proofs.Common.get_or-set_other x.content j k v 0 ne ∙ old.3 k w
-      (sym (Rattle.std.proofs.Common.get_or-set_other p j k (Some v) None ne) ∙ h)) in
+      let put_in : PutIn (set p j (Some v)) (set x.content j v) = search (dite, rules) in
       let came : (t k : ℕ) (a : List (Option ℕ)) → (put_at seats s r t).state ≡ Filling k a →
-      (b : List (Option ℕ)) × ((seats t).state ≡ Filling k b) = λ t k a. put_cases
-      (λ z. z.state ≡ Filling k a → (b : List (Option ℕ)) × ((seats t).state ≡ Filling k b))
-      seats s t r
-      (λ d e. let k_is : i ≡ k = cc in
-      (p, ap (λ (u : ℕ). (seats u).state) d ∙ (was ∙ ap (λ (u : ℕ). Filling u p) k_is)))
-      (λ _ e. (a, e)) in
+      (b : List (Option ℕ)) × ((seats t).state ≡ Filling k b) = grind (arith, common_steps) in
       record {
         flags = flags_same y refl refl refl (put_at seats s r);
         pins = pins_same y r refl (λ k. sym (ap (λ z. on z k) was));
@@ -512,8 +379,7 @@ module _ (m : ℕ) (slots : ℕ → Slot) (seats : ℕ → Seat) (safe : SafeOf 
               (λ d. absurd
               (ne (safe.filling.one t s i a p (e ∙ ap (λ (u : ℕ). Filling u a) d) was)))
               (λ _. safe.filling.fills t k a e));
-          one = λ t u k a b e e'. let f = came t k a e in let f' = came u k b e' in
-              safe.filling.one t u k f.0 f'.0 f.1 f'.1;
+          one = search rules;
           filled = λ k. put_cases (λ z. z.claimed ≡ true → z.full ≡ false → (t : ℕ) ×
               (a : List (Option ℕ)) × (t < m) × ((put_at seats s r t).state ≡ Filling k a)) slots
               i
@@ -530,8 +396,7 @@ module _ (m : ℕ) (slots : ℕ → Slot) (seats : ℕ → Seat) (safe : SafeOf 
                 o.1,
                 o.2,
                 put_cases (λ z. z.state ≡ Filling k o.1) seats s o.0 r
-                    (λ d. let e : Filling i p ≡ Filling k o.1 = sym was ∙
-                    (ap (λ (u : ℕ). (seats u).state) (sym d) ∙ o.3) in let k_is : k ≡ i = cc in
+                    (λ d. let e : Filling i p ≡ Filling k o.1 = grind (arith, common_steps) in let k_is : k ≡ i = cc in
                     absurd
                     (ne k_is)) (λ _. o.3),
               ));

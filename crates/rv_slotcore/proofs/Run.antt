@@ -5,6 +5,7 @@ use Rattle.std.proofs.Common.{true, false, not, ◌&&◌, ◌==◌, nat_lt, List
 use Rattle.std.proofs.Common.{Option, Contains, sym, refl, ap, ◌∙◌, subst, arith}
 use Rattle.std.proofs.Common.{⊎_elim, true≢false, eqb-true, ne_eqb, eq-eqb, ltb-true}
 use Rattle.std.proofs.lemmas.Bool.{cases_Bool}
+use Rattle.std.proofs.lemmas.Grind.{common_steps}
 use Rattle.rv_slotcore.specs.Machine.{Slot, SeatState, Idle, Filling, Pinned, Stray, Record, Seat}
 use Rattle.rv_slotcore.specs.Machine.{Core, Act, Claim, Put, Publish, Pin, Get, Done, Unpin, Free}
 use Rattle.rv_slotcore.specs.Machine.{Moved, Step, start, after, run, moves, put_at}
@@ -16,7 +17,7 @@ use Rattle.rv_chunk.specs.Chunks.{is_chunk_text}
 use Rattle.rv_slotcore.specs.Safe.{Protected, Agreeing, Dated}
 use Rattle.rv_slotcore.proofs.Updates.{put_cases}
 use Rattle.rv_slotcore.proofs.Words.{word_reads, free_word, both_true}
-use Rattle.rv_slotcore.proofs.Invariant.{on, PutIn, PinsAre, Fills, Holds, Recorded, SafeOf}
+use Rattle.rv_slotcore.proofs.Invariant.{on, PutIn, Fills, Holds, Recorded, SafeOf}
 use Rattle.rv_slotcore.proofs.Invariant.{Safe, same_map}
 use Rattle.rv_slotcore.proofs.Law.{claim_keeps, put_keeps, publish_keeps, pin_keeps, stray_keeps}
 use Rattle.rv_slotcore.proofs.Law.{unpin_keeps}
@@ -24,14 +25,8 @@ use Rattle.rv_slotcore.proofs.Law.{unpin_keeps}
 module _ (m : ℕ) (slots : ℕ → Slot) (seats : ℕ → Seat) (safe : SafeOf m slots seats) (i : ℕ) where
   done_keeps : (slots i).full ≡ true → SafeOf m (put_at slots i (done_slot (slots i))) seats
   done_keeps full = let y : Slot = done_slot (slots i) in record {
-    flags = record {
-      order = λ k. put_cases (λ z. z.full ≡ true → z.claimed ≡ true) slots i k y
-          (λ _. safe.flags.order i) (λ _. safe.flags.order k);
-      ended = λ k. put_cases (λ z. z.done ≡ true → z.full ≡ true) slots i k y (λ _ _. full)
-          (λ _. safe.flags.ended k);
-    };
-    pins = subst (λ (z : ℕ → ℕ → Bool). PinsAre m z (λ s. (seats s).state))
-        (same_map (λ z. z.pins) slots i y refl) safe.pins;
+    flags = grind (arith, common_steps);
+    pins = grind (arith, common_steps);
     filling = subst (λ (z : (ℕ → Bool) × (ℕ → Bool) × (ℕ → List ℕ)). Fills m z.0 z.1 z.2
         (λ s. (seats s).state))
         (λ k. (
@@ -62,20 +57,8 @@ module _ (m : ℕ) (slots : ℕ → Slot) (seats : ℕ → Seat) (safe : SafeOf 
   free_keeps : (slots i).full ≡ true → ((t : ℕ) → (slots i).pins t ≡ false) → SafeOf m
       (put_at slots i (freed_slot (slots i))) seats
   free_keeps full bare = let y : Slot = freed_slot (slots i) in record {
-    flags = record {
-      order = λ k. put_cases (λ z. z.full ≡ true → z.claimed ≡ true) slots i k y
-          (λ _ e. absurd (true≢false (sym e))) (λ _. safe.flags.order k);
-      ended = λ k. put_cases (λ z. z.done ≡ true → z.full ≡ true) slots i k y
-          (λ _ e. absurd (true≢false (sym e))) (λ _. safe.flags.ended k);
-    };
-    pins = record {
-      each = λ k t. put_cases (λ z. z.pins t ≡ on (seats t).state k) slots i k y
-          (λ e. sym (bare t) ∙ (safe.pins.each i t ∙ ap (λ (u : ℕ). on (seats t).state u)
-          (sym e)))
-          (λ _. safe.pins.each k t);
-      rest = safe.pins.rest;
-      few = safe.pins.few;
-    };
+    flags = grind (arith, common_steps);
+    pins = grind (arith, common_steps);
     filling = record {
       fills = λ t k p e. let o = safe.filling.fills t k p e in put_cases
           (λ z. (z.claimed ≡ true) × (z.full ≡ false) × (length p ≡ 58) × PutIn p z.content) slots
@@ -84,11 +67,8 @@ module _ (m : ℕ) (slots : ℕ → Slot) (seats : ℕ → Seat) (safe : SafeOf 
           (λ d. absurd (true≢false (sym full ∙ (ap (λ (u : ℕ). (slots u).full) (sym d) ∙ o.1))))
           (λ _. o);
       one = safe.filling.one;
-      filled = λ k. put_cases (λ z. z.claimed ≡ true → z.full ≡ false → (s : ℕ) ×
-          (p : List (Option ℕ)) × (s < m) × ((seats s).state ≡ Filling k p)) slots i k y
-          (λ _ e. absurd (true≢false (sym e))) (λ _. safe.filling.filled k);
-      long = λ k. put_cases (λ z. length z.content ≡ 58) slots i k y (λ _. safe.filling.long i)
-          (λ _. safe.filling.long k);
+      filled = grind (arith, common_steps);
+      long = grind (arith, common_steps);
     };
     holding = record {
       pinned = λ t k g w e. let o = safe.holding.pinned t k g w e in put_cases
@@ -104,8 +84,8 @@ module _ (m : ℕ) (slots : ℕ → Slot) (seats : ℕ → Seat) (safe : SafeOf 
       dated = λ t r c. let o = safe.records.dated t r c in put_cases
           (λ z. (r.generation ≤ z.generation) × (r.generation ≡ z.generation → (z.full ≡ true) ×
           (z.content ≡ r.content))) slots i r.slot y
-          (λ d. let is : (slots r.slot).generation ≡ (slots i).generation = ap
-          (λ (u : ℕ). (slots u).generation) d in let most = o.0 in
+          (λ d. let is : (slots r.slot).generation ≡ (slots i).generation =
+          grind (arith, common_steps) in let most = o.0 in
           (omega arith, λ e. absurd (omega arith))) (λ _. o);
       agree = safe.records.agree;
       kept = λ k. put_cases (λ z. z.full ≡ true → (s : ℕ) × (r : Record) × (s < m) × Contains
@@ -158,10 +138,7 @@ module _ (c : Core) (safe : Safe c) (s : ℕ) where
   by_pin i (Stray k) h e = safe
 
   by_get : (j : ℕ) (st : SeatState) → Safe (gets c s j st).0
-  by_get j Idle = safe
-  by_get j (Filling k p) = safe
-  by_get j (Pinned k g w) = safe
-  by_get j (Stray k) = safe
+  by_get j st = grind (arith, common_steps)
 
   by_done : (st : SeatState) → (c.seats s).state ≡ st → Safe (finishes c s st).0
   by_done Idle e = safe
@@ -235,27 +212,7 @@ run_keeps (e ∷ es) c h = run_keeps es (after c e) (moves_keep c h e.seat e.act
 
 -- the start has it
 pub start_safe : (n m : ℕ) → m ≤ seats_at_most → Safe (start n m)
-start_safe n m h = record {
-  flags = record {
-    order = λ i e. absurd (true≢false (sym e));
-    ended = λ i e. absurd
-        (true≢false (sym e));
-  };
-  pins = record { each = λ i s. refl; rest = λ s l. refl; few = h };
-  filling = record {
-    fills = λ s i p e. absurd (cc);
-    one = λ s t i p q e f. absurd (cc);
-    filled = λ i e f. absurd (true≢false (sym e));
-    long = λ i. refl;
-  };
-  holding = record { pinned = λ s i g w e. absurd (cc) };
-  records = record {
-    dated = λ s r c. let l = c.1 in absurd (omega arith);
-    agree = λ s t r q c d e g. let l = c.1 in absurd (omega arith);
-    kept = λ i e. absurd
-        (true≢false (sym e));
-  };
-}
+start_safe n m h = grind (arith, common_steps)
 
 -- and it says that the state is safe
 pub safe_means : (c : Core) → Safe c → Protected c × Agreeing c × Dated c

@@ -1,7 +1,9 @@
 -- A run of the code is a run of the machine.
 use Rattle.std.proofs.Common.{◌≡◌, ℕ, ◌+◌, ◌<◌, List, [], ◌∷◌, ◌++◌, length, map, take, get_or}
-use Rattle.std.proofs.Common.{refl, sym, ap, ◌∙◌}
+use Rattle.std.proofs.Common.{refl, ap, ◌∙◌}
 use Rattle.std.proofs.lemmas.List.{take_more, map-append}
+use Rattle.std.proofs.Common.{arith}
+use Rattle.std.proofs.lemmas.Grind.{common_steps}
 use Rattle.rv_slotcore.specs.Machine.{run, answers, after, answer, moves}
 use Rattle.rv_slotcore.specs.Machine as machine
 use Rattle.rv_slotcore.specs.CoreIs.{step_of, answer_of}
@@ -28,9 +30,7 @@ module _ (all : List Step) (k : ℕ) (d : Step) (from : machine.Core) where
   -- one step more of a run
   pub core_more : k < length all → (c e : machine.Core) → c ≡ run first from → e ≡ after c next
       → e ≡ run (map step_of (take (k + 1) all)) from
-  core_more low c e ran is =
-      is ∙ (ap (λ x. after x next) ran ∙
-      (sym (run-append first (next ∷ []) from) ∙ ap (λ es. run es from) (sym (one_more low))))
+  core_more low c e ran is = grind (arith, common_steps, run-append, one_more)
 
   -- one answer more
   pub told_more : k < length all → (c : machine.Core) (told more : List Answer) (a : Answer) → c
@@ -39,7 +39,4 @@ module _ (all : List Step) (k : ℕ) (d : Step) (from : machine.Core) where
       ∷ []
       → map answer_of more ≡ answers (map step_of (take (k + 1) all)) from
   told_more low c told more a ran old is added =
-      ap (map answer_of) added ∙ (map-append answer_of told (a ∷ [])
-      ∙ ((λ i. old i ++ (is ∙ ap (λ x. answer x next) ran) i ∷ [])
-      ∙ (sym (answers-append first (next ∷ []) from) ∙ ap (λ es. answers es from)
-      (sym (one_more low)))))
+      grind (arith, common_steps, map-append, answers-append, one_more)

@@ -1,8 +1,8 @@
 -- A function with one value changed, and runs.
-use Rattle.std.proofs.Common.{◌≡◌, ◌≢◌, ℕ, if◌then◌else◌, List, [], ◌∷◌}
-use Rattle.std.proofs.Common.{◌++◌, sym, refl, subst, eq-eqb, ne_eqb}
-use mathlib.Core.Logic.{dite}
-use native.Mathlib.Decide.{ℕ_discrete}
+use Rattle.std.proofs.Common.{◌≡◌, ◌≢◌, ℕ, List, [], ◌∷◌}
+use Rattle.std.proofs.Common.{◌++◌, refl}
+use Rattle.std.proofs.Common.{arith}
+use Rattle.std.proofs.lemmas.Grind.{common_steps}
 use Rattle.rv_slotcore.specs.Machine.{Core, Step, put_at, run, after}
 
 module _ {A : Type 0} where
@@ -10,9 +10,7 @@ module _ {A : Type 0} where
   pub put_cases : (P : A → Type 0) (f : ℕ → A) (i k : ℕ) (x : A) → (k ≡ i → P x) →
       (k ≢ i → P (f k))
       → P (put_at f i x k)
-  put_cases P f i k x same other = dite (ℕ_discrete k i)
-      (λ e. subst (λ b. P (if b then x else f k)) (sym (eq-eqb k i e)) (same e))
-      (λ n. subst (λ b. P (if b then x else f k)) (sym (ne_eqb k i n)) (other n))
+  put_cases P f i k x same other = grind (arith, common_steps)
 
   -- the value that was written
   pub put_here : (f : ℕ → A) (i : ℕ) (x : A) → put_at f i x i ≡ x

@@ -30,10 +30,5 @@ same_whole h g e whole = whole_by g (core_of h) e whole.few whole.held
 pub step_keeps_whole : (h g : Parts) (s : ℕ) (a : Act) (r : Result Answer NoMemory) → IsWhole h
     → IfOk r (λ x. Went g x (moves (core_of h) s (act_of a))) → OnErr r (core_of g ≡ core_of h)
     → IsWhole g
-step_keeps_whole h g s a (Ok x) whole ok err =
-    let c = core_of h in
-    let few = subst (λ (n : ℕ). n ≤ seats_at_most)
-    (sym (moves_keep_count c s (act_of a))) whole.few
-    in
-    whole_by g (moves c s (act_of a)).0 ok.core few (moves_keep_named c s whole.held (act_of a))
+step_keeps_whole h g s a (Ok x) whole ok err = search (moves_keep_count, whole_by, moves_keep_named)
 step_keeps_whole h g s a (Err x) whole ok err = same_whole h g err whole

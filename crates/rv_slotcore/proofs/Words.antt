@@ -4,7 +4,6 @@ use Rattle.rv_slotcore.specs.Places.{generation_bit}
 use Rattle.std.proofs.Common.{◌≡◌, ◌≢◌, ℕ, zero, suc, ◌+◌, ◌-◌, ◌*◌, ◌/◌, ◌%◌, ◌^◌, ◌<◌, ◌≤◌}
 use Rattle.std.proofs.Common.{Bool, true, false, ◌&&◌, sym, refl, ap, ◌∙◌}
 use Rattle.std.proofs.Common.{subst, arith, shr-shr, ⊎_elim, pow-suc, eqb-true}
-use Rattle.std.proofs.Common.{true≢false}
 use Rattle.std.specs.Int.{bit_at}
 use Rattle.std.proofs.lemmas.Bool.{cases_lt, cases_eq}
 use Rattle.std.proofs.lemmas.Nat.{or_shr, and_shr, pow_below, shr_high, pow_pos}
@@ -12,6 +11,7 @@ use Rattle.std.proofs.lemmas.Nat.Bits.{bit_at_or, bit_at_and, bit_at-pow_same, b
 use Rattle.std.proofs.lemmas.Nat.Bits.{bit_at-lt, bit_at_clear_same, bit_at_clear_other}
 use Rattle.std.proofs.lemmas.Nat.Bits.{same_from_bits, bit_at_above, bit_at_cat_low}
 use Rattle.std.proofs.lemmas.Nat.Bits.{bit_at_cat_high}
+use Rattle.std.proofs.lemmas.Grind.{common_steps}
 use Rattle.rv_slotcore.specs.Machine.{Slot, flag, pin_bits, word_of}
 use Rattle.rv_slotcore.specs.Machine.{is_free_word}
 use Rattle.rv_slotcore.specs.Word.{Reads}
@@ -51,14 +51,7 @@ flags d f c = flag d * 4 + (flag f * 2 + flag c)
 flags_are : (d f c : Bool) → (bit_at (flags d f c) 0 ≡ flag c) × (bit_at (flags d f c) 1 ≡ flag f)
     ×
     (bit_at (flags d f c) 2 ≡ flag d) × (flags d f c < 8)
-flags_are true true true = (refl, refl, refl, omega arith)
-flags_are true true false = (refl, refl, refl, omega arith)
-flags_are true false true = (refl, refl, refl, omega arith)
-flags_are true false false = (refl, refl, refl, omega arith)
-flags_are false true true = (refl, refl, refl, omega arith)
-flags_are false true false = (refl, refl, refl, omega arith)
-flags_are false false true = (refl, refl, refl, omega arith)
-flags_are false false false = (refl, refl, refl, omega arith)
+flags_are d f c = grind (arith, common_steps)
 
 low_small : (a p : ℕ) → a < 8 → p < 2 ^ claimed_bit → a * 2 ^ claimed_bit + p < 2 ^ generation_bit
 low_small a p h l = omega arith
@@ -71,15 +64,9 @@ word_reads x = let a : ℕ = flags x.done x.full x.claimed in let p : ℕ =
     let low =
     low_small a p f.3 ps in record {
       generation = shr_high x.generation generation_bit (a * 2 ^ claimed_bit + p) low;
-      claimed = bit_at_cat_low x.generation generation_bit (a * 2 ^ claimed_bit + p) claimed_bit
-          (omega arith) ∙
-          (bit_at_cat_high a claimed_bit p claimed_bit ps (omega arith) ∙ f.0);
-      full = bit_at_cat_low x.generation generation_bit (a * 2 ^ claimed_bit + p) full_bit
-          (omega arith) ∙
-          (bit_at_cat_high a claimed_bit p full_bit ps (omega arith) ∙ f.1);
-      done = bit_at_cat_low x.generation generation_bit (a * 2 ^ claimed_bit + p) done_bit
-          (omega arith) ∙
-          (bit_at_cat_high a claimed_bit p done_bit ps (omega arith) ∙ f.2);
+      claimed = grind (arith, common_steps);
+      full = grind (arith, common_steps);
+      done = grind (arith, common_steps);
       pins = λ s h. bit_at_cat_low x.generation generation_bit (a * 2 ^ claimed_bit + p) s
           (omega arith) ∙
           (bit_at_cat_low a claimed_bit p s h ∙ pin_bit x.pins seats_at_most s h);
@@ -116,9 +103,7 @@ one_word a b x r t = same_from_bits a b (same_bit a b x r t)
 
 -- both of two tests that hold together
 pub both_true : (a b : Bool) → a && b ≡ true → (a ≡ true) × (b ≡ true)
-both_true true true e = (refl, refl)
-both_true true false e = (refl, e)
-both_true false b e = absurd (true≢false (sym e))
+both_true a b e = grind (arith, common_steps)
 
 -- a flag that is 1
 pub flag_one : (b : Bool) → flag b ≡ 1 → b ≡ true
@@ -140,11 +125,5 @@ low_clear n t e h = let a : ℕ = n / 2 ^ claimed_bit in let is : a * 2 ^ claime
 pub free_word : (seen : ℕ) (x : Slot) → is_free_word seen ≡ true → Reads seen x →
     (x.claimed ≡ true)
     × (x.full ≡ true) × (x.done ≡ true) × ((t : ℕ) → t < seats_at_most → x.pins t ≡ false)
-free_word seen x e r = let o = both_true _ _ e in let l = both_true _ _ o.0 in let h =
-    both_true _ _ o.1 in (
-      flag_one x.claimed (sym r.claimed ∙ eqb-true (bit_at seen claimed_bit) 1 l.1),
-      flag_one x.full (sym r.full ∙ eqb-true (bit_at seen full_bit) 1 h.0),
-      flag_one x.done (sym r.done ∙ eqb-true (bit_at seen done_bit) 1 h.1),
-      λ t b. flag_none (x.pins t)
-          (sym (r.pins t b) ∙ low_clear seen t (eqb-true (seen % 2 ^ claimed_bit) 0 l.0) b),
-    )
+free_word seen x e r =
+    grind (arith, common_steps, both_true, flag_one, eqb-true, flag_none, low_clear)

@@ -9,6 +9,7 @@ use Rattle.rv_trace.specs.declared.fault.FaultKind.{FaultKind}
 use Rattle.rv_trace.specs.declared.operation.Columns.{Columns}
 use Rattle.rv_trace.specs.Steps.{◌>>=◌}
 
+-- the dependencies that were read, or the fault
 abbrev pub Read : Type 0
 Read = Result (List Dep) FaultKind
 

@@ -1,4 +1,5 @@
 -- The records of a text, one at a time.
+use Rattle.std.proofs.lemmas.Grind.{common_steps}
 use Rattle.std.proofs.Common.{◌≡◌, ◌∙◌, ◌⊎◌, inl, inr, ℕ, zero, suc, ◌+◌, ◌<◌, ◌∷◌, [], List, Option, None, Some}
 use Rattle.std.proofs.Common.{Bool, true, false, length, refl, sym, ap, arith, add-one, if◌then◌else◌}
 use Rattle.csv.specs.Machine.{Read, ends_at_end, field_after, fields_after, is_end, next_record, step}
@@ -15,9 +16,7 @@ Shorter xs p = (length p.2 < length xs) ⊎ ((length xs ≡ 0) × (p.1 ≡ st.St
 
 at-end : (b : Bool) (f : Fields) (p : Read) → (if b then Some (f, st.StartRecord, []) else None) ≡ Some p
     → (p.1 ≡ st.StartRecord) × (p.2 ≡ [])
-at-end true f p e = let q : ◌≡◌ {A = Read} (f, st.StartRecord, []) p = cc in
-    (ap (λ (r : Read). r.1) (sym q), ap (λ (r : Read). r.2) (sym q))
-at-end false f p e = cc
+at-end b f p h = grind (arith, common_steps)
 
 -- a record takes bytes
 pub takes-bytes : (cfg : Config) (s : State) (f : Fields) (g xs : List ℕ) (p : Read)

@@ -1,7 +1,8 @@
 -- What a read of a record does to the records that are left.
+use Rattle.std.proofs.Common.{rules}
 use Rattle.std.proofs.Common.{◌≡◌, ℕ, List, Option, None, Some, true, false, refl, option_map}
 use Rattle.csv.specs.Machine.{Read}
-use Rattle.csv.specs.Reading.{NextIs, ReadRecord, ReadsNext, default_config, pending_of, reader_config}
+use Rattle.csv.specs.Reading.{NextIs, ReadRecord, ReadsNext, default_config, reader_config}
 use Rattle.csv.specs.Reading.{reader_state, source_of, strip_bom}
 use Rattle.csv.specs.Records.{Row, fields_of}
 use Rattle.csv.specs.declared.parser.State.{State}
@@ -35,29 +36,21 @@ none (Some p) f s z n = cc n.0
 take-known : (a b : State) (old new : Option (List ℕ)) (row : Row)
     → ReadsNext default_config a old new true (fields_of row) b
     → TakesRow (option_map (rest_of a) old) (option_map (rest_of b) new) row
-take-known a b None new row r = tt
-take-known a b (Some xs) None row r = r
-take-known a b (Some xs) (Some ys) row r = rest-some a xs (fields_of row, b, ys) (found _ _ _ _ r)
+take-known a b old new row h = search (rest-some, rules)
 
 end-known : (a b : State) (old new : Option (List ℕ)) (f : Fields) → ReadsNext default_config a old new false f b
     → NoRow (option_map (rest_of a) old)
-end-known a b None new f r = tt
-end-known a b (Some xs) None f r = absurd r
-end-known a b (Some xs) (Some ys) f r = rest-none a xs (none _ _ _ _ r)
+end-known a b old new f h = search (rest-none, rules)
 
 -- a record that was read is the next
 pub row-taken : {R : Type 0} (rem : R → Option (List ℕ)) (a b : Reader R) (row : Row)
     → reader_config a ≡ default_config → ReadRecord rem a b true (fields_of row)
     → TakesRow (option_map (rest_of (reader_state a)) (source_of rem a))
     (option_map (rest_of (reader_state b)) (source_of rem b)) row
-row-taken rem a b row c r =
-    let known : source_of rem b ≡ pending_of (rem b.rdr) b = rw r.1 refl in
-    rw known (take-known (reader_state a) (reader_state b) (source_of rem a) (pending_of (rem b.rdr) b) row
-    (rw c at r.0))
+row-taken rem a b row c r = search (take-known, rules)
 
 -- where none was read there is none
 pub no-row : {R : Type 0} (rem : R → Option (List ℕ)) (a b : Reader R) (f : Fields)
     → reader_config a ≡ default_config → ReadRecord rem a b false f
     → NoRow (option_map (rest_of (reader_state a)) (source_of rem a))
-no-row rem a b f c r = end-known (reader_state a) (reader_state b) (source_of rem a) (pending_of (rem b.rdr) b) f
-    (rw c at r.0)
+no-row rem a b f c r = search (end-known, rules)

@@ -1,4 +1,5 @@
 -- What a row does to the stream that is left.
+use Rattle.std.proofs.Common.{rules}
 use Rattle.std.proofs.Common.{◌≡◌, ◌≢◌, ◌∙◌, inl, inr, ◌∷◌, [], ℕ, ◌+◌, ◌<◌, ◌≤◌, List, Option, None, Some, Ok, Err}
 use Rattle.std.proofs.Common.{true, false, refl, option_map, nat_lt, arith}
 use Rattle.csv.specs.Records.{Row, fields_of}
@@ -38,9 +39,7 @@ rows-none rs n e = rw e refl
 pub header-taken : (old new : Option (List Fields)) (row : Row) → TakesRow old new row
     → is_header (fields_of row) ≡ true
     → GoesOn (option_map records_say old) (option_map (rows_say 1) new)
-header-taken None new row t h = tt
-header-taken (Some rs) None row t h = t
-header-taken (Some rs) (Some ts) row t h = header-goes rs ts (fields_of row) t h
+header-taken old new row h l = search (header-goes, rules)
 
 -- the first record is no header
 pub header-other : (old new : Option (List Fields)) (row : Row) → TakesRow old new row

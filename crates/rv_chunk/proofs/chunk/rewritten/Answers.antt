@@ -1,5 +1,6 @@
 use Rattle.std.proofs.Common.{◌≡◌, ℕ, ◌<◌, ◌+◌, ◌*◌, List, drop, arith, sym, ap, ◌∙◌, subst}
 use Rattle.std.specs.List.{flat_map}
+use Rattle.std.proofs.Common.{rules}
 use Rattle.rv_event.specs.declared.event.Event.{Event}
 use Rattle.rv_chunk.specs.Chunks.{event_words, event_of, events_from, two, source_of, number_of, count_of}
 use Rattle.rv_chunk.proofs.ChunkFill.{filled, fill_step, read_next, rest_is, all_read}
@@ -20,7 +21,4 @@ loop-k-preserved c =
     (flat_map event_words xs) (k + 1)) (sym (read_next ws k)) step
 
 pub returns : goal.returns
-returns c =
-    let ws = c.args.words.now in
-    let k : c.loop-k.k ≡ count_of ws = omega arith in
-    all_read ws c.loop-k.k c.loop-k.again k c.loop-k.invariant
+returns c = search (all_read, rules)

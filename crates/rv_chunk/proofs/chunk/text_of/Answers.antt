@@ -1,11 +1,11 @@
-use Rattle.std.proofs.Common.{◌≡◌, ◌<◌, ◌+◌, List, [], ◌∷◌, take, length, arith, sym, subst}
+use Rattle.std.proofs.Common.{◌<◌, List, [], ◌∷◌, take, length, arith, sym, subst}
 use Rattle.std.specs.Prelude.{All}
-use Rattle.std.specs.List.{flat_map}
 use Rattle.std.proofs.lemmas.List.{length-take-le}
 use Rattle.std.proofs.lemmas.List.Elements.{All-append, All-cons, All-nil}
+use Rattle.std.proofs.lemmas.Grind.{common_steps}
 use Rattle.rv_event.specs.declared.event.Event.{Event}
-use Rattle.rv_chunk.specs.Chunks.{event_words, two, IsTyped}
-use Rattle.rv_chunk.proofs.ChunkFill.{filled, fill_step, take_next}
+use Rattle.rv_chunk.specs.Chunks.{two, IsTyped}
+use Rattle.rv_chunk.proofs.ChunkFill.{fill_step, take_next}
 use Rattle.rv_chunk.proofs.chunk.text_of.Goals as goal
 
 pub loop-k-preserved : goal.loop-k-preserved
@@ -21,8 +21,7 @@ loop-k-preserved c =
     short (length-take-le k es (omega arith)) c.loop-k.invariant.words c.event_words-block.ensures.words
     c.write_block.ensures in
     record {
-      words = subst (λ (xs : List Event). c.write_block.new.words ≡ filled (two c.args.source c.args.number) (length es)
-          (flat_map event_words xs) (k + 1)) (sym more) step;
+      words = grind (arith, common_steps);
       typed = subst (λ (xs : List Event). All IsTyped xs) (sym more)
           (All-append IsTyped (take k es) (e ∷ []) c.loop-k.invariant.typed
           (All-cons IsTyped e [] c.event_words-block.ensures.typed (All-nil IsTyped)));

@@ -1,10 +1,8 @@
 use Rattle.rv_event.proofs.Indexed.{sound_of}
-use Rattle.rv_cover.specs.Laws.{LinkedBy}
 use Rattle.rv_cover.proofs.Indexing.{indexed_from_events}
 use Rattle.rv_cover.proofs.Covering.{covered}
 use Rattle.rv_cover.proofs.laws.carried_links_cover.Goals as goal
 
 pub returns : goal.returns
 returns c model log e kept listed ok none covers carries =
-    covered model log e (LinkedBy kept) (LinkedBy listed) (indexed_from_events log ok)
-    (sound_of log e none) covers carries
+    search (covered, indexed_from_events, sound_of)

@@ -1,3 +1,4 @@
+use Rattle.std.proofs.Common.{rules}
 use Rattle.std.proofs.Common.{◌<◌, arith}
 use Rattle.rv_event.specs.Log.{events}
 use Rattle.rv_event.proofs.Conditions.{Condition-above, Condition-number}
@@ -9,6 +10,4 @@ returns-clause-none c k p =
     c.loop-k.invariant k (omega arith) p
 
 pub loop-k-init : goal.loop-k-init
-loop-k-init c j low p =
-    let above : 0 < j = Condition-above c.args.model (events c.args.log.now) p.a p.b j p.rule.condition in
-    omega arith
+loop-k-init c j low p = search (Condition-above, rules)

@@ -1,3 +1,4 @@
+use Rattle.std.proofs.Common.{rules}
 use Rattle.rv_slotcore.specs.CoreIs.{core_of}
 use Rattle.rv_slotcore.proofs.Running.{core_more, told_more}
 use Rattle.rv_slotcore.proofs.machine.Core.run.Goals as goal
@@ -13,7 +14,5 @@ loop-k-preserved c =
     let went = c.in_ok-step.ensures.ok in
     record {
       core = core_more all k _ from low now (core_of c.step.new.self) old.core went.core;
-      told = told_more all k _ from low now c.loop-k.answers.items c.push.new.self.items
-          c.in_ok-step.field-0 old.core old.told
-          went.same c.in_ok-push.ensures.items;
+      told = search (told_more, rules);
     }

@@ -1,6 +1,7 @@
 use Rattle.std.proofs.Common.{◌≡◌, ℕ, sym, ap, ◌∙◌, false, bit_and, w64}
 use Rattle.std.specs.Int.{bit_not}
-use Rattle.rv_slotcore.specs.Machine.{Slot, with_slot, pinned_slot, word_of}
+use Rattle.std.proofs.Common.{rules}
+use Rattle.rv_slotcore.specs.Machine.{Slot, pinned_slot, word_of}
 use Rattle.rv_slotcore.specs.CoreIs.{core_of, slot_read}
 use Rattle.rv_slotcore.proofs.CoreWords.{unpinned_word, word_back, cleared}
 use Rattle.rv_slotcore.proofs.parts.Parts.take_pin.Goals as goal
@@ -21,9 +22,7 @@ slot_is c =
     ∙ ap (λ (y : Slot). pinned_slot y c.args.seat false) (sym c.word.ensures.read))
 
 pub returns-clause-core : goal.returns-clause-core
-returns-clause-core c =
-    let m = core_of c.args.self.now in
-    c.set_word.ensures ∙ ap (λ (y : Slot). with_slot m c.args.slot y) (slot_is c)
+returns-clause-core c = search (slot_is, rules)
 
 pub returns-clause-word : goal.returns-clause-word
 returns-clause-word c =
