@@ -1,28 +1,34 @@
--- The listed links are edges, and carry all.
+-- The links are edges.
+use Rattle.std.proofs.Common.{rules}
 use Rattle.std.proofs.Common.{◌≡◌, ◌≢◌, ℕ, List, [], ◌∷◌, ◌++◌, Contains, Option, Some, None, refl, sym}
 use Rattle.std.proofs.Common.{ap, ◌∙◌, arith, subst}
+use Rattle.std.proofs.lemmas.Option.{same_Some, none-some}
 use Rattle.std.proofs.lemmas.List.Elements.{Contains-push}
 use Rattle.std.proofs.lemmas.Grind.{common_steps}
-use Rattle.std.proofs.Common.{rules}
 use Rattle.rv_event.proofs.Indexed.{Indexed, Sound, indexed-push}
 use Rattle.rv_event.proofs.Names.{writer-is}
 use Rattle.rv_event.specs.Operations.{is_memory, IsLoad, IsStore, IsMemory}
 use Rattle.rv_event.specs.Log.{writer}
 use Rattle.rv_event.specs.Edges.{HasReason, IsEdge}
 use Rattle.rv_event.specs.declared.event.Event.{Event}
+use Rattle.rv_event.specs.declared.event.Id.{Id}
 use Rattle.rv_event.specs.declared.event.Op.TheVariants.{Sc}
 use Rattle.rv_event.specs.declared.memory_model.MemoryModel.{MemoryModel}
 use Rattle.rv_event.specs.declared.reason.Link.{Link}
 use Rattle.rv_event.specs.declared.reason.Reason.{Reason}
-use Rattle.rv_event.specs.declared.reason.Reason.TheVariants.{Coherence, ReadsFrom, FromRead, AtomicIn, AtomicOut}
+use Rattle.rv_event.specs.declared.reason.Reason.TheVariants.{Preserved, Coherence, ReadsFrom, FromRead}
+use Rattle.rv_event.specs.declared.reason.Reason.TheVariants.{AtomicIn, AtomicOut}
 use Rattle.rv_cover.proofs.Covering.{edge_of}
 use Rattle.rv_versions.specs.Indexes.{IsPair}
-use Rattle.rv_versions.specs.Listed.{link, BeforeLink, by_coherence, by_reads_from, by_from_read}
-use Rattle.rv_versions.specs.Listed.{by_atomic_in, by_atomic_out, AfterLink, to_coherence, to_reads_from}
-use Rattle.rv_versions.specs.Listed.{to_from_read, to_atomic_in, to_atomic_out}
-use Rattle.rv_versions.specs.Reserved.{IsPartner, IsReserved}
+use Rattle.rv_versions.specs.Accesses.{id_of}
+use Rattle.rv_versions.specs.Linked.{stored, returned, held, ComesBefore, ComesAfter, AreTheirs}
+use Rattle.rv_versions.specs.Linked.{AreBefore, AreAfter}
 use Rattle.rv_versions.specs.VersionLinks.{IsOfVersions}
+use Rattle.rv_versions.specs.Reserved.{IsPartner, IsReserved}
+use Rattle.rv_versions.specs.declared.accesses.Access.{Access}
+use Rattle.rv_versions.specs.declared.accesses.Accesses.{Accesses}
 use Rattle.rv_versions.specs.declared.reservation.Reservation.{Reservation}
+use Rattle.rv_versions.proofs.Found.{store_found, load_found, pair_found}
 use Rattle.rv_versions.proofs.Paired.{one_partner, is_new, in_new, none_after, grown, partner_of, pair_of_partner}
 
 -- a store is a memory operation
@@ -37,34 +43,38 @@ load-memory a s = grind arith
 pub sc-memory : (a : Event) → a.op ≡ Sc → IsMemory a
 sc-memory a e = ap is_memory e
 
-of_coherence : IsOfVersions Coherence
-of_coherence k e = cc
+-- the version that an event stored is that of a store
+pub stored-is : (e : Event) (n : ℕ) → stored e ≡ Some n → IsStore e × (n ≡ e.wrote)
+stored-is e n s = grind (arith, common_steps)
 
-of_reads_from : IsOfVersions ReadsFrom
-of_reads_from k e = cc
+-- the version that it returned is that of a load
+pub returned-is : (e : Event) (n : ℕ) → returned e ≡ Some n → IsLoad e × (n ≡ e.read)
+returned-is e n s = grind (arith, common_steps)
 
-of_from_read : IsOfVersions FromRead
-of_from_read k e = cc
+-- the version that its LR returned is that of its reservation
+pub held-is : (reserved : Option Reservation) (n : ℕ) → held reserved ≡ Some n →
+    (r : Reservation) × (reserved ≡ Some r) × (n ≡ r.version)
+held-is None n s = absurd (none-some n s)
+held-is (Some r) n s = (r, refl, sym (same_Some r.version n s))
 
-of_atomic_in : IsOfVersions AtomicIn
-of_atomic_in k e = cc
-
-of_atomic_out : IsOfVersions AtomicOut
-of_atomic_out k e = cc
-
--- an event of the log whose edge the link is
-pub record Warrant (log : List Event) (Why : Reason → Event → Type 0) (e : Event) (l : Link) : Type 0 where
+-- an event of the log whose access it is, and why it comes before the new event or after it
+pub record Warrant (log : List Event) (Why : Event → Type 0) (e : Event) (x : Access) : Type 0 where
   pub other : Event
   pub of_log : Contains log other
-  pub reason : Reason
-  pub of_versions : IsOfVersions reason
   pub other_memory : IsMemory other
   pub own_memory : IsMemory e
-  pub why : Why reason other
-  pub same : l ≡ link other.id reason
+  pub why : Why other
+  pub named : id_of x ≡ other.id
+
+-- the link is an edge, by no rule, between the event and another one
+pub record Warranted (Edge : Link → Type 0) (e : Event) (l : Link) : Type 0 where
+  pub edge : Edge l
+  pub of_versions : IsOfVersions l.reason
+  pub other : l.id ≢ e.id
 
 module _ (model : MemoryModel) (log : List Event) (e : Event) (reserved : Option Reservation) (known : Indexed log)
     (sound : Sound log e) (is : IsReserved log e reserved) where
+  -- the log with the event
   abbrev pub new : List Event
   new = log ++ e ∷ []
 
@@ -92,13 +102,6 @@ module _ (model : MemoryModel) (log : List Event) (e : Event) (reserved : Option
 
   -- ---- writers
 
-  -- an old store that wrote a version in the new log wrote it in the old
-  pub writer_old : (w v : ℕ) (a : Event) → Contains log a → writer new w v ≡ Some a → writer log w v ≡ Some a
-  writer_old w v a c h =
-      let f = writer-is new w v a h in
-      subst (λ n. writer log w n ≡ Some a) (sym f.version) (subst (λ n. writer log n a.wrote ≡ Some a) (sym f.word)
-      (known.written a c f.store))
-
   writer_new : (w v : ℕ) (a : Event) → writer log w v ≡ Some a → writer new w v ≡ Some a
   writer_new w v a h =
       let f = writer-is log w v a h in
@@ -109,119 +112,186 @@ module _ (model : MemoryModel) (log : List Event) (e : Event) (reserved : Option
   pub writer_own : (w v : ℕ) → IsStore e → w ≡ e.word → v ≡ e.wrote → writer new w v ≡ Some e
   writer_own w v s p q = grind (arith, common_steps, known', Contains-push)
 
-  -- ---- what is listed has its reason
+  -- ---- what is linked has its reason
 
+  -- why an event comes before the new one
   abbrev pub Into : Reason → Event → Type 0
   Into reason a = HasReason model new reason a e
 
+  -- why one comes after it
   abbrev pub Out : Reason → Event → Type 0
   Out reason b = HasReason model new reason e b
 
-  -- why a link into the event is one
-  pub warrant_before : (l : Link) → BeforeLink log e reserved l → Warrant log Into e l
-  warrant_before l (by_coherence p) = grind (arith, common_steps)
-  warrant_before l (by_reads_from p) =
-      let f = writer-is log e.word e.read p.store p.is_writer in
+  module _ (own lr : Accesses) (theirs : AreTheirs log e reserved own lr) where
+    -- why an access comes before the event
+    pub warrant_before : (low unparted : ℕ) (reason : Reason) (x : Access) →
+        ComesBefore own lr e reserved low unparted reason x → Warrant log (Into reason) e x
+    warrant_before low unparted (Preserved k) x p = absurd p
+    warrant_before low unparted Coherence x (c, (n, s, from, below)) =
+        let f = store_found log e.word own theirs.of_own x c in
+        let is = stored-is e n s in
+        record {
+          other = f.store;
+          of_log = f.of_log;
+          other_memory = store-memory f.store f.is_store;
+          own_memory = store-memory e is.0;
+          why = grind (arith, common_steps);
+          named = f.named;
+        }
+    warrant_before low unparted ReadsFrom x (c, s, other) =
+        let f = store_found log e.word own theirs.of_own x c in
+        let is = returned-is e x.version s in
+        let w : writer log e.word e.read ≡ Some f.store = grind (arith, common_steps) in
+        record {
+          other = f.store;
+          of_log = f.of_log;
+          other_memory = store-memory f.store f.is_store;
+          own_memory = load-memory e is.0;
+          why = record {
+            load = is.0;
+            is_writer = writer_new e.word e.read f.store w;
+            not_earlier = grind (arith, common_steps);
+          };
+          named = f.named;
+        }
+    warrant_before low unparted FromRead x (c, (n, s, from, below)) =
+        let f = load_found log e.word own theirs.of_own x c in
+        let is = stored-is e n s in
+        record {
+          other = f.load;
+          of_log = f.of_log;
+          other_memory = load-memory f.load f.is_load;
+          own_memory = store-memory e is.0;
+          why = grind (arith, common_steps, is_new);
+          named = f.named;
+        }
+    warrant_before low unparted AtomicIn x (c, s) =
+        let r = held-is reserved x.version s in
+        let f = store_found log r.0.word lr (theirs.of_lr r.0 r.1) x c in
+        let h = reserved_is r.0 r.1 in
+        let w : writer log h.0.word h.0.read ≡ Some f.store = grind (arith, common_steps) in
+        record {
+          other = f.store;
+          of_log = f.of_log;
+          other_memory = store-memory f.store f.is_store;
+          own_memory = sc-memory e h.1.paired.is_sc;
+          why = search (in_new, writer_new, rules);
+          named = f.named;
+        }
+    warrant_before low unparted AtomicOut x (c, (n, s, from, below), other) =
+        let f = pair_found log e.word own theirs.of_own x c in
+        let is = stored-is e n s in
+        record {
+          other = f.sc;
+          of_log = f.of_log;
+          other_memory = sc-memory f.sc f.pair.paired.is_sc;
+          own_memory = store-memory e is.0;
+          why = record {
+            lr = f.lr;
+            of_log = in_new log e known sound f.lr f.pair.of_log;
+            paired = grown log e known sound f.lr f.sc f.of_log f.pair.paired;
+            store = is.0;
+            word = sym f.word;
+            other_hart = grind (arith, common_steps);
+            versions = grind (arith, common_steps);
+          };
+          named = f.named;
+        }
+
+    -- and why one comes after it
+    pub warrant_after : (next above foreign : ℕ) (reason : Reason) (x : Access) →
+        ComesAfter own lr e reserved next above foreign reason x → Warrant log (Out reason) e x
+    warrant_after next above foreign (Preserved k) x p = absurd p
+    warrant_after next above foreign Coherence x (c, (n, s, over, upto)) =
+        let f = store_found log e.word own theirs.of_own x c in
+        let is = stored-is e n s in
+        record {
+          other = f.store;
+          of_log = f.of_log;
+          other_memory = store-memory f.store f.is_store;
+          own_memory = store-memory e is.0;
+          why = grind (arith, common_steps);
+          named = f.named;
+        }
+    warrant_after next above foreign ReadsFrom x (c, s) =
+        let f = load_found log e.word own theirs.of_own x c in
+        let is = stored-is e x.version s in
+        record {
+          other = f.load;
+          of_log = f.of_log;
+          other_memory = load-memory f.load f.is_load;
+          own_memory = store-memory e is.0;
+          why = search (writer_own, none_after, rules);
+          named = f.named;
+        }
+    warrant_after next above foreign FromRead x (c, (n, s, over, upto)) =
+        let f = store_found log e.word own theirs.of_own x c in
+        let is = returned-is e n s in
+        record {
+          other = f.store;
+          of_log = f.of_log;
+          other_memory = store-memory f.store f.is_store;
+          own_memory = load-memory e is.0;
+          why = grind (arith, common_steps, is_new);
+          named = f.named;
+        }
+    warrant_after next above foreign AtomicIn x (c, s) =
+        let f = pair_found log e.word own theirs.of_own x c in
+        let is = stored-is e x.version s in
+        record {
+          other = f.sc;
+          of_log = f.of_log;
+          other_memory = sc-memory f.sc f.pair.paired.is_sc;
+          own_memory = store-memory e is.0;
+          why = record {
+            lr = f.lr;
+            of_log = in_new log e known sound f.lr f.pair.of_log;
+            paired = grown log e known sound f.lr f.sc f.of_log f.pair.paired;
+            is_writer = writer_own f.lr.word f.lr.read is.0 f.word (sym f.version ∙ is.1);
+          };
+          named = f.named;
+        }
+    warrant_after next above foreign AtomicOut x (c, (n, s, over, upto), other) =
+        let r = held-is reserved n s in
+        let f = store_found log r.0.word lr (theirs.of_lr r.0 r.1) x c in
+        let h = reserved_is r.0 r.1 in
+        record {
+          other = f.store;
+          of_log = f.of_log;
+          other_memory = store-memory f.store f.is_store;
+          own_memory = sc-memory e h.1.paired.is_sc;
+          why = grind (arith, common_steps);
+          named = f.named;
+        }
+
+  -- a link into the event is an edge, by no rule, from another event
+  pub warranted_before : (links : List Link) → AreBefore log e reserved links → (l : Link) → Contains links l →
+      Warranted (λ (k : Link). IsEdge model new k.id k.reason e.id) e l
+  warranted_before links b l h =
+      let o = b.linked.only l h in
+      let w = warrant_before b.own b.lr b.theirs b.low b.unparted l.reason o.0 o.1 in
+      let same : l.id ≡ w.other.id = o.2 ∙ w.named in
       record {
-        other = p.store;
-        of_log = f.of_log;
-        reason = ReadsFrom;
-        of_versions = of_reads_from;
-        other_memory = store-memory p.store f.store;
-        own_memory = load-memory e p.load;
-        why = search (writer_new, rules);
-        same = p.same;
+        edge = subst (λ (i : Id). IsEdge model new i l.reason e.id) (sym same)
+            (edge_of model new known' l.reason w.other e (in_new log e known sound w.other w.of_log)
+            (Contains-push log e) w.other_memory w.own_memory w.why);
+        of_versions = λ k is_rule. subst (λ (q : Reason). ComesBefore b.own b.lr e reserved b.low b.unparted q o.0)
+            is_rule o.1;
+        other = subst (λ (i : Id). i ≢ e.id) (sym same) (is_new log e known sound w.other w.of_log);
       }
-  warrant_before l (by_from_read p) = record {
-    other = p.load;
-    of_log = p.of_log;
-    reason = FromRead;
-    of_versions = of_from_read;
-    other_memory = load-memory p.load p.is_load;
-    own_memory = store-memory e p.store;
-    why = grind (arith, common_steps);
-    same = p.same;
-  }
-  warrant_before l (by_atomic_in p) =
-      let r = p.reservation in
-      let h = reserved_is r p.is_reserved in
-      let f = writer-is log r.word r.version p.store p.is_writer in
-      let own : writer log h.0.word h.0.read ≡ Some p.store =
-      grind (arith, common_steps) in
+
+  -- and one out of it is an edge to another event
+  pub warranted_after : (links : List Link) → AreAfter log e reserved links → (l : Link) → Contains links l →
+      Warranted (λ (k : Link). IsEdge model new e.id k.reason k.id) e l
+  warranted_after links a l h =
+      let o = a.linked.only l h in
+      let w = warrant_after a.own a.lr a.theirs a.next a.above a.foreign l.reason o.0 o.1 in
+      let same : l.id ≡ w.other.id = o.2 ∙ w.named in
       record {
-        other = p.store;
-        of_log = f.of_log;
-        reason = AtomicIn;
-        of_versions = of_atomic_in;
-        other_memory = store-memory p.store f.store;
-        own_memory = sc-memory e h.1.paired.is_sc;
-        why = search (in_new, writer_new);
-        same = p.same;
+        edge = subst (λ (i : Id). IsEdge model new e.id l.reason i) (sym same)
+            (edge_of model new known' l.reason e w.other (Contains-push log e)
+            (in_new log e known sound w.other w.of_log) w.own_memory w.other_memory w.why);
+        of_versions = λ k is_rule. subst (λ (q : Reason). ComesAfter a.own a.lr e reserved a.next a.above a.foreign q o.0)
+            is_rule o.1;
+        other = subst (λ (i : Id). i ≢ e.id) (sym same) (is_new log e known sound w.other w.of_log);
       }
-  warrant_before l (by_atomic_out sc lr p same) = record {
-    other = sc;
-    of_log = p.of_log;
-    reason = AtomicOut;
-    of_versions = of_atomic_out;
-    other_memory = sc-memory sc p.pair.paired.is_sc;
-    own_memory = store-memory e p.store;
-    why = record {
-      lr = lr;
-      of_log = in_new log e known sound lr p.pair.of_log;
-      paired = grown log e known sound lr sc p.of_log p.pair.paired;
-      store = p.store;
-      word = sym p.word;
-      other_hart = λ h. p.other_hart (sym h);
-      versions = p.below;
-    };
-    same = same;
-  }
-
-  -- and one out of it
-  pub warrant_after : (l : Link) → AfterLink log e reserved l → Warrant log Out e l
-  warrant_after l (to_coherence p) = grind (arith, common_steps)
-  warrant_after l (to_reads_from p) =
-      search (of_reads_from, load-memory, store-memory, writer_own, none_after)
-  warrant_after l (to_from_read p) =
-      grind (arith, common_steps, of_from_read, store-memory, load-memory, is_new)
-  warrant_after l (to_atomic_in p) = record {
-    other = p.sc;
-    of_log = p.of_log;
-    reason = AtomicIn;
-    of_versions = of_atomic_in;
-    other_memory = sc-memory p.sc p.pair.paired.is_sc;
-    own_memory = store-memory e p.store;
-    why = record {
-      lr = p.lr;
-      of_log = in_new log e known sound p.lr p.pair.of_log;
-      paired = grown log e known sound p.lr p.sc p.of_log p.pair.paired;
-      is_writer = writer_own p.lr.word p.lr.read p.store p.word p.version;
-    };
-    same = p.same;
-  }
-  warrant_after l (to_atomic_out p) =
-      grind (arith, common_steps, reserved_is, of_atomic_out, store-memory, sc-memory, in_new)
-
-  -- a link into the event is an edge
-  pub edge_before : (l : Link) → BeforeLink log e reserved l → IsEdge model new l.id l.reason e.id
-  edge_before l b =
-      let w = warrant_before l b in
-      subst (λ (k : Link). IsEdge model new k.id k.reason e.id) (sym w.same)
-      (edge_of model new known' w.reason w.other e (in_new log e known sound w.other w.of_log)
-      (Contains-push log e) w.other_memory w.own_memory w.why)
-
-  -- and so is one out of it
-  pub edge_after : (l : Link) → AfterLink log e reserved l → IsEdge model new e.id l.reason l.id
-  edge_after l b =
-      let w = warrant_after l b in
-      subst (λ (k : Link). IsEdge model new e.id k.reason k.id) (sym w.same)
-      (edge_of model new known' w.reason e w.other (Contains-push log e)
-      (in_new log e known sound w.other w.of_log) w.own_memory w.other_memory w.why)
-
-  -- its reason is no rule
-  pub reason_of : (Why : Reason → Event → Type 0) (l : Link) → Warrant log Why e l → IsOfVersions l.reason
-  reason_of Why l w = subst (λ (k : Link). IsOfVersions k.reason) (sym w.same) w.of_versions
-
-  -- it names another event
-  pub other_of : (Why : Reason → Event → Type 0) (l : Link) → Warrant log Why e l → l.id ≢ e.id
-  other_of Why l w = subst (λ (k : Link). k.id ≢ e.id) (sym w.same) (is_new log e known sound w.other w.of_log)

@@ -1,13 +1,12 @@
--- Each edge of the new event is listed, or another event splits it.
-use Rattle.std.proofs.Common.{◌≡◌, ◌<◌, ◌≤◌, List, [], ◌∷◌, ◌++◌, Contains, Option, Some, ◌⊎◌, inl}
-use Rattle.std.proofs.Common.{inr, refl, sym, ap, ◌∙◌, arith, subst}
+-- Each edge of the new event is linked, or another event splits it.
+use Rattle.std.proofs.Common.{◌≡◌, ◌≢◌, ◌<◌, List, [], ◌∷◌, ◌++◌, Bool, cond, Contains, Option, Some, None}
+use Rattle.std.proofs.Common.{◌⊎◌, inl, inr, refl, sym, ap, ◌∙◌, arith, rules}
 use Rattle.std.proofs.lemmas.Bool.{cases_lt}
-use Rattle.std.proofs.Common.{rules}
+use Rattle.std.proofs.lemmas.Option.{none-some}
 use Rattle.std.proofs.lemmas.Grind.{common_steps}
 use Rattle.rv_event.proofs.Indexed.{Indexed, Sound}
 use Rattle.rv_event.proofs.Names.{writer-is}
-use Rattle.rv_event.specs.Operations.{IsStore}
-use Rattle.rv_event.specs.Log.{writer}
+use Rattle.rv_event.specs.Operations.{IsLoad, IsStore}
 use Rattle.rv_event.specs.Edges.{IsCoherence, IsReadsFrom, IsFromRead, IsAtomicIn, IsAtomicOut, HasReason}
 use Rattle.rv_event.specs.declared.event.Event.{Event}
 use Rattle.rv_event.specs.declared.event.Id.{Id}
@@ -17,112 +16,111 @@ use Rattle.rv_event.specs.declared.reason.Reason.{Reason}
 use Rattle.rv_event.specs.declared.reason.Reason.TheVariants.{Preserved, Coherence, ReadsFrom, FromRead}
 use Rattle.rv_event.specs.declared.reason.Reason.TheVariants.{AtomicIn, AtomicOut}
 use Rattle.rv_cover.specs.Carries.{IsSplit}
-use Rattle.rv_cover.specs.Thinned.{Names, IsNextLower}
+use Rattle.rv_cover.specs.Thinned.{Names}
+use Rattle.rv_versions.specs.Accesses.{access, id_of}
 use Rattle.rv_versions.specs.Indexes.{IsPair}
-use Rattle.rv_versions.specs.Listed.{link, IsUncovered, AreBefore, AreAfter, to_coherence, to_reads_from}
-use Rattle.rv_versions.specs.Listed.{to_from_read, to_atomic_in, to_atomic_out}
-use Rattle.rv_versions.specs.Lookups.{IsForeign}
+use Rattle.rv_versions.specs.Linked.{link, stored, returned, held, ComesBefore, ComesAfter, AreBefore, AreAfter}
 use Rattle.rv_versions.specs.Reserved.{IsReserved}
 use Rattle.rv_versions.specs.VersionLinks.{IsOfVersions}
+use Rattle.rv_versions.specs.declared.accesses.Access.{Access}
 use Rattle.rv_versions.specs.declared.reservation.Reservation.{Reservation}
-use Rattle.rv_versions.proofs.Around.{reserved_of, writer_old}
-use Rattle.rv_versions.proofs.Best.{lower_or_none, higher_or_none, foreign_or_none, NearestForeign}
-use Rattle.rv_versions.proofs.Listing.{one_lower}
-use Rattle.rv_versions.proofs.Nearing.{same_version, coherence_into, coherence_out, from_read_into, from_read_out}
+use Rattle.rv_versions.proofs.Around.{reserved_of}
+use Rattle.rv_versions.proofs.Found.{store_access, load_access, store_found, FoundStore, store_listed, load_listed}
+use Rattle.rv_versions.proofs.Found.{pair_listed}
 use Rattle.rv_versions.proofs.Paired.{is_new, pair_settled}
 
--- a link of the list names its event
-names : (links : List Link) (i j : Id) (reason : Reason) → i ≡ j → Contains links (link i reason) → Names links j
-names links i j reason e c = (link i reason, c, e)
+-- two ids are equal or not
+same_id_or : (i j : Id) → (i ≡ j) ⊎ (i ≢ j)
+same_id_or i j = grind (arith, common_steps)
+
+-- a store has stored what it wrote
+pub stored_of : (e : Event) → IsStore e → stored e ≡ Some e.wrote
+stored_of e s = ap (λ (b : Bool). cond b (Some e.wrote) None) s
+
+-- a load has returned what it read
+pub returned_of : (e : Event) → IsLoad e → returned e ≡ Some e.read
+returned_of e s = ap (λ (b : Bool). cond b (Some e.read) None) s
 
 module _ (model : MemoryModel) (log : List Event) (e : Event) (reserved : Option Reservation) (known : Indexed log)
     (sound : Sound log e) (is : IsReserved log e reserved) (links : List Link) where
+  -- the log with the event
   abbrev pub new : List Event
   new = log ++ e ∷ []
 
   abbrev Carried : Reason → Event → Event → Event → Type 0
   Carried reason a b x = Names links x.id ⊎ IsSplit model log new reason a b
 
-  module _ (all : AreBefore log e reserved links) where
-    coherence_listed : (s : Event) → IsStore e → IsNextLower log e.word e.wrote s → Contains links (link s.id Coherence)
-    coherence_listed s store next = all.coherence (link s.id Coherence)
-        (record { store = store; next = s; is_next = next; same = refl })
+  module _ (l : AreBefore log e reserved links) where
+    linked : (reason : Reason) (x : Access) (i : Id) →
+        ComesBefore l.own l.lr e reserved l.low l.unparted reason x → id_of x ≡ i → Names links i
+    linked reason x i p same = (link (id_of x) reason, l.linked.each reason x p, same)
+
+    -- the store at the lower bound
+    at_low : IsStore e → 0 < l.low → (x : Access) × FoundStore log e.word x × Contains l.own.stores x
+        × (x.version ≡ l.low) × (l.low < e.wrote)
+    at_low store some =
+        let m = (l.is_low e.wrote (stored_of e store)).some some in
+        (m.0, store_found log e.word l.own l.theirs.of_own m.0 m.1, m.1, m.2, m.3)
 
     coherence_before : (a : Event) → Contains log a → IsCoherence a e → Carried Coherence a e a
-    coherence_before a c h = elim (lower_or_none log e.word e.wrote) [
-      | inl n ↦ elim (coherence_into log e known n.0 a n.1 c h) [
-        | inl same ↦ inl (names links n.0.id a.id Coherence (ap (λ (x : Event). x.id) (sym same))
-            (coherence_listed n.0 h.second n.1))
-        | inr s ↦ inr (record { c = n.0; of_log = n.1.of_log; splits = s })
-      ]
-      | inr none ↦ let over : e.wrote ≤ a.wrote = none a c h.first h.word in let low = h.versions in absurd
-          (omega arith)
+    coherence_before a c h = elim (cases_lt a.wrote l.low) [
+      | inl under ↦
+          let s = at_low h.second (omega arith) in
+          inr (record { c = s.1.store; of_log = s.1.of_log; splits = grind (arith, common_steps) })
+      | inr over ↦ inl (linked Coherence (store_access a) a.id (
+        store_listed log e.word l.own l.theirs.of_own a c h.first h.word,
+        (e.wrote, stored_of e h.second, over, h.versions),
+      ) refl)
     ]
 
     reads_from_before : (a : Event) → Contains log a → IsReadsFrom new a e → Carried ReadsFrom a e a
-    reads_from_before a c h = inl (names links a.id a.id ReadsFrom refl (all.reads_from (link a.id ReadsFrom) (record {
-      load = h.load;
-      store = a;
-      is_writer = writer_old model log e reserved known sound is e.word e.read a c h.is_writer;
-      other_hart = grind (arith, common_steps);
-      same = refl;
-    })))
-
-    from_read_listed : (a : Event) → Contains log a → IsFromRead a e → IsUncovered log e a.read → Names links a.id
-    from_read_listed a c h uncovered = names links a.id a.id FromRead refl (all.from_read (link a.id FromRead) (record {
-      store = h.store;
-      load = a;
-      of_log = c;
-      is_load = h.load;
-      word = sym h.word;
-      uncovered = uncovered;
-      below = h.versions;
-      same = refl;
-    }))
+    reads_from_before a c h =
+        let w = writer-is new e.word e.read a h.is_writer in
+        let other : a.id.hart ≢ e.id.hart = grind (arith, common_steps) in
+        inl (linked ReadsFrom (store_access a) a.id (
+          store_listed log e.word l.own l.theirs.of_own a c w.store (sym w.word),
+          returned_of e h.load ∙ ap Some w.version,
+          other,
+        ) refl)
 
     from_read_before : (a : Event) → Contains log a → IsFromRead a e → Carried FromRead a e a
-    from_read_before a c h = elim (lower_or_none log e.word e.wrote) [
-      | inl n ↦ elim (from_read_into log e known n.0 a n.1 c h) [
-        | inl high ↦ inl (from_read_listed a c h (λ s next. let same : s.wrote ≡ n.0.wrote =
-            search (one_lower, rules) in omega arith))
-        | inr rest ↦ elim rest [
-          | inl same ↦ inl (names links n.0.id a.id Coherence (sym same) (coherence_listed n.0 h.store n.1))
-          | inr s ↦ inr (record { c = n.0; of_log = n.1.of_log; splits = s })
-        ]
-      ]
-      | inr none ↦ inl (from_read_listed a c h
-          (λ s next. let over : e.wrote ≤ s.wrote = none s next.of_log next.store next.same in let low = next.below
-          in absurd (omega arith)))
+    from_read_before a c h = elim (cases_lt a.read l.low) [
+      | inl under ↦
+          let s = at_low h.store (omega arith) in
+          elim (same_id_or a.id s.1.store.id) [
+            | inl own ↦ inl (linked Coherence s.0 a.id
+                (s.2, (e.wrote, stored_of e h.store, omega (arith, s.3), omega (arith, s.3, s.4))) (s.1.named ∙ sym own))
+            | inr other ↦ inr (record { c = s.1.store; of_log = s.1.of_log; splits = grind (arith, common_steps) })
+          ]
+      | inr over ↦ inl (linked FromRead (load_access a) a.id (
+        load_listed log e.word l.own l.theirs.of_own a c h.load (sym h.word),
+        (e.wrote, stored_of e h.store, over, h.versions),
+      ) refl)
     ]
 
     atomic_in_before : (a : Event) → Contains log a → IsAtomicIn new a e → Carried AtomicIn a e a
     atomic_in_before a c h =
         let r = reserved_of model log e reserved known sound is h.lr
         (record { of_log = h.of_log; paired = h.paired }) in
-        let w : writer log h.lr.word h.lr.read ≡ Some a = writer_old model log e reserved known sound is h.lr.word
-        h.lr.read a c h.is_writer in
-        let w' : writer log r.0.word r.0.version ≡ Some a = grind (arith, common_steps) in
-        inl (names links a.id a.id AtomicIn refl (all.atomic_in (link a.id AtomicIn)
-        (record { reservation = r.0; is_reserved = r.1; store = a; is_writer = w'; same = refl })))
+        let w = writer-is new h.lr.word h.lr.read a h.is_writer in
+        inl (linked AtomicIn (store_access a) a.id (
+          store_listed log r.0.word l.lr (l.theirs.of_lr r.0 r.1) a c w.store (sym w.word ∙ r.2),
+          grind (arith, common_steps),
+        ) refl)
 
     atomic_out_before : (a : Event) → Contains log a → IsAtomicOut new a e → Carried AtomicOut a e a
     atomic_out_before a c h =
         let pair : IsPair log h.lr a = search (pair_settled, rules) in
-        elim (all.atomic_out a h.lr (record {
-          store = h.store;
-          of_log = c;
-          pair = pair;
-          word = sym h.word;
-          below =
-              h.versions;
-          other_hart = λ same. h.other_hart (sym same);
-        })) [
-          | inl listed ↦ inl (names links a.id a.id AtomicOut refl listed)
-          | inr p ↦ inr (record {
-            c = p.store;
-            of_log = p.foreign.of_log;
-            splits = grind (arith, common_steps);
-          })
+        let x : Access = access h.lr.word h.lr.read a.id in
+        let in_pairs = pair_listed log e.word l.own l.theirs.of_own a h.lr c pair (sym h.word) in
+        let other : a.id.hart ≢ e.id.hart = λ same. h.other_hart (sym same) in
+        elim (cases_lt h.lr.read l.unparted) [
+          | inl under ↦
+              let s = l.is_unparted e.wrote (stored_of e h.store) x in_pairs h.versions under other in
+              let f = store_found log e.word l.own l.theirs.of_own s.0 s.1 in
+              inr (record { c = f.store; of_log = f.of_log; splits = grind (arith, common_steps) })
+          | inr over ↦ inl (linked AtomicOut x a.id
+              (in_pairs, (e.wrote, stored_of e h.store, over, h.versions), other) refl)
         ]
 
     -- each edge into the event is linked or split
@@ -135,106 +133,72 @@ module _ (model : MemoryModel) (log : List Event) (e : Event) (reserved : Option
     carried_before AtomicIn a of c h = atomic_in_before a c h
     carried_before AtomicOut a of c h = atomic_out_before a c h
 
-  module _ (all : AreAfter log e reserved links) where
+  module _ (l : AreAfter log e reserved links) where
+    linked_out : (reason : Reason) (x : Access) (i : Id) →
+        ComesAfter l.own l.lr e reserved l.next l.above l.foreign reason x → id_of x ≡ i → Names links i
+    linked_out reason x i p same = (link (id_of x) reason, l.linked.each reason x p, same)
+
     coherence_after : (b : Event) → Contains log b → IsCoherence e b → Carried Coherence e b b
-    coherence_after b c h = elim (higher_or_none log e.word e.wrote) [
-      | inl n ↦ elim (coherence_out log e known n.0 b n.1 c h) [
-        | inl same ↦ inl (names links n.0.id b.id Coherence (ap (λ (x : Event). x.id) (sym same)) ((all
-            (link n.0.id Coherence)).1 (to_coherence
-            (record { store = h.first; next = n.0; is_next = n.1; same = refl }))))
-        | inr s ↦ inr (record { c = n.0; of_log = n.1.of_log; splits = s })
-      ]
-      | inr none ↦ let under : b.wrote ≤ e.wrote = none b c h.second (sym h.word) in let high = h.versions in absurd
-          (omega arith)
-    ]
+    coherence_after b c h =
+        let y : Access = store_access b in
+        let in_stores = store_listed log e.word l.own l.theirs.of_own b c h.second (sym h.word) in
+        elim (cases_lt b.wrote l.next) [
+          | inl low ↦ inl (linked_out Coherence y b.id
+              (in_stores, (e.wrote, stored_of e h.first, h.versions, low)) refl)
+          | inr high ↦
+              let s = (l.is_next e.wrote (stored_of e h.first)).some y in_stores h.versions (none-some b.id.hart) in
+              let f = store_found log e.word l.own l.theirs.of_own s.0 s.1 in
+              inr (record { c = f.store; of_log = f.of_log; splits = grind (arith, common_steps) })
+        ]
 
     reads_from_after : (b : Event) → Contains log b → IsReadsFrom new e b → Carried ReadsFrom e b b
     reads_from_after b c h =
-        let f = writer-is new b.word b.read e h.is_writer in
-        inl (names links b.id b.id ReadsFrom refl ((all (link b.id ReadsFrom)).1 (to_reads_from
-        (record {
-          store = f.store;
-          load = b;
-          of_log = c;
-          is_load = h.load;
-          word = f.word;
-          version = f.version;
-          same =
-              refl;
-        }))))
+        let w = writer-is new b.word b.read e h.is_writer in
+        inl (linked_out ReadsFrom (load_access b) b.id (
+          load_listed log e.word l.own l.theirs.of_own b c h.load w.word,
+          stored_of e w.store ∙ ap Some (sym w.version),
+        ) refl)
 
     from_read_after : (b : Event) → Contains log b → IsFromRead e b → Carried FromRead e b b
-    from_read_after b c h = elim (higher_or_none log e.word e.read) [
-      | inl n ↦ elim (from_read_out log e known n.0 b (λ same. is_new log e known sound n.0 n.1.of_log
-          (sym same)) n.1 c h) [
-            | inl same ↦ inl (names links n.0.id b.id FromRead (ap (λ (x : Event). x.id) (sym same)) ((all
-                (link n.0.id FromRead)).1 (to_from_read
-                (record { load = h.load; next = n.0; is_next = n.1; same = refl }))))
-            | inr s ↦ inr (record { c = n.0; of_log = n.1.of_log; splits = s })
-          ]
-      | inr none ↦ let under : b.wrote ≤ e.read = none b c h.store h.word in let high = h.versions in absurd
-          (omega arith)
-    ]
+    from_read_after b c h =
+        let y : Access = store_access b in
+        let in_stores = store_listed log e.word l.own l.theirs.of_own b c h.store h.word in
+        elim (cases_lt b.wrote l.above) [
+          | inl low ↦ inl (linked_out FromRead y b.id
+              (in_stores, (e.read, returned_of e h.load, h.versions, low)) refl)
+          | inr high ↦
+              let s = (l.is_above e.read (returned_of e h.load)).some y in_stores h.versions (none-some b.id.hart) in
+              let f = store_found log e.word l.own l.theirs.of_own s.0 s.1 in
+              let other : e.id ≢ f.store.id = λ same. is_new log e known sound f.store f.of_log (sym same) in
+              inr (record { c = f.store; of_log = f.of_log; splits = grind (arith, common_steps) })
+        ]
 
     atomic_in_after : (b : Event) → Contains log b → IsAtomicIn new e b → Carried AtomicIn e b b
     atomic_in_after b c h =
-        let f = writer-is new h.lr.word h.lr.read e h.is_writer in
+        let w = writer-is new h.lr.word h.lr.read e h.is_writer in
         let pair : IsPair log h.lr b = search (pair_settled, rules) in
-        inl (names links b.id b.id AtomicIn refl ((all (link b.id AtomicIn)).1 (to_atomic_in
-        (record {
-          store = f.store;
-          sc = b;
-          lr = h.lr;
-          of_log = c;
-          pair = pair;
-          word = f.word;
-          version = f.version;
-          same = refl;
-        }))))
+        inl (linked_out AtomicIn (access h.lr.word h.lr.read b.id) b.id (
+          pair_listed log e.word l.own l.theirs.of_own b h.lr c pair w.word,
+          stored_of e w.store ∙ ap Some (sym w.version),
+        ) refl)
 
     atomic_out_after : (b : Event) → Contains log b → IsAtomicOut new e b → Carried AtomicOut e b b
-    atomic_out_after b c h = go (foreign_or_none log r.0.word r.0.version e.id.hart)
-      where
-        r : (r : Reservation) × (reserved ≡ Some r) × (h.lr.word ≡ r.word) × (h.lr.read ≡ r.version)
-        r = reserved_of model log e reserved known sound is h.lr (record { of_log = h.of_log; paired = h.paired })
-
-        foreign : IsForeign log r.0.word e.id.hart b
-        foreign = record { of_log = c; store = h.store; same = h.word ∙ r.2; other_hart = h.other_hart }
-
-        above : r.0.version < b.wrote
-        above = subst (λ n. n < b.wrote) r.3 h.versions
-
-        listed : (t : Event) → NearestForeign log r.0.word r.0.version e.id.hart t →
-            Contains links (link t.id AtomicOut)
-        listed t n = (all (link t.id AtomicOut)).1 (to_atomic_out
-            (record {
-              reservation = r.0;
-              is_reserved = r.1;
-              store = t;
-              foreign = n.foreign;
-              above = n.above;
-              lowest =
-                  n.lowest;
-              same = refl;
-            }))
-
-        go : ((t : Event) × NearestForeign log r.0.word r.0.version e.id.hart t) ⊎ ((a : Event) →
-            IsForeign log r.0.word e.id.hart a → a.wrote ≤ r.0.version) → Carried AtomicOut e b b
-        go (inr none) = let under : b.wrote ≤ r.0.version = none b foreign in let high = above in absurd (omega arith)
-        go (inl n) =
-            let t : Event = n.0 in
-            let least : t.wrote ≤ b.wrote = n.1.lowest b foreign above in
-            elim (cases_lt t.wrote b.wrote) [
-              | inl low ↦ inr (record {
-                c = t;
-                of_log = n.1.foreign.of_log;
-                splits = search rules;
-              })
-              | inr high ↦
-                  let same : t ≡ b = same_version log known t b n.1.foreign.of_log c n.1.foreign.store h.store
-                  (n.1.foreign.same ∙ sym foreign.same) (omega arith) in
-                  inl (names links t.id b.id AtomicOut (ap (λ (x : Event). x.id) same) (listed t n.1))
-            ]
+    atomic_out_after b c h =
+        let r = reserved_of model log e reserved known sound is h.lr
+        (record { of_log = h.of_log; paired = h.paired }) in
+        let y : Access = store_access b in
+        let of_lr = l.theirs.of_lr r.0 r.1 in
+        let in_stores = store_listed log r.0.word l.lr of_lr b c h.store (h.word ∙ r.2) in
+        let holds : held reserved ≡ Some r.0.version = grind (arith, common_steps) in
+        let over : r.0.version < b.wrote = grind (arith, common_steps) in
+        elim (cases_lt b.wrote l.foreign) [
+          | inl low ↦ inl (linked_out AtomicOut y b.id
+              (in_stores, (r.0.version, holds, over, low), h.other_hart) refl)
+          | inr high ↦
+              let s = (l.is_foreign r.0.version holds).some y in_stores over (grind (arith, common_steps)) in
+              let f = store_found log r.0.word l.lr of_lr s.0 s.1 in
+              inr (record { c = f.store; of_log = f.of_log; splits = grind (arith, common_steps) })
+        ]
 
     -- and each edge out of it
     pub carried_after : (reason : Reason) (b : Event) → IsOfVersions reason → Contains log b →

@@ -1,6 +1,6 @@
 -- What the indexes have after an event joined a log, and after the last one left it.
 use Rattle.std.proofs.Common.{◌≡◌, ◌≢◌, ◌+◌, List, [], ◌∷◌, ◌++◌, length, Contains}
-use Rattle.std.proofs.Common.{Option, Some, None, inl, inr, refl, sym, ap, ◌∙◌, arith, subst, append_assoc}
+use Rattle.std.proofs.Common.{Option, Some, None, inl, inr, refl, sym, ap, ◌∙◌, arith, subst}
 use Rattle.std.proofs.Common.{length-append}
 use Rattle.std.proofs.lemmas.Option.{same_Some, none-some}
 use Rattle.std.proofs.lemmas.List.Elements.{Contains-append_left, Contains-push, Contains-push_cases}
@@ -90,8 +90,7 @@ well_formed-push log e ok none before after y is = search (split_push, rules)
 
 -- and so is their beginning
 pub well_formed-front : (log more : List Event) → WellFormedEvents (log ++ more) → WellFormedEvents log
-well_formed-front log more ok before after e is =
-    ok before (after ++ more) e (ap (λ (l : List Event). l ++ more) is ∙ append_assoc before (e ∷ after) more)
+well_formed-front log more ok before after e is = grind (arith, common_steps)
 
 -- ---- all together
 

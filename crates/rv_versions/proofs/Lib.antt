@@ -1,14 +1,11 @@
 pub mod Around
 pub mod Beside
-pub mod Best
 pub mod Carrying
 pub mod Found
-pub mod Gathered
 pub mod Indexing
-pub mod Listing
-pub mod Looking
+pub mod Linking
 pub mod Members
-pub mod Nearing
+pub mod Neighbours
 pub mod Nearest
 pub mod Owning
 pub mod Paired

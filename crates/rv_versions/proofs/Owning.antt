@@ -31,17 +31,7 @@ module _ (model : MemoryModel) (log : List Event) (e : Event) (reserved : Option
   here = Contains-push log e
 
   why_of : ReturnsOwn e reserved → (r : Reason) × HasReason model new r e e
-  why_of (store, inl (load, same)) = search (writer_own, rules)
-  why_of (store, inr p) =
-      let h = reserved_is model log e reserved known sound is p.reservation p.is_reserved in (
-        AtomicIn,
-        record {
-          lr = h.0;
-          of_log = in_new log e known sound h.0 h.1.of_log;
-          paired = h.1.paired;
-          is_writer = search (writer_own, rules);
-        },
-      )
+  why_of h = search (writer_own, reserved_is, in_new, rules)
 
   own_of : (r : Reason) → HasReason model new r e e → ReturnsOwn e reserved
   own_of (Preserved k) h = let s = h.earlier.seq in absurd (omega arith)

@@ -1,5 +1,5 @@
 -- The accesses of each word in its place.
-use Rattle.std.proofs.Common.{◌≡◌, ◌≢◌, ℕ, zero, suc, ◌+◌, ◌<◌, ◌≤◌, ◌↔◌, List, [], ◌∷◌, ◌++◌, map, length}
+use Rattle.std.proofs.Common.{◌≡◌, ◌≢◌, ℕ, ◌+◌, ◌<◌, List, [], ◌∷◌, ◌++◌, length}
 use Rattle.std.proofs.Common.{get_or, set, flat_map, Contains, Option, Some, None, ◌⊎◌, inl, inr, refl, sym}
 use Rattle.std.proofs.Common.{ap, ◌∙◌, arith, subst, length-append}
 use Rattle.std.proofs.lemmas.Bool.{cases_eq}
@@ -8,15 +8,14 @@ use Rattle.std.proofs.lemmas.List.Elements.{at_read}
 use Rattle.std.proofs.lemmas.Option.{same_Some, none-some}
 use Rattle.std.proofs.Common.{rules}
 use Rattle.std.proofs.lemmas.Grind.{common_steps}
-use Rattle.rv_event.specs.declared.event.Id.{Id}
-use Rattle.rv_versions.specs.Accesses.{access, id_of, IsOf, AreAllOf}
+use Rattle.rv_versions.specs.Accesses.{IsOf, AreAllOf}
 use Rattle.rv_versions.specs.Indexes.{ArePostingsTo, IsInserted, IsRemoved, ByEach, AreInserted, AreRemoved}
 use Rattle.rv_versions.specs.Indexes.{AreSame, AreAbsent}
 use Rattle.rv_versions.specs.Words.{no_accesses, together, AreNumbers, StandInPlace, AreInPlace, AreThoseTo}
 use Rattle.rv_versions.specs.declared.accesses.Access.{Access}
 use Rattle.rv_versions.specs.declared.accesses.Accesses.{Accesses}
 use Rattle.rv_versions.specs.declared.accesses.Postings.{Postings}
-use Rattle.rv_versions.proofs.Members.{Contains-none, Contains-map, Contains-mapped, Contains-flat, Contains-in_flat}
+use Rattle.rv_versions.proofs.Members.{Contains-none, Contains-flat, Contains-in_flat}
 use Rattle.rv_versions.proofs.Posted.{put_none, none_put}
 
 -- what stands at a place, by the answer of an index
@@ -27,10 +26,7 @@ here_is xs k x d l e = at_read xs (λ y. y ≡ x) k x l e refl d
 
 still : (words : List Accesses) (k : ℕ) →
     get_or (words ++ no_accesses ∷ []) k no_accesses ≡ get_or words k no_accesses
-still [] zero = refl
-still [] (suc k) = refl
-still (w ∷ words) zero = refl
-still (w ∷ words) (suc k) = still words k
+still words k = grind (arith, common_steps)
 
 longer : (words : List Accesses) → length (words ++ no_accesses ∷ []) ≡ length words + 1
 longer words = length-append words (no_accesses ∷ [])
@@ -39,11 +35,6 @@ flat_same : (these : Accesses → List Access) → these no_accesses ≡ [] → 
     flat_map these (words ++ no_accesses ∷ []) ≡ flat_map these words
 flat_same these none [] = ap (λ (xs : List Access). xs ++ []) none
 flat_same these none (w ∷ words) = ap (λ (xs : List Access). these w ++ xs) (flat_same these none words)
-
--- a word more without accesses
-pub together-more : (words words' : List Accesses) → words' ≡ words ++ no_accesses ∷ [] →
-    together words' ≡ together words
-together-more words words' more = grind (arith, common_steps)
 
 module _ (place_of place_of' : ℕ → Option ℕ) (words words' : List Accesses) (in_place : AreInPlace place_of words)
     (more : words' ≡ words ++ no_accesses ∷ []) where
@@ -336,36 +327,3 @@ module _ (place_of : ℕ → Option ℕ) (words : List Accesses) (in_place : Are
       pairs = put_none _ _ (inserted_at place_of words in_place.numbers (λ v. v.pairs) in_place.pairs k None w fits
           (λ x e. absurd (none-some x e)) (none_put _ _ same.pairs));
     }
-
--- ---- ids
-
--- the event accessed a version of the word from the first on and below the second
-pub record IsBetween (accesses : List Access) (word from to : ℕ) (i : Id) : Type 0 where
-  pub version : ℕ
-  pub at_least : from ≤ version
-  pub below : version < to
-  pub known : Contains accesses (access word version i)
-
-module _ (accesses : List Access) (word from to : ℕ) where
-  of_between : (i : Id) (b : IsBetween accesses word from to i) → IsOf accesses word (access word b.version i)
-  of_between i b = record { known = b.known; same = refl }
-
-  -- the events of a part of the accesses
-  pub ids_of : (list part : List Access) → AreAllOf accesses word list →
-      ((x : Access) → Contains part x ↔ (Contains list x × (from ≤ x.version) × (x.version < to))) → (i : Id) →
-      Contains (map id_of part) i ↔ IsBetween accesses word from to i
-  ids_of list part all is i = (there, here)
-    where
-      there : Contains (map id_of part) i → IsBetween accesses word from to i
-      there c =
-          let m = Contains-map id_of part i c in
-          let x : Access = m.0 in
-          let h = (is x).0 m.1 in
-          let of = (all x).0 h.0 in
-          let same : x ≡ access word x.version i = grind (arith, common_steps) in
-          record { version = x.version; at_least = h.1; below = h.2; known = subst (Contains accesses) same of.known }
-
-      here : IsBetween accesses word from to i → Contains (map id_of part) i
-      here b =
-          let x : Access = access word b.version i in
-          Contains-mapped id_of part x ((is x).1 ((all x).1 (of_between i b), b.at_least, b.below))

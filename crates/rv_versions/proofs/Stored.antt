@@ -1,4 +1,6 @@
 -- Entries, reservations and indexes change together.
+use Rattle.std.proofs.Common.{arith}
+use Rattle.std.proofs.lemmas.Grind.{common_steps}
 use Rattle.std.proofs.Common.{◌≡◌, List, [], ◌∷◌, ◌++◌, Option, None, sym, ap, ◌∙◌, subst}
 use Rattle.std.proofs.lemmas.List.{map-append}
 use Rattle.rv_event.specs.Faults.{event_fault}
@@ -19,8 +21,7 @@ indexes_are log log' rs rs' ix p q known = subst (λ l. AreIndexes l rs' ix) p (
 
 events-push : (xs ys : List Entry) (x : Entry) (e : Event) → ys ≡ xs ++ x ∷ [] → x.event ≡ e →
     events ys ≡ events xs ++ e ∷ []
-events-push xs ys x e is same = ap events is ∙ map-append (λ (y : Entry). y.event) xs (x ∷ []) ∙
-    ap (λ (a : Event). events xs ++ a ∷ []) same
+events-push xs ys x e is same = grind (arith, common_steps)
 
 -- the log and its indexes with one entry more
 pub pushed :

@@ -1,6 +1,6 @@
 -- Lists of accesses in the order of their versions.
 use Rattle.std.proofs.Common.{◌≡◌, ◌≢◌, ℕ, ◌+◌, ◌-◌, ◌<◌, ◌≤◌, ◌↔◌, List, ◌∷◌, length, get_or, take, drop}
-use Rattle.std.proofs.Common.{insert, remove, Contains, AllPairs, HoldsAt, Some, None, ◌⊎◌, inl, inr, refl}
+use Rattle.std.proofs.Common.{insert, remove, Contains, AllPairs, HoldsAt, Option, Some, None, ◌⊎◌, inl, inr, refl}
 use Rattle.std.proofs.Common.{sym, ap, ◌∙◌, arith, subst, ltb, true, false}
 use Rattle.std.specs.List.{AllWithin}
 use Rattle.std.specs.List.Sorted.{IsPartitionPoint, IsNonDecreasingBy}
@@ -15,8 +15,7 @@ use Rattle.std.proofs.lemmas.Option.{same_Some}
 use Rattle.std.proofs.Common.{rules}
 use Rattle.std.proofs.lemmas.Grind.{common_steps}
 use Rattle.rv_event.proofs.Names.{Contains-here, Contains-there}
-use Rattle.rv_versions.specs.Accesses.{IsOf, AreAllOf, StandsBefore, AreByVersion, IsStart, IsLower}
-use Rattle.rv_versions.specs.Accesses.{IsFirstFrom, IsForeignFrom}
+use Rattle.rv_versions.specs.Accesses.{StandsBefore, AreByVersion, IsStart, IsLower, IsFirstFrom}
 use Rattle.rv_versions.specs.Indexes.{IsInserted, IsRemoved}
 use Rattle.rv_versions.specs.declared.accesses.Access.{Access}
 
@@ -190,14 +189,10 @@ start_empty ys xs v n same size none = grind (arith, common_steps)
 
 -- ---- questions
 
-module _ (xs accesses : List Access) (word : ℕ) (all : AreAllOf accesses word xs) (v n : ℕ)
-    (part : IsStart xs v n) where
+module _ (xs : List Access) (v n : ℕ) (part : IsStart xs v n) where
   -- a place of the list, by what stands there
   is_here : (k : ℕ) (a : Access) → k < length xs → a ≡ get_or xs k a → HoldsAt (λ x. x ≡ a) xs k
   is_here k a l e = at_read xs (λ x. x ≡ a) k a l e refl
-
-  of_here : (k : ℕ) (a : Access) → k < length xs → a ≡ get_or xs k a → IsOf accesses word a
-  of_here k a l e = (all a).0 (k, l, sym e)
 
   -- an access at a place up to another one's
   up_to : AreByVersion xs → (a x : Access) (i j : ℕ) → i ≤ j → j < length xs → HoldsAt (λ y. y ≡ a) xs i →
@@ -212,76 +207,46 @@ module _ (xs accesses : List Access) (word : ℕ) (all : AreAllOf accesses word 
   high_at x k p h l = subst (λ (y : Access). v ≤ y.version) (p x) (part.1 k x h l)
 
   -- none is lower
-  pub lower_none : n ≡ 0 → IsLower accesses word v None
-  lower_none nil x of =
-      let c = at_from_Contains xs x ((all x).1 of) in
-      high_at x c.0 c.2 (omega arith) c.1
+  pub lower_none : n ≡ 0 → IsLower xs v None
+  lower_none nil x of = grind (arith, common_steps)
 
   -- the one before the place is the highest below
   pub lower_some : AreByVersion xs → (k : ℕ) (a : Access) → k + 1 ≡ n → n ≤ length xs → a ≡ get_or xs k a →
-      IsLower accesses word v (Some a)
+      IsLower xs v (Some a)
   lower_some ordered k a is le e =
       let here = is_here k a (omega arith) e in (
-        of_here k a (omega arith) e,
+        (k, omega arith, sym e),
         low_at a k here (omega arith),
         λ x of low.
-            let c = at_from_Contains xs x ((all x).1 of) in
+            let c = at_from_Contains xs x of in
             elim (cases_lt c.0 n) [
               | inl below ↦ up_to ordered x a c.0 k (omega arith) (omega arith) c.2 here
               | inr above ↦ (let high = high_at x c.0 c.2 above c.1 in omega arith)
             ],
       )
 
-  -- none is from the version on
-  pub first_none : length xs ≤ n → IsFirstFrom accesses word v None
-  first_none le x of =
-      let c = at_from_Contains xs x ((all x).1 of) in
-      let l = c.1 in
-      low_at x c.0 c.2 (omega arith)
+  module _ (aside : Option ℕ) where
+    own_at : (x : Access) (k end : ℕ) → AllWithin (λ y. aside ≡ Some y.hart) xs n end → HoldsAt (λ y. y ≡ x) xs k →
+        n ≤ k → k < end → aside ≡ Some x.hart
+    own_at x k end own p h l = subst (λ (y : Access). aside ≡ Some y.hart) (p x) (own k x h l)
 
-  -- the one at the place is the first
-  pub first_some : AreByVersion xs → (a : Access) → n < length xs → a ≡ get_or xs n a →
-      IsFirstFrom accesses word v (Some a)
-  first_some ordered a l e =
-      let here = is_here n a l e in (
-        of_here n a l e,
-        high_at a n here (omega arith) l,
-        λ x of high.
-            let c = at_from_Contains xs x ((all x).1 of) in
-            elim (cases_lt c.0 n) [
-              | inl below ↦ (let low = low_at x c.0 c.2 below in omega arith)
-              | inr above ↦ up_to ordered a x n c.0 above c.1 here c.2
-            ],
-      )
+    -- all from the version on are left aside
+    pub first_none : (end : ℕ) → length xs ≤ end → AllWithin (λ y. aside ≡ Some y.hart) xs n end →
+        IsFirstFrom xs v aside None
+    first_none end le own x of high = grind (arith, common_steps)
 
-  module _ (hart : ℕ) where
-    own_at : (x : Access) (k end : ℕ) → AllWithin (λ y. y.hart ≡ hart) xs n end → HoldsAt (λ y. y ≡ x) xs k → n ≤ k →
-        k < end → x.hart ≡ hart
-    own_at x k end own p h l = subst (λ (y : Access). y.hart ≡ hart) (p x) (own k x h l)
-
-    -- no other hart's is
-    pub foreign_none : (end : ℕ) → length xs ≤ end → AllWithin (λ y. y.hart ≡ hart) xs n end →
-        IsForeignFrom accesses word v hart None
-    foreign_none end le own x of high =
-        let c = at_from_Contains xs x ((all x).1 of) in
-        let l = c.1 in
-        elim (cases_lt c.0 n) [
-          | inl below ↦ (let low = low_at x c.0 c.2 below in absurd (omega arith))
-          | inr above ↦ own_at x c.0 end own c.2 above (omega arith)
-        ]
-
-    -- the first of another hart
-    pub foreign_some :
+    -- the first that is not
+    pub first_some :
         AreByVersion xs → (k : ℕ) (a : Access) → n ≤ k → k < length xs → a ≡ get_or xs k a →
-        AllWithin (λ y. y.hart ≡ hart) xs n k →
-        a.hart ≢ hart → IsForeignFrom accesses word v hart (Some a)
-    foreign_some ordered k a from l e own other =
+        AllWithin (λ y. aside ≡ Some y.hart) xs n k →
+        aside ≢ Some a.hart → IsFirstFrom xs v aside (Some a)
+    first_some ordered k a from l e own other =
         let here = is_here k a l e in (
-          of_here k a l e,
+          (k, l, sym e),
           high_at a k here from l,
           other,
           λ x of high foreign.
-              let c = at_from_Contains xs x ((all x).1 of) in
+              let c = at_from_Contains xs x of in
               elim (cases_lt c.0 n) [
                 | inl below ↦ (let low = low_at x c.0 c.2 below in absurd (omega arith))
                 | inr above ↦ elim (cases_lt c.0 k) [
@@ -290,12 +255,6 @@ module _ (xs accesses : List Access) (word : ℕ) (all : AreAllOf accesses word 
                 ]
               ],
         )
-
--- where the last access is of the version itself
-pub first_last :
-    (xs accesses : List Access) (word : ℕ) → AreAllOf accesses word xs → (k : ℕ) (a : Access) → k < length xs →
-    a ≡ get_or xs k a → IsFirstFrom accesses word a.version (Some a)
-first_last xs accesses word all k a l e = ((all a).0 (k, l, sym e), omega arith, λ x of high. high)
 
 -- ---- a part of the list
 

@@ -34,24 +34,32 @@ abbrev pub IsStart : List Access → ℕ → ℕ → Type 0
 IsStart accesses version place =
     IsPartitionPoint (λ x. x.version < version) (λ x. version ≤ x.version) accesses place
 
--- the access of the highest version of the word below this one
-abbrev pub IsLower : List Access → ℕ → ℕ → Option Access → Type 0
-IsLower accesses word version None = (x : Access) → IsOf accesses word x → version ≤ x.version
-IsLower accesses word version (Some s) =
-    IsOf accesses word s × (s.version < version)
-    × ((x : Access) → IsOf accesses word x → x.version < version → x.version ≤ s.version)
+-- the access of the highest version below this one
+abbrev pub IsLower : List Access → ℕ → Option Access → Type 0
+IsLower accesses version None = (x : Access) → Contains accesses x → version ≤ x.version
+IsLower accesses version (Some s) =
+    Contains accesses s × (s.version < version)
+    × ((x : Access) → Contains accesses x → x.version < version → x.version ≤ s.version)
 
--- the access of the lowest version of the word from this one on
-abbrev pub IsFirstFrom : List Access → ℕ → ℕ → Option Access → Type 0
-IsFirstFrom accesses word version None = (x : Access) → IsOf accesses word x → x.version < version
-IsFirstFrom accesses word version (Some t) =
-    IsOf accesses word t × (version ≤ t.version)
-    × ((x : Access) → IsOf accesses word x → version ≤ x.version → t.version ≤ x.version)
+-- the access of the lowest version from this one on, those of the hart left aside
+abbrev pub IsFirstFrom : List Access → ℕ → Option ℕ → Option Access → Type 0
+IsFirstFrom accesses version aside None =
+    (x : Access) → Contains accesses x → version ≤ x.version → aside ≡ Some x.hart
+IsFirstFrom accesses version aside (Some t) =
+    Contains accesses t × (version ≤ t.version) × (aside ≢ Some t.hart)
+    × ((x : Access) → Contains accesses x → version ≤ x.version → aside ≢ Some x.hart → t.version ≤ x.version)
 
--- the access of the lowest version of the word from this one on that another hart has made
-abbrev pub IsForeignFrom : List Access → ℕ → ℕ → ℕ → Option Access → Type 0
-IsForeignFrom accesses word version hart None =
-    (x : Access) → IsOf accesses word x → version ≤ x.version → x.hart ≡ hart
-IsForeignFrom accesses word version hart (Some t) =
-    IsOf accesses word t × (version ≤ t.version) × (t.hart ≢ hart)
-    × ((x : Access) → IsOf accesses word x → version ≤ x.version → x.hart ≢ hart → t.version ≤ x.version)
+-- no access's version stands between this bound and the version, and an access stands at a bound above 0
+pub record IsNearestBelow (accesses : List Access) (version bound : ℕ) : Type 0 where
+  pub none : (x : Access) → Contains accesses x → x.version < version → x.version ≤ bound
+  pub some : 0 < bound → (x : Access) × Contains accesses x × (x.version ≡ bound) × (bound < version)
+
+-- Those above the version and before the bound are the nearest, the hart's left aside. Where there
+-- is one above the version, one stands before the bound.
+pub record IsNearestAbove (accesses : List Access) (aside : Option ℕ) (version bound : ℕ) : Type 0 where
+  pub nearest :
+      (x y : Access) → Contains accesses x → Contains accesses y → x.version < bound → version < y.version →
+      aside ≢ Some y.hart → x.version ≤ y.version
+  pub some :
+      (y : Access) → Contains accesses y → version < y.version → aside ≢ Some y.hart →
+      (x : Access) × Contains accesses x × (version < x.version) × (x.version < bound) × (aside ≢ Some x.hart)

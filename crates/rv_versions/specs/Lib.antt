@@ -1,6 +1,6 @@
 pub mod Accesses
 pub mod Indexes
-pub mod Listed
+pub mod Linked
 pub mod Lookups
 pub mod Own
 pub mod Reserved

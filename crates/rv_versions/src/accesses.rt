@@ -48,17 +48,14 @@ pub struct Postings {
 }
 
 /// The accesses to one word.
-///
-/// What is found in them is told of a log and a word: it holds wherever they are the log's accesses
-/// to the word.
 #[derive(Drop)]
 pub struct Accesses {
     /// Stores, under the versions that they wrote.
-    stores: ByVersion,
+    pub(crate) stores: ByVersion,
     /// Loads, under the versions that they returned.
-    loads: ByVersion,
+    pub(crate) loads: ByVersion,
     /// SCs, under what their LRs returned.
-    pairs: ByVersion,
+    pub(crate) pairs: ByVersion,
 }
 
 impl Accesses {

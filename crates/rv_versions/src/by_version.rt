@@ -6,7 +6,7 @@
 ghost use Rattle.std.specs.Prelude.{ℕ, ◌≡◌, ◌+◌, ◌<◌, ◌≤◌, ◌↔◌, [], List, length, Contains, Some, OnOk};
 ghost use Rattle.std.specs.Prelude.{OnErr, IfSome, MatchOption};
 ghost use Rattle.std.specs.List.{HoldsAt, AllWithin};
-ghost use Rattle.rv_versions.specs.Accesses.{AreAllOf, IsStart, IsLower, IsFirstFrom, IsForeignFrom};
+ghost use Rattle.rv_versions.specs.Accesses.{IsStart, IsLower, IsFirstFrom};
 ghost use Rattle.rv_versions.specs.Indexes.{IsInserted, IsRemoved};
 ghost use Rattle.rv_versions.specs.declared.accesses.Access.{Access};
 
@@ -18,8 +18,7 @@ use std::marker::Model;
 /// The accesses to one word, in the order of their versions. Those of one version stand in the
 /// order in which they came.
 ///
-/// Contracts see the list. Its type keeps the order, and that no access stands in it twice. That it
-/// has the accesses of one word is a premise of each answer.
+/// Contracts see the list. Its type keeps the order, and that no access stands in it twice.
 #[derive(Drop)]
 pub struct ByVersion {
     accesses: Vec<Access>,
@@ -79,8 +78,7 @@ impl ByVersion {
 
     /// The access of the highest version below this one.
     pub fn lower(&self, version: u32) -> Option<Access>
-        ensures found { (accesses : List Access) (word : ℕ) → AreAllOf accesses word self.now →
-            IsLower accesses word version result }
+        ensures found { IsLower self.now version result }
         ensures below { IfSome result (λ x. x.version < version) }
     {
         let end = self.start(u64::from(version));
@@ -90,34 +88,15 @@ impl ByVersion {
         Some(self.accesses[end - 1])
     }
 
-    /// An access of the lowest version from this one on.
-    pub fn first_from(&self, version: u64) -> Option<Access>
-        ensures { (accesses : List Access) (word : ℕ) → AreAllOf accesses word self.now →
-            IsFirstFrom accesses word version result }
-    {
-        if let Some(last) = self.accesses.last()
-            && u64::from(last.version) == version
-        {
-            return Some(*last);
-        }
-        let start = self.start(version);
-        if start < self.accesses.len() {
-            Some(self.accesses[start])
-        } else {
-            None
-        }
-    }
-
-    /// The access of the lowest version from this one on that another hart has made.
+    /// The access of the lowest version from this one on, but for those of one hart.
     ///
     /// It costs a step for each access that it passes on the way.
-    pub fn foreign_from(&self, version: u64, hart: u8) -> Option<Access>
-        ensures { (accesses : List Access) (word : ℕ) → AreAllOf accesses word self.now →
-            IsForeignFrom accesses word version hart result }
+    pub fn first_from(&self, version: u64, aside: Option<u8>) -> Option<Access>
+        ensures { IsFirstFrom self.now version aside result }
     {
         for place in self.start(version)..self.accesses.len() {
             let access = self.accesses[place];
-            if access.hart != hart {
+            if aside != Some(access.hart) {
                 return Some(access);
             }
         }
@@ -127,9 +106,12 @@ impl ByVersion {
     /// The accesses of a version from the first on and below the second.
     ///
     /// Besides looking for the second version, it costs a step for each of them.
-    pub fn between(&self, from: u32, to: u64) -> &[Access]
+    pub fn between(&self, from: u64, to: u64) -> &[Access]
         ensures { (x : Access) → Contains result.now x ↔ (Contains self.now x × (from ≤ x.version) × (x.version < to)) }
     {
+        if to <= from {
+            return &self.accesses[0..0];
+        }
         let end = self.start(to);
         &self.accesses[self.start_back(from, end)..end]
     }
@@ -171,14 +153,14 @@ impl ByVersion {
     }
 
     /// The place from which on those before the end are of this version or a higher one.
-    fn start_back(&self, version: u32, end: usize) -> usize
+    fn start_back(&self, version: u64, end: usize) -> usize
         requires { end ≤ length self.now }
         ensures bound { result ≤ end }
         ensures below { AllWithin (λ x. x.version < version) self.now 0 result }
         ensures from { AllWithin (λ x. version ≤ x.version) self.now result end }
     {
         for place in (0..end).rev() {
-            if self.accesses[place].version < version {
+            if u64::from(self.accesses[place].version) < version {
                 return place + 1;
             }
         }

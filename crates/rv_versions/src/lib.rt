@@ -10,11 +10,12 @@
 //! - `reservation`: what an LR returned. The caller knows with which LR an SC is paired.
 //! - `by_version`: accesses to one word, in the order of their versions.
 //! - `accesses`: three such lists for one word: the stores, the loads, and the SCs under what their
-//!   LRs returned. What is found in them (`lookups`) is told of a log.
+//!   LRs returned, and what is found in them (`lookups`).
 //! - `indexes`: the accesses to each word, in one map.
-//! - `versions`: the log, and the links of a new event (`before`, `after`, `own`).
-//! - `specs/`: what is promised of the links (`VersionLinks`, with `Reserved`); which links are
-//!   listed, reason by reason (`Listed`); when an event has an edge to itself (`Own`); what the
+//! - `versions`: the log, and the links of a new event: for each reason, those to a word's accesses
+//!   in an interval of versions (`around`, `links`); edges to itself (`own`).
+//! - `specs/`: what is promised of the links (`VersionLinks`, with `Reserved`); which accesses are
+//!   linked, reason by reason (`Linked`); when an event has an edge to itself (`Own`); what the
 //!   indexes have (`Indexes`, with `Words`), and what is found in them (`Accesses`, `Lookups`).
 //!
 //! It stands on `rv_event` and on what `rv_cover` says of edges that may be left out. Its one

@@ -12,8 +12,7 @@ ghost use Rattle.rv_versions.specs.Indexes.{AreOfWord};
 ghost use Rattle.rv_versions.specs.Reserved.{IsReserved};
 ghost use Rattle.rv_versions.specs.VersionLinks.{AreVersionLinks};
 
-mod after;
-mod before;
+mod around;
 mod links;
 mod own;
 
@@ -148,24 +147,6 @@ impl Versions {
         ensures { AreOfWord (events self.now) word result.now }
     {
         self.indexes.of_word(word)
-    }
-
-    /// The accesses of the log to the word of the event's LR, where those to the event's own word
-    /// are at hand. Mostly it is the same word, and then it costs no look-up.
-    fn of_reserved<'a>(
-        &'a self,
-        accesses: &'a Accesses,
-        event: &Event,
-        reservation: Reservation,
-    ) -> &'a Accesses
-        requires { AreOfWord (events self.now) event.now.word accesses.now }
-        ensures { AreOfWord (events self.now) reservation.word result.now }
-    {
-        if reservation.word == event.word {
-            accesses
-        } else {
-            self.of_word(reservation.word)
-        }
     }
 
     /// Adds the entry, whose event has no fault over the log, with what its LR returned.

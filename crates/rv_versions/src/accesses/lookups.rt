@@ -1,13 +1,11 @@
-//! Stores, loads and pairs of a log to one word, by their versions.
-ghost use Rattle.std.specs.Prelude.{ℕ, ◌≡◌, ◌<◌, ◌↔◌, List, Contains, IsTrue, IfSome, map};
+//! What is found among the accesses to one word.
+ghost use Rattle.std.specs.Prelude.{ℕ, ◌≡◌, List, Some, IfSome};
 ghost use Rattle.std.specs.Option.{option_map};
 ghost use Rattle.rv_event.specs.Log.{writer};
 ghost use Rattle.rv_event.specs.declared.event.Event.{Event};
-ghost use Rattle.rv_event.specs.declared.event.Id.{Id};
-ghost use Rattle.rv_versions.specs.Accesses.{id_of};
+ghost use Rattle.rv_versions.specs.Accesses.{IsNearestBelow, IsNearestAbove};
 ghost use Rattle.rv_versions.specs.Indexes.{AreOfWord};
-ghost use Rattle.rv_versions.specs.Lookups.{IsLowerStore, IsHigherStore, IsForeignLower, IsForeignHigher};
-ghost use Rattle.rv_versions.specs.Lookups.{IsLoadBetween, IsPairBetween};
+ghost use Rattle.rv_versions.specs.Lookups.{IsForeignBelow, IsUnparted};
 
 use super::{Access, Accesses};
 use rv_event::Id;
@@ -18,76 +16,74 @@ impl Accesses {
         ensures { (log : List Event) (word : ℕ) → AreOfWord log word self.now →
             result ≡ option_map (λ w. w.id) (writer log word version) }
     {
-        let Some(store) = self.stores.first_from(u64::from(version)) else {
+        let from = u64::from(version);
+        let Some(store) = self.stores.between(from, from + 1).first() else {
             return None;
         };
-        if store.version != version {
-            return None;
-        }
         Some(store.id())
     }
 
-    /// The store of the highest version below this one.
-    pub fn lower_store(&self, version: u32) -> Option<Access>
-        ensures found { (log : List Event) (word : ℕ) → AreOfWord log word self.now →
-            IsLowerStore log word version result }
-        ensures below { IfSome result (λ store. store.version < version) }
+    /// The version of the next lower store, where there is a version; 0 where no store is lower.
+    pub fn lower_store(&self, version: Option<u32>) -> u32
+        ensures { (n : ℕ) → version ≡ Some n → IsNearestBelow self.now.stores n result }
     {
-        self.stores.lower(version)
+        let Some(version) = version else {
+            return 0;
+        };
+        match self.stores.lower(version) {
+            Some(store) => store.version,
+            None => 0,
+        }
     }
 
-    /// The store of the lowest version above this one.
-    pub fn higher_store(&self, version: u32) -> Option<Access>
-        ensures { (log : List Event) (word : ℕ) → AreOfWord log word self.now →
-            IsHigherStore log word version result }
+    /// The end of the versions from this one to the next higher store, where there is a version.
+    /// One hart's stores may be left aside.
+    pub fn higher_store(&self, version: Option<u32>, aside: Option<u8>) -> u64
+        ensures { (n : ℕ) → version ≡ Some n → IsNearestAbove self.now.stores aside n result }
     {
-        self.stores.first_from(u64::from(version) + 1)
+        let Some(version) = version else {
+            return 0;
+        };
+        match self.stores.first_from(u64::from(version) + 1, aside) {
+            Some(store) => u64::from(store.version) + 1,
+            None => 0,
+        }
+    }
+
+    /// A version below which each SC of another hart than this one is parted from the given one: a
+    /// store of another hart than the SC's stands between what the SC's LR returned and it.
+    pub fn unparted_from(&self, version: Option<u32>, hart: u8) -> u32
+        ensures { (n : ℕ) → version ≡ Some n → IsUnparted self.now hart n result }
+    {
+        let Some(version) = version else {
+            return 0;
+        };
+        if self.pairs.lower(version).is_none() {
+            return 0;
+        }
+        let Some(first) = self.stores.lower(version) else {
+            return 0;
+        };
+        if first.hart == hart {
+            return first.version;
+        }
+        match self.foreign_lower_store(first.version, first.hart) {
+            Some(second) => second.version,
+            None => 0,
+        }
     }
 
     /// The store of the highest version below this one that another hart wrote.
-    pub fn foreign_lower_store(&self, version: u32, hart: u8) -> Option<Access>
-        ensures { (log : List Event) (word : ℕ) → AreOfWord log word self.now →
-            IsForeignLower log word version hart result }
+    fn foreign_lower_store(&self, version: u32, hart: u8) -> Option<Access>
+        ensures { IfSome result (IsForeignBelow self.now.stores version hart) }
     {
         let mut bound = version;
-        'stores: while let Some(store) = self.lower_store(bound) {
+        'stores: while let Some(store) = self.stores.lower(bound) {
             if store.hart != hart {
                 return Some(store);
             }
             bound = store.version;
         }
         None
-    }
-
-    /// The store of the lowest version above this one that another hart wrote.
-    pub fn foreign_higher_store(&self, version: u32, hart: u8) -> Option<Access>
-        ensures { (log : List Event) (word : ℕ) → AreOfWord log word self.now →
-            IsForeignHigher log word version hart result }
-    {
-        self.stores.foreign_from(u64::from(version) + 1, hart)
-    }
-
-    /// The loads that returned a version from the first on and below the second.
-    pub fn loads_between(&self, from: u32, to: u64) -> &[Access]
-        ensures { (log : List Event) (word : ℕ) → AreOfWord log word self.now →
-            (i : Id) → Contains (map id_of result.now) i ↔ IsLoadBetween log word from to i }
-    {
-        self.loads.between(from, to)
-    }
-
-    /// Whether there is an SC whose LR returned a version below this one.
-    pub fn has_pair_below(&self, version: u32) -> bool
-        ensures { (log : List Event) (word : ℕ) → AreOfWord log word self.now →
-            IsTrue result ↔ ((i : Id) × IsPairBetween log word 0 version i) }
-    {
-        self.pairs.lower(version).is_some()
-    }
-
-    /// The SCs whose LRs returned a version from the first on and below the second.
-    pub fn pairs_between(&self, from: u32, to: u64) -> &[Access]
-        ensures { (log : List Event) (word : ℕ) → AreOfWord log word self.now →
-            (i : Id) → Contains (map id_of result.now) i ↔ IsPairBetween log word from to i }
-    {
-        self.pairs.between(from, to)
     }
 }

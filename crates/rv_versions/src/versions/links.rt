@@ -1,53 +1,117 @@
-//! Lists of links that grow.
-ghost use Rattle.std.specs.Prelude.{◌≡◌, ◌≢◌, Contains, OnOk, map};
-ghost use Rattle.rv_event.specs.declared.event.Id.{Id};
-ghost use Rattle.rv_versions.specs.Accesses.{id_of};
-ghost use Rattle.rv_versions.specs.Listed.{link, IsExtended};
+//! Lists of links that grow by those to a word's accesses in an interval of versions.
+ghost use Rattle.std.specs.Prelude.{ℕ, ◌≡◌, ◌≢◌, ◌↔◌, Contains, IfOk, Some};
+ghost use Rattle.rv_versions.specs.Linked.{Covers, IsExtended, IsBelow, IsAbove, stored, returned, held};
 
-use crate::accesses::Access;
-use rv_event::{Link, NoMemory, Reason};
+use crate::by_version::ByVersion;
+use crate::reservation::Reservation;
+use rv_event::{Event, Link, NoMemory, Reason};
 
-/// Adds a link to the event of each access, for this reason.
-///
-/// # Errors
-/// `NoMemory` where the list could not grow.
-pub(crate) fn append_links(
-    links: &mut Vec<Link>,
-    accesses: &[Access],
-    reason: Reason,
-) -> Result<(), NoMemory>
-    ensures { OnOk result (IsExtended links.old.items links.new.items
-        (λ l. (i : Id) × Contains (map id_of accesses.now) i × (l ≡ link i reason))) }
-{
-    for access in accesses {
-        links.push(Link {
-            id: access.id(),
-            reason,
-        })?;
-    }
-    Ok(())
+/// The versions from one on and below another.
+#[derive(Clone, Copy, Debug)]
+pub(crate) struct Interval {
+    /// The first version.
+    pub from: u64,
+    /// The version behind the last.
+    pub to: u64,
 }
 
-/// Adds a link to the event of each access of another hart, for this reason.
+impl Interval {
+    /// This version alone, where there is one.
+    pub(crate) fn of(version: Option<u32>) -> Self
+        ensures { (v : ℕ) → Covers result v ↔ (version ≡ Some v) }
+    {
+        match version {
+            Some(version) => Interval {
+                from: u64::from(version),
+                to: u64::from(version) + 1,
+            },
+            None => Interval { from: 0, to: 0 },
+        }
+    }
+
+    /// The versions from one on and below this one, where there is one.
+    pub(crate) fn below(from: u32, version: Option<u32>) -> Self
+        ensures { (v : ℕ) → Covers result v ↔ IsBelow from version v }
+    {
+        match version {
+            Some(version) => Interval {
+                from: u64::from(from),
+                to: u64::from(version),
+            },
+            None => Interval { from: 0, to: 0 },
+        }
+    }
+
+    /// The versions above this one, where there is one, and before the end.
+    pub(crate) fn above(version: Option<u32>, end: u64) -> Self
+        ensures { (v : ℕ) → Covers result v ↔ IsAbove version end v }
+    {
+        match version {
+            Some(version) => Interval {
+                from: u64::from(version) + 1,
+                to: end,
+            },
+            None => Interval { from: 0, to: 0 },
+        }
+    }
+}
+
+/// The version that the event wrote, if it stores.
+pub(crate) fn stored(event: &Event) -> Option<u32>
+    ensures { result ≡ stored event.now }
+{
+    if event.is_store() {
+        Some(event.wrote)
+    } else {
+        None
+    }
+}
+
+/// The version that the event returned, if it loads.
+pub(crate) fn returned(event: &Event) -> Option<u32>
+    ensures { result ≡ returned event.now }
+{
+    if event.is_load() {
+        Some(event.read)
+    } else {
+        None
+    }
+}
+
+/// The version that the event's LR returned, if it has one.
+pub(crate) fn held(reserved: Option<Reservation>) -> Option<u32>
+    ensures { result ≡ held reserved }
+{
+    match reserved {
+        Some(reservation) => Some(reservation.version),
+        None => None,
+    }
+}
+
+/// Adds a link to the event of each access of these versions, for this reason. Those of one hart
+/// may be left aside.
 ///
 /// # Errors
 /// `NoMemory` where the list could not grow.
-pub(crate) fn append_foreign(
-    links: &mut Vec<Link>,
-    accesses: &[Access],
-    hart: u8,
+pub(crate) fn append(
+    before: Vec<Link>,
+    accesses: &ByVersion,
+    versions: Interval,
+    aside: Option<u8>,
     reason: Reason,
-) -> Result<(), NoMemory>
-    ensures { OnOk result (IsExtended links.old.items links.new.items
-        (λ l. (i : Id) × Contains (map id_of accesses.now) i × (i.hart ≢ hart) × (l ≡ link i reason))) }
+) -> Result<Vec<Link>, NoMemory>
+    ensures { IfOk result (λ links. IsExtended before.items links.items reason
+        (λ x. Contains accesses.now x × Covers versions x.version × (aside ≢ Some x.hart))) }
 {
-    for access in accesses {
-        if access.hart != hart {
+    let mut links = before;
+    let found = accesses.between(versions.from, versions.to);
+    for access in found {
+        if aside != Some(access.hart) {
             links.push(Link {
                 id: access.id(),
                 reason,
             })?;
         }
     }
-    Ok(())
+    Ok(links)
 }

@@ -2,20 +2,17 @@ use Rattle.std.proofs.Common.{◌-◌, ◌∙◌, List, ℕ, get_or, ap, subst, 
 use Rattle.std.proofs.lemmas.Grind.{common_steps}
 use Rattle.rv_versions.specs.Accesses.{AreByVersion, IsStart}
 use Rattle.rv_versions.specs.declared.accesses.Access.{Access}
-use Rattle.rv_versions.proofs.Versioned.{lower_some, lower_none}
+use Rattle.rv_versions.proofs.Versioned.{lower_some}
 use Rattle.rv_versions.proofs.by_version.ByVersion.lower.Goals as goal
 
 pub returns-then-end-eq0-clause-found : goal.returns-then-end-eq0-clause-found
-returns-then-end-eq0-clause-found c accesses word all =
-    lower_none c.args.self.now accesses word all c.args.version c.start-end.result
-    (subst (λ (v : ℕ). IsStart c.args.self.now v c.start-end.result) c.from.ensures c.start-end.ensures.parted)
-    c.if-end-eq0.true
+returns-then-end-eq0-clause-found c = grind (arith, common_steps)
 
 pub returns-clause-found : goal.returns-clause-found
-returns-clause-found c accesses word all =
+returns-clause-found c =
     let n = c.start-end.result in
     let a = c.index.result.now in
-    lower_some c.args.self.now accesses word all c.args.version n
+    lower_some c.args.self.now c.args.version n
     (subst (λ (v : ℕ). IsStart c.args.self.now v n) c.from.ensures c.start-end.ensures.parted)
     (subst AreByVersion c.self.view_is c.self.invariant) (n - 1) a (omega arith) c.start-end.ensures.bound
     (c.index.ensures ∙ ap (λ (xs : List Access). get_or xs (n - 1) a) c.self.view_is)

@@ -1,3 +1,5 @@
+use Rattle.std.proofs.Common.{arith}
+use Rattle.std.proofs.lemmas.Grind.{common_steps}
 use Rattle.std.proofs.Common.{◌∙◌, Option, Some, sym, subst}
 use Rattle.rv_versions.specs.Indexes.{own_postings, postings_of, AreInserted, AreRemoved, AreSame, AreAbsent}
 use Rattle.rv_versions.specs.declared.accesses.Postings.{Postings}
@@ -7,12 +9,10 @@ use Rattle.rv_versions.proofs.indexes.Indexes.insert.Goals.{In-Some}
 use Rattle.rv_versions.proofs.indexes.Indexes.insert.Goals as goal
 
 put : (c : In-Some) → AreInserted c.args.self.now (own_postings c.args.event.now) c.insert_to.new.self
-put c = subst (λ (p : Postings). AreInserted c.args.self.now p c.insert_to.new.self) c.own_postings-own.ensures
-    c.in_ok-insert_to.ensures.inserted
+put c = grind (arith, common_steps)
 
 absent : (c : In-Some) → AreAbsent c.args.self.now (postings_of c.args.event.now (Some c.in-Some.reservation))
-absent c = subst (λ (o : Option Reservation). AreAbsent c.args.self.now (postings_of c.args.event.now o)) c.in-Some.is
-    c.requires
+absent c = grind (arith, common_steps)
 
 pub insert_to-requires-2-clause-absent : goal.insert_to-requires-2-clause-absent
 insert_to-requires-2-clause-absent c =

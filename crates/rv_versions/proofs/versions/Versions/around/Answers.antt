@@ -3,8 +3,7 @@ use Rattle.std.proofs.Common.{rules}
 use Rattle.rv_cover.proofs.Indexing.{indexed_from_events}
 use Rattle.rv_event.proofs.Indexed.{Indexed, Sound, sound_of}
 use Rattle.rv_event.specs.Log.{events}
-use Rattle.rv_versions.proofs.Around.{edge_before, edge_after, reason_of, other_of, warrant_before}
-use Rattle.rv_versions.proofs.Around.{warrant_after, Into, Out}
+use Rattle.rv_versions.proofs.Around.{warranted_before, warranted_after}
 use Rattle.rv_versions.proofs.Carrying.{carried_before, carried_after}
 use Rattle.rv_versions.proofs.Nearest.{nearest}
 use Rattle.rv_versions.proofs.versions.Versions.around.Goals as goal
@@ -23,19 +22,18 @@ returns c =
     let a = c.in_ok-after.ensures in (
       others,
       listed.1,
-      λ model. record {
-        edges_before = λ l h. edge_before model log e r known sound is l (b.only l h);
-        edges_after = λ l h. edge_after model log e r known sound is l ((a l).0 h);
-        reasons_before = λ l h. reason_of model log e r known sound is (Into model log e r known sound is) l
-            (warrant_before model log e r known sound is l (b.only l h));
-        reasons_after = λ l h. reason_of model log e r known sound is (Out model log e r known sound is) l
-            (warrant_after model log e r known sound is l ((a l).0 h));
-        other_before = λ l h. other_of model log e r known sound is (Into model log e r known sound is) l
-            (warrant_before model log e r known sound is l (b.only l h));
-        other_after = λ l h. other_of model log e r known sound is (Out model log e r known sound is) l
-            (warrant_after model log e r known sound is l ((a l).0 h));
-        carried_before = search (carried_before, rules);
-        carried_after = search (carried_after, rules);
-        nearest = nearest log e r known others c.in_ok-after.after.items b a;
-      },
+      λ model.
+          let into = warranted_before model log e r known sound is others b in
+          let out = warranted_after model log e r known sound is c.in_ok-after.after.items a in
+          record {
+            edges_before = λ l h. (into l h).edge;
+            edges_after = λ l h. (out l h).edge;
+            reasons_before = λ l h. (into l h).of_versions;
+            reasons_after = λ l h. (out l h).of_versions;
+            other_before = λ l h. (into l h).other;
+            other_after = λ l h. (out l h).other;
+            carried_before = search (carried_before, rules);
+            carried_after = search (carried_after, rules);
+            nearest = nearest log e r known others c.in_ok-after.after.items b a;
+          },
     )

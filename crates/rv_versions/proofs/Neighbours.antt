@@ -1,0 +1,51 @@
+-- What the look-ups among a word's accesses say of the versions next to one.
+use Rattle.std.proofs.Common.{rules}
+use Rattle.std.proofs.Common.{◌≡◌, ℕ, ◌+◌, ◌<◌, ◌≤◌, List, Option, Some, None, inl, inr, refl}
+use Rattle.std.proofs.Common.{sym, ◌∙◌, arith}
+use Rattle.std.proofs.lemmas.Bool.{cases_eq}
+use Rattle.rv_versions.specs.Accesses.{IsLower, IsFirstFrom, IsNearestBelow, IsNearestAbove}
+use Rattle.rv_versions.specs.Lookups.{IsForeignBelow, IsParted}
+use Rattle.rv_versions.specs.declared.accesses.Access.{Access}
+
+module _ (xs : List Access) (v n : ℕ) (same : v ≡ n) where
+  -- the next lower access bounds what stands between
+  pub below_some : (s : Access) → IsLower xs v (Some s) → IsNearestBelow xs n s.version
+  below_some s h = let low : s.version < v = h.1 in record {
+    none = λ x c l. h.2 x c (omega arith);
+    some = λ l. (s, h.0, refl, omega arith);
+  }
+
+  -- without one nothing does
+  pub below_none : IsLower xs v None → IsNearestBelow xs n 0
+  below_none h = record {
+    none = λ x c l. (let high : v ≤ x.version = h x c in absurd (omega arith));
+    some = λ l. absurd (omega arith);
+  }
+
+  -- the next higher access that is not left aside
+  pub above_some : (aside : Option ℕ) (t : Access) → IsFirstFrom xs (v + 1) aside (Some t) →
+      IsNearestAbove xs aside n (t.version + 1)
+  above_some aside t h = let high : v + 1 ≤ t.version = h.1 in record {
+    nearest = λ x y cx cy low above other.
+        let least : t.version ≤ y.version = h.3 y cy (omega arith) other in
+        omega arith;
+    some = λ y c above other. (t, h.0, omega arith, omega arith, h.2);
+  }
+
+  -- or there is none
+  pub above_none : (aside : Option ℕ) → IsFirstFrom xs (v + 1) aside None → IsNearestAbove xs aside n 0
+  above_none aside h = search rules
+
+-- ---- below which version each SC is parted
+
+-- else it, or the next lower store of another hart than its own
+pub parted_by_either :
+    (xs : List Access) (v n : ℕ) (first second sc : Access) → v ≡ n → IsLower xs v (Some first) →
+    IsForeignBelow xs first.version first.hart second → sc.version < second.version → IsParted xs sc n
+parted_by_either xs v n first second sc same h g under =
+    let low : first.version < v = h.1 in
+    let lower : second.version < first.version = g.1 in
+    elim (cases_eq sc.hart first.hart) [
+      | inl own ↦ (second, g.0, λ e. g.2 (e ∙ own), under, omega arith)
+      | inr other ↦ (first, h.0, λ e. other (sym e), omega arith, omega arith)
+    ]
