@@ -1,5 +1,8 @@
 -- What a call hands on, at the values that it had.
-use Rattle.std.proofs.Common.{◌≡◌, ◌≢◌, ℕ, ◌<◌, List, ◌∷◌, map, length, Contains, All, AllPairs, sym, ap, ◌∙◌}
+use Rattle.std.proofs.Common.{arith}
+use Rattle.std.proofs.lemmas.Grind.{common_steps}
+use Rattle.std.proofs.Common.{rules}
+use Rattle.std.proofs.Common.{◌≡◌, ◌≢◌, ℕ, ◌<◌, List, ◌∷◌, map, length, Contains, All, AllPairs, sym}
 use Rattle.std.proofs.Common.{subst, slice_index_or}
 use Rattle.std.proofs.lemmas.List.Elements.{Contains-get_or}
 use Rattle.rv_event.specs.declared.memory_model.MemoryModel.{MemoryModel}
@@ -24,14 +27,12 @@ nodes_low ids links nodes now ranks h refl-now long k d l =
 -- a circle that was found between copies of two lists is one between these
 pub circle_between : (edges : List (List ℕ)) (preds preds' succs succs' path : List ℕ) → preds' ≡ preds →
     succs' ≡ succs → IsCircle edges preds' succs' path → IsCircle edges preds succs path
-circle_between edges preds preds' succs succs' path p q c =
-    subst (λ (x : List ℕ). IsCircle edges x succs path) p (subst (λ (y : List ℕ). IsCircle edges preds' y path) q c)
+circle_between edges preds preds' succs succs' path p q c = grind (arith, common_steps)
 
 -- and so of edges that were added
 pub grown_between : (old new : List (List ℕ)) (preds preds' succs succs' : List ℕ) → preds' ≡ preds →
     succs' ≡ succs → IsGrown old new preds' succs' → IsGrown old new preds succs
-grown_between old new preds preds' succs succs' p q g =
-    subst (λ (x : List ℕ). IsGrown old new x succs) p (subst (λ (y : List ℕ). IsGrown old new preds' y) q g)
+grown_between old new preds preds' succs succs' p q g = grind (arith, common_steps)
 
 -- the path leads from the event over nodes with these ids back to it, and names none twice
 pub record ShowsCircle (model : MemoryModel) (history : List Kept) (ids : List Id) (path : List ℕ) (e : Event) :
@@ -45,11 +46,7 @@ pub circle_at :
     (model model' : MemoryModel) (history history' : List Kept) (ids ids' : List Id) (path path' : List ℕ) (e : Event) →
     model' ≡ model → history' ≡ history → ids' ≡ ids → path' ≡ path →
     ShowsCircle model history ids path e → ShowsCircle model' history' ids' path' e
-circle_at model model' history history' ids ids' path path' e m h i p shown =
-    subst (λ (x : MemoryModel). ShowsCircle x history' ids' path' e) (sym m)
-    (subst (λ (x : List Kept). ShowsCircle model x ids' path' e) (sym h)
-    (subst (λ (x : List Id). ShowsCircle model history x path' e) (sym i)
-    (subst (λ (x : List ℕ). ShowsCircle model history ids x e) (sym p) shown)))
+circle_at model model' history history' ids ids' path path' e m h i p shown = search rules
 
 -- a closed walk through these ids
 pub own_circle : (model : MemoryModel) (log log' : List Event) (e : Event) (rest walk : List Id)
@@ -57,11 +54,7 @@ pub own_circle : (model : MemoryModel) (log log' : List Event) (e : Event) (rest
     IsClosedWalk model log' steps → walked steps ≡ walk → AllPairs (λ i j. i ≢ j) (e.id ∷ rest) →
     IsClosedWalk model log result × (((r : List Id) × (walked result ≡ e.id ∷ r)) ×
     AllPairs (λ i j. i ≢ j) (walked result))
-own_circle model log log' e rest walk steps result p q s closed w once =
-    let n : walked result ≡ e.id ∷ rest = ap walked s ∙ w ∙ q in (
-      subst (λ (l : List Event). IsClosedWalk model l result) p (subst (IsClosedWalk model log') (sym s) closed),
-      ((rest, n), subst (AllPairs (λ i j. i ≢ j)) (sym n) once),
-    )
+own_circle model log log' e rest walk steps result p q s closed w once = search rules
 
 -- a circle in a log is one in an equal log
 pub leads_log : (model : MemoryModel) (log log' : List Event) (ids ids' : List Id) → log' ≡ log → ids' ≡ ids →

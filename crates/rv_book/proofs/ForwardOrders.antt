@@ -1,13 +1,12 @@
 -- The order is lawful: each kept edge goes forward, so each path of kept links does, and so each
 -- edge.
-use Rattle.std.proofs.Common.{◌≡◌, ◌≢◌, ℕ, ◌<◌, Bool, true, false, List, length, get_or, ◌⊎◌, inl, inr, refl}
+use Rattle.std.proofs.lemmas.Grind.{common_steps}
+use Rattle.std.proofs.Common.{rules}
+use Rattle.std.proofs.Common.{◌≡◌, ◌≢◌, ℕ, ◌<◌, List, length, get_or, ◌⊎◌, inl, inr}
 use Rattle.std.proofs.Common.{sym, ap, ◌∙◌, arith, subst}
-use Rattle.std.proofs.lemmas.Bool.{false≢true}
 use Rattle.std.proofs.lemmas.List.{get_or_default}
-use Rattle.rv_event.specs.Log.{same_id}
 use Rattle.rv_event.specs.Orders.{place, IsOperation, IsOrderOf, Lawful}
 use Rattle.rv_event.specs.Edges.{IsEdge}
-use Rattle.rv_event.proofs.Names.{same_id-refl, same_id-true}
 use Rattle.rv_event.specs.declared.memory_model.MemoryModel.{MemoryModel}
 use Rattle.rv_event.specs.declared.event.Id.{Id}
 use Rattle.rv_event.specs.declared.event.Event.{Event}
@@ -21,11 +20,7 @@ use Rattle.rv_book.proofs.RankOrders.{order, length-order, at-rank, order-once, 
 
 -- two ids are one, or not
 pub id_cases : (i j : Id) → (i ≡ j) ⊎ (i ≢ j)
-id_cases i j = go (same_id i j) refl
-  where
-    go : (b : Bool) → same_id i j ≡ b → (i ≡ j) ⊎ (i ≢ j)
-    go true e = inl (same_id-true i j e)
-    go false e = inr (λ p. false≢true (sym e ∙ subst (λ (x : Id). same_id i x ≡ true) p (same_id-refl i)))
+id_cases i j = grind (arith, common_steps)
 
 -- an edge begins at a memory operation
 pub from_operation : (model : MemoryModel) (log : List Event) (i j : Id) (r : Reason) → IsEdge model log i r j →
@@ -47,9 +42,7 @@ module _ (v : Arranged) (ok : IsArranged v) where
       let e = (carried_from_IsHistory v.model v.history ok.history).true_edges i j r k in
       let a = node_of i (from_operation v.model (happened v.history) i j r e) in
       let b = node_of j (to_operation v.model (happened v.history) i j r e) in
-      let k' : IsKept v.history (at v.ids a.0) r (at v.ids b.0) =
-      subst (λ (x : Id). IsKept v.history x r (at v.ids b.0)) (sym a.2)
-      (subst (λ (x : Id). IsKept v.history i r x) (sym b.2) k) in
+      let k' : IsKept v.history (at v.ids a.0) r (at v.ids b.0) = grind (arith, common_steps) in
       let f = ok.ordered.forward a.0 b.0 (ok.tied a.0 b.0 r a.1 b.1 k') in
       let p = subst (λ (x : Id). place (order v ok) x ≡ get_or v.ranks a.0 0) a.2
       (place-node v ok a.0 (omega (arith, a.1, ok.long))) in
@@ -90,5 +83,4 @@ module _ (v : Arranged) (ok : IsArranged v) where
 
   -- so the order is lawful
   pub lawful : Lawful v.model (happened v.history) (order_of v.ranks v.ids)
-  lawful = lawful_from_edges v.model (happened v.history) (order v ok)
-      (indexed_from_IsHistory v.model v.history ok.history) ok.none_stale edge-forward order-of
+  lawful = search (lawful_from_edges, indexed_from_IsHistory, edge-forward, order-of, rules)

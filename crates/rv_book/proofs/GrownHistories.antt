@@ -1,11 +1,13 @@
 -- A history with one more event stays arranged.
+use Rattle.std.proofs.lemmas.Grind.{common_steps}
+use Rattle.std.proofs.Common.{rules}
 use Rattle.std.proofs.Common.{◌≡◌, ◌≢◌, ℕ, ◌+◌, ◌<◌, List, [], ◌∷◌, ◌++◌, length, Contains, ◌⊎◌, inl, inr}
 use Rattle.std.proofs.Common.{refl, sym, ap, ◌∙◌, arith, subst, Some}
 use Rattle.std.proofs.lemmas.Bool.{cases_eq}
 use Rattle.std.proofs.lemmas.List.{get_or_push, get_or_append_left, length_push}
 use Rattle.std.proofs.lemmas.List.Elements.{Contains-push_cases, Contains-push}
 use Rattle.rv_event.specs.Operations.{IsMemory}
-use Rattle.rv_event.specs.Log.{named, same_id, Earlier, of_hart}
+use Rattle.rv_event.specs.Log.{named, Earlier, of_hart}
 use Rattle.rv_event.specs.Orders.{IsOperation}
 use Rattle.rv_event.specs.Edges.{IsEdge, IsStale}
 use Rattle.rv_event.proofs.Names.{named-is}
@@ -54,8 +56,7 @@ module _ (v : Arranged) (ok : IsArranged v) (k : Kept) (fit : IsFit v k) where
   fresh : (x : Event) → Contains old x → x.id ≢ k.event.id
   fresh x c e =
       let low : x.id.seq < length (of_hart x.id.hart old) = known.below x c in
-      let low' : k.event.id.seq < length (of_hart k.event.id.hart old) =
-      subst (λ (i : Id). i.seq < length (of_hart i.hart old)) e low in
+      let low' : k.event.id.seq < length (of_hart k.event.id.hart old) = search rules in
       let s : k.event.id.seq ≡ length (of_hart k.event.id.hart old) = sound.seq in
       omega (arith, low', s)
 
@@ -63,18 +64,12 @@ module _ (v : Arranged) (ok : IsArranged v) (k : Kept) (fit : IsFit v k) where
   none_later : (x : Event) → Contains old x → Earlier k.event x → ⊥
   none_later x c e =
       let low : x.id.seq < length (of_hart x.id.hart old) = known.below x c in
-      let low' : x.id.seq < length (of_hart k.event.id.hart old) = subst (λ h. x.id.seq < length (of_hart h old))
-      (sym e.hart) low in
+      let low' : x.id.seq < length (of_hart k.event.id.hart old) = grind (arith, common_steps) in
       let s : k.event.id.seq ≡ length (of_hart k.event.id.hart old) = sound.seq in
       omega (arith, low', s, e.seq)
 
   stays : (i : Id) → IsOperation old i → IsOperation new i
-  stays i op = record {
-    event = op.event;
-    is_named = find-append_some (λ (x : Event). same_id i x.id) old
-        (k.event ∷ []) op.event op.is_named;
-    is_memory = op.is_memory;
-  }
+  stays i op = search (find-append_some, rules)
 
   -- an operation is an old one, or the new event
   operation_cases : (i : Id) → IsOperation new i → IsOperation old i ⊎ ((i ≡ k.event.id) × IsMemory k.event)

@@ -1,6 +1,8 @@
 -- Circles of ids, step by step.
-use Rattle.std.proofs.Common.{◌≡◌, ℕ, ◌+◌, ◌<◌, ◌≤◌, true, false, List, [], ◌∷◌, ◌++◌, map, length, ltb, refl}
-use Rattle.std.proofs.Common.{sym, ap, ◌∙◌, arith, subst, if◌then◌else◌, nat_lt, take}
+use Rattle.std.proofs.lemmas.Grind.{common_steps}
+use Rattle.std.proofs.Common.{rules}
+use Rattle.std.proofs.Common.{◌≡◌, ℕ, ◌+◌, ◌<◌, ◌≤◌, true, false, List, [], ◌∷◌, ◌++◌, length, ltb, refl}
+use Rattle.std.proofs.Common.{sym, arith, subst, if◌then◌else◌, nat_lt, take}
 use Rattle.std.proofs.lemmas.List.{map-append, take_more}
 use Rattle.rv_event.specs.Edges.{IsEdge}
 use Rattle.rv_event.specs.declared.memory_model.MemoryModel.{MemoryModel}
@@ -8,7 +10,7 @@ use Rattle.rv_event.specs.declared.event.Id.{Id}
 use Rattle.rv_event.specs.declared.event.Event.{Event}
 use Rattle.rv_event.specs.declared.reason.Reason.{Reason}
 use Rattle.rv_cert.specs.Certificates.{start_of, IsWalk, IsClosedWalk}
-use Rattle.rv_book.specs.Arranged.{at, nobody, walked}
+use Rattle.rv_book.specs.Arranged.{at, walked}
 
 -- the id at place k of a circle of ids, or the first past its end
 abbrev pub end_at : List Id → ℕ → Id
@@ -39,9 +41,7 @@ IsWalk-push model log (s ∷ rest) from to r w e = (
 -- a walk that comes back to its first id is closed
 pub closed_walk : (model : MemoryModel) (log : List Event) (steps : List (Id × Reason)) (ids : List Id) →
     0 < length ids → walked steps ≡ ids → IsWalk model log steps (at ids 0) → IsClosedWalk model log steps
-closed_walk model log [] ids some same w = absurd (omega (arith, ap length same))
-closed_walk model log (s ∷ rest) ids some same w = subst (λ (i : Id). IsWalk model log (s ∷ rest) i)
-    (ap (λ (l : List Id). at l 0) (sym same)) w
+closed_walk model log steps ids h l e = grind (arith, common_steps)
 
 -- one step more of a circle
 pub walk_step : (model : MemoryModel) (log : List Event) (ids : List Id) (steps new : List (Id × Reason)) (k : ℕ)
@@ -49,10 +49,4 @@ pub walk_step : (model : MemoryModel) (log : List Event) (ids : List Id) (steps 
     IsEdge model log (at ids k) r (end_at ids (k + 1)) → new ≡ steps ++ (at ids k, r) ∷ [] →
     (walked new ≡ take (k + 1) ids) × IsWalk model log new (end_at ids (k + 1))
 walk_step model log ids steps new k r l w e is =
-    let fst : Id × Reason → Id = λ s. s.0 in (
-      ap (map fst) is ∙ map-append fst steps ((at ids k, r) ∷ []) ∙ ap (λ (x : List Id). x ++ at ids k ∷ []) w.0 ∙
-          sym (take_more ids k nobody l),
-      subst (λ (x : List (Id × Reason)). IsWalk model log x (end_at ids (k + 1))) (sym is)
-          (IsWalk-push model log steps (at ids k) (end_at ids (k + 1)) r
-          (subst (IsWalk model log steps) (end-within ids k l) w.1) e),
-    )
+    search (map-append, take_more, IsWalk-push, end-within, rules)

@@ -1,16 +1,17 @@
 -- A log with one more entry, and its verdicts.
-use Rattle.std.proofs.Common.{◌≡◌, ◌<◌, List, [], ◌∷◌, ◌++◌, length, Option, Some, None, refl, sym, ap, ◌∙◌}
+use Rattle.std.proofs.lemmas.Grind.{common_steps}
+use Rattle.std.proofs.Common.{rules}
+use Rattle.std.proofs.Common.{◌≡◌, ◌<◌, List, [], ◌∷◌, ◌++◌, length, Option, Some, None, refl, ap, ◌∙◌}
 use Rattle.std.proofs.Common.{subst, arith, Bool}
-use Rattle.std.proofs.lemmas.List.{map-append, length-map, length_push}
+use Rattle.std.proofs.lemmas.List.{length-map, length_push}
 use Rattle.rv_event.specs.Log.{events}
 use Rattle.rv_event.specs.Orders.{Lawful}
 use Rattle.rv_event.specs.WellFormed.{WellFormed}
 use Rattle.rv_event.specs.Faults.{fault_of, event_fault, first_faults, source_fault, deps_fault, lowest}
-use Rattle.rv_event.proofs.Indexed.{NoneOf, lowest-none, none-lowest, lowest-append_some, sound_of}
+use Rattle.rv_event.proofs.Indexed.{lowest-none, none-lowest, lowest-append_some, sound_of}
 use Rattle.rv_event.proofs.Pushed.{WellFormed-push}
 use Rattle.rv_event.proofs.Bounded.{length-WellFormed}
 use Rattle.rv_event.specs.declared.memory_model.MemoryModel.{MemoryModel}
-use Rattle.rv_event.specs.declared.event.Event.{Event}
 use Rattle.rv_event.specs.declared.event.Entry.{Entry}
 use Rattle.rv_event.specs.declared.fault.Fault.{Fault}
 use Rattle.std.proofs.lemmas.Option.{none-some}
@@ -23,18 +24,11 @@ use Rattle.rv_book.specs.Booked.{Booked, IsBooked, IsTaken, IsForbiddenOn, booke
 
 -- an entry without a fault is an event without one
 pub event_sound : (log : List Entry) (x : Entry) → fault_of log x ≡ None → event_fault (events log) x.event ≡ None
-event_sound log x none =
-    let e : NoneOf (first_faults (events log) x.event ++ source_fault log x ∷ deps_fault x.event ∷ []) =
-    lowest-none (first_faults (events log) x.event ++ source_fault log x ∷ deps_fault x.event ∷ []) none in
-    none-lowest (first_faults (events log) x.event ++ deps_fault x.event ∷ [])
-    (e.0, (e.1.0, (e.1.1.0, (e.1.1.1.0, (e.1.1.1.1.0, (e.1.1.1.1.1.0, (e.1.1.1.1.1.1.0, (e.1.1.1.1.1.1.1.1.0, tt))))))))
+event_sound log x none = search (lowest-none, none-lowest, rules)
 
 -- nor has it one of its source, and its hart is one of sixteen
 pub source_sound : (log : List Entry) (x : Entry) → fault_of log x ≡ None → source_fault log x ≡ None
-source_sound log x none =
-    let e : NoneOf (first_faults (events log) x.event ++ source_fault log x ∷ deps_fault x.event ∷ []) =
-    lowest-none (first_faults (events log) x.event ++ source_fault log x ∷ deps_fault x.event ∷ []) none in
-    e.1.1.1.1.1.1.1.0
+source_sound log x none = search (lowest-none, rules)
 
 -- an entry without a fault is of one of sixteen harts
 pub hart_sound : (log : List Entry) (x : Entry) → fault_of log x ≡ None → x.event.id.hart < 16
@@ -63,21 +57,14 @@ room_of log h x ok none same =
 -- the events of a log with one entry more are those of its history with one event more
 pub events-push : (log : List Entry) (h : List Kept) (x : Entry) → happened h ≡ events log →
     grown h x.event ≡ events (log ++ x ∷ [])
-events-push log h x same = ap (λ (es : List Event). es ++ x.event ∷ []) same ∙
-    sym (map-append (λ (y : Entry). y.event) log (x ∷ []))
+events-push log h x same = grind (arith, common_steps)
 
 -- a book stays one with an entry more
 pub booked_push :
     (log new : List Entry) (v w : Arranged) (x : Entry) → IsBooked log v → fault_of log x ≡ None →
     happened w.history ≡ grown v.history x.event → Lawful w.model (happened w.history) (order_of w.ranks w.ids) →
     new ≡ log ++ x ∷ [] → IsBooked new w
-booked_push log new v w x ok none e lawful is =
-    let same = e ∙ events-push log v.history x ok.same in
-    subst (λ (l : List Entry). IsBooked l w) (sym is) (record {
-      well_formed = WellFormed-push log x ok.well_formed none;
-      same = same;
-      lawful = subst (λ (es : List Event). Lawful w.model es (order_of w.ranks w.ids)) same lawful;
-    })
+booked_push log new v w x ok none e lawful is = search (events-push, WellFormed-push, rules)
 
 -- a certificate of the grown history forbids the entry
 pub forbidden_of :
@@ -86,8 +73,7 @@ pub forbidden_of :
     Certifies model (grown h x.event) f.certificate → IsOwn x.event f.certificate →
     IsForbiddenOn model log x f
 forbidden_of model log h x f none same by is certifies own =
-    let c : Certifies model (events (log ++ x ∷ [])) f.certificate =
-    subst (λ (es : List Event). Certifies model es f.certificate) (events-push log h x same) certifies in
+    let c : Certifies model (events (log ++ x ∷ [])) f.certificate = grind (arith, common_steps) in
     record {
       judged_by = by;
       evidence = is;
@@ -107,8 +93,7 @@ pub taken_of :
 taken_of log new v w stopped now x is ok none by e lawful grew =
     let same = e ∙ events-push log v.history x ok.same in
     let here : Lawful v.model (events (log ++ x ∷ [])) (order_of w.ranks w.ids) =
-    subst (λ (m : MemoryModel). Lawful m (events (log ++ x ∷ [])) (order_of w.ranks w.ids)) by
-    (subst (λ (es : List Event). Lawful w.model es (order_of w.ranks w.ids)) same lawful) in
+    grind (arith, common_steps) in
     record {
       model = by ∙ ap (λ (b : Booked). b.model) is;
       stopped = ap (λ (b : Booked). b.stopped) is;
@@ -130,15 +115,12 @@ none_first (Some f ∷ xs) ys e = absurd (none-some f e)
 module _ (log : List Entry) (x : Entry) where
   -- the first fault that holds is the entry's
   pub first_of_faults : (f : Fault) → Some f ≡ lowest (first_faults (events log) x.event) → Some f ≡ fault_of log x
-  first_of_faults f e = lowest-append_some (first_faults (events log) x.event)
-      (source_fault log x ∷ deps_fault x.event ∷ []) f e
+  first_of_faults f e = search (lowest-append_some, rules)
 
   -- where none of the first faults holds, the fault of its source is the first
   pub source_of_faults : (f : Fault) → None ≡ lowest (first_faults (events log) x.event) → Some f ≡ source_fault log x →
       Some f ≡ fault_of log x
-  source_of_faults f none e =
-      ap (λ (o : Option Fault). lowest (o ∷ deps_fault x.event ∷ [])) e
-      ∙ sym (none_first (first_faults (events log) x.event) (source_fault log x ∷ deps_fault x.event ∷ []) none)
+  source_of_faults f none e = search (none_first, rules)
 
   one : (o : Option Fault) → o ≡ lowest (o ∷ [])
   one None = refl
@@ -147,6 +129,4 @@ module _ (log : List Entry) (x : Entry) where
   -- where that does not hold either, too many dependencies are
   pub deps_of_faults : None ≡ lowest (first_faults (events log) x.event) → None ≡ source_fault log x →
       deps_fault x.event ≡ fault_of log x
-  deps_of_faults none e =
-      one (deps_fault x.event) ∙ ap (λ (o : Option Fault). lowest (o ∷ deps_fault x.event ∷ [])) e
-      ∙ sym (none_first (first_faults (events log) x.event) (source_fault log x ∷ deps_fault x.event ∷ []) none)
+  deps_of_faults none e = search (none_first, rules)

@@ -1,4 +1,5 @@
 -- The order that ranks give.
+use Rattle.std.proofs.Common.{rules}
 use Rattle.std.proofs.Common.{◌≡◌, ◌≢◌, ℕ, zero, suc, ◌<◌, ◌==◌, Bool, true, false, cond, List, [], ◌∷◌, map}
 use Rattle.std.proofs.Common.{length, get_or, AllPairs, inl, inr, refl, sym, ap, ◌∙◌, arith, subst}
 use Rattle.std.proofs.Common.{le_of_suc-le-suc, suc-le-suc, eqb-true, eq-eqb}
@@ -43,13 +44,13 @@ index-at (x ∷ xs) (suc a) l once = go (x == get_or xs a 0) refl
     go false e again = ap suc again
 
 module _ (v : Arranged) (ok : IsArranged v) where
+  -- the ids by rank
   abbrev pub order : List Id
   order = order_of v.ranks v.ids
 
   -- the order is as long as the ranks
   pub length-order : length order ≡ length v.ranks
-  length-order = length-map (up_to (length v.ranks)) (λ r. at v.ids (index_of v.ranks r)) ∙
-      length-up_to (length v.ranks)
+  length-order = search (length-map, length-up_to, rules)
 
   get-order : (r : ℕ) (d : Id) → r < length v.ranks → get_or order r d ≡ at v.ids (index_of v.ranks r)
   get-order r d l =
@@ -58,10 +59,7 @@ module _ (v : Arranged) (ok : IsArranged v) where
       (get-up_to (length v.ranks) r 0 l)
 
   index-rank : (a : ℕ) → a < length v.ranks → index_of v.ranks (get_or v.ranks a 0) ≡ a
-  index-rank a l = index-at v.ranks a l (λ b low q. v-once b low q)
-    where
-      v-once : (b : ℕ) → b < length v.ranks → get_or v.ranks b 0 ≡ get_or v.ranks a 0 → b ≡ a
-      v-once b low q = ok.ordered.once b a low l q
+  index-rank a l = search (index-at, rules)
 
   -- the id of a node stands at the node's rank
   pub at-rank : (a : ℕ) (d : Id) → a < length v.ranks → get_or order (get_or v.ranks a 0) d ≡ at v.ids a
@@ -73,9 +71,7 @@ module _ (v : Arranged) (ok : IsArranged v) where
       let long = length-order in
       let x = ok.ordered.every r (omega arith) in
       let y = ok.ordered.every s (omega arith) in
-      let same : at v.ids x.0 ≡ at v.ids y.0 =
-      sym (subst (λ k. get_or order k d ≡ at v.ids x.0) x.2 (at-rank x.0 d x.1)) ∙ q ∙
-      subst (λ k. get_or order k d ≡ at v.ids y.0) y.2 (at-rank y.0 d y.1) in
+      let same : at v.ids x.0 ≡ at v.ids y.0 = search (at-rank, rules) in
       let ids = ok.long in
       let z = ok.once x.0 y.0 (omega (arith, x.1)) (omega (arith, y.1)) same in
       let e : r ≡ s = sym x.2 ∙ ap (λ k. get_or v.ranks k 0) z ∙ y.2 in

@@ -1,14 +1,13 @@
 -- A history whose last entry is taken off again, and refusals of it.
-use Rattle.std.proofs.Common.{◌≡◌, ℕ, List, [], ◌∷◌, ◌++◌, ◌⊎◌, inl, inr, refl, sym, ap, ◌∙◌, subst, arith}
-use Rattle.std.proofs.Common.{length, length-append, Result, Ok, Err}
+use Rattle.std.proofs.lemmas.Grind.{common_steps}
+use Rattle.std.proofs.Common.{◌≡◌, ℕ, List, [], ◌∷◌, ◌++◌, refl, arith}
+use Rattle.std.proofs.Common.{Result, Ok, Err}
 use Rattle.std.specs.Result.{IfOk, OnErr}
-use Rattle.rv_event.proofs.Pushed.{split_push}
 use Rattle.rv_event.specs.declared.event.Entry.{Entry}
 use Rattle.rv_event.specs.declared.event.Id.{Id}
-use Rattle.rv_edges.specs.Histories.{kept_of, with_entry}
+use Rattle.rv_edges.specs.Histories.{with_entry}
 use Rattle.rv_edges.specs.Kept.{Kept, Past}
 use Rattle.rv_edges.specs.declared.history.Around.{Around}
-use Rattle.rv_edges.proofs.Sides.{same_front}
 use Rattle.rv_book.specs.Adding.{IsAdded, IsRefused}
 use Rattle.rv_book.specs.Arranged.{Arranged}
 use Rattle.rv_book.specs.declared.arrangement.Added.{Added}
@@ -20,33 +19,14 @@ pub record IsBack (was now : Past) (x y : Entry) : Type 0 where
   pub entry : y ≡ x
 
 same_last : {X : Type 0} (xs ys : List X) (x y : X) → xs ++ x ∷ [] ≡ ys ++ y ∷ [] → x ≡ y
-same_last {X} xs ys x y e = go (split_push xs x ys [] y e)
-  where
-    go : ((xs ≡ ys) × (x ≡ y)) ⊎ ((rest : List X) × (xs ≡ ys ++ y ∷ rest)) → x ≡ y
-    go (inl (s, t)) = t
-    go (inr (rest, s)) = absurd (omega (
-      arith,
-      ap length e,
-      ap length s,
-      length-append xs (x ∷ []),
-      length-append ys (y ∷ []),
-      length-append ys (y ∷ rest),
-    ))
+same_last {X} xs ys x y e = grind (arith, common_steps)
 
 -- an entry that is added and taken off again leaves the history as it was
 pub back :
     (was pushed now : Past) (x y : Entry) (around : Around) → pushed ≡ with_entry was x around →
     now.model ≡ pushed.model → pushed.log ≡ now.log ++ y ∷ [] →
     ((front : List Kept) (k : Kept) → pushed.kept ≡ front ++ k ∷ [] → now.kept ≡ front) → IsBack was now x y
-back was pushed now x y around grown model log popped =
-    let logs : now.log ++ y ∷ [] ≡ was.log ++ x ∷ [] = sym log ∙ ap (λ (w : Past). w.log) grown in
-    let same_model : now.model ≡ was.model = model ∙ ap (λ (w : Past). w.model) grown in
-    let same_log : now.log ≡ was.log = same_front now.log was.log y x logs in
-    let same_kept : now.kept ≡ was.kept = popped was.kept (kept_of x.event around) (ap (λ (w : Past). w.kept) grown) in
-    record {
-      history = λ i. record { model = same_model i; log = same_log i; kept = same_kept i };
-      entry = same_last now.log was.log y x logs;
-    }
+back was pushed now x y around grown model log popped = grind (arith, common_steps)
 
 -- an arrangement by its parts
 abbrev pub arranged_of : Past → List (List ℕ) → List ℕ → List Id → Arranged
@@ -80,9 +60,7 @@ refused_ok v x (Err e) told = told
 pub added_refused :
     (now v : Arranged) (x y : Entry) {E : Type 0} → v ≡ now → y ≡ x → (r : Result Added E) →
     IfOk r (IsRefused (record { model = v.model; log = v.log; kept = v.history }) y) → IfOk r (IsAdded now v x)
-added_refused now v x y same entry r told =
-    subst (λ (w : Arranged). IfOk r (IsAdded w v x)) same
-    (subst (λ (z : Entry). IfOk r (IsAdded v v z)) entry (refused_ok v y r told))
+added_refused now v x y same entry r told = grind (arith, common_steps)
 
 -- what always holds holds on an error
 pub OnErr-always : {A E : Type 0} {P : Type 0} (r : Result A E) → P → OnErr r P

@@ -1,10 +1,11 @@
 -- Chunks of a list, offered in whatever order, give the log the beginning of that list.
-use Rattle.std.proofs.Common.{◌≡◌, ℕ, Bool, ◌==◌, ◌≤◌, ◌+◌, ◌-◌, cond, List, [], ◌∷◌, ◌++◌, length, take}
-use Rattle.std.proofs.Common.{drop, sym, ap, ◌∙◌, subst, arith, refl, eq-eqb, append_assoc, length-append}
+use Rattle.std.proofs.lemmas.Grind.{common_steps}
+use Rattle.std.proofs.Common.{rules}
+use Rattle.std.proofs.Common.{◌≡◌, ℕ, Bool, ◌≤◌, ◌+◌, ◌-◌, cond, List, [], ◌∷◌, ◌++◌, length, take}
+use Rattle.std.proofs.Common.{drop, sym, ap, ◌∙◌, subst, arith, refl, eq-eqb, append_assoc}
 use Rattle.std.proofs.Common.{take-append-drop}
 use Rattle.std.proofs.Math.Seq.{drop-append_seam, drop-append-add}
-use Rattle.std.proofs.lemmas.List.{drop-append-le, length-take-le, map-append}
-use Rattle.std.proofs.lemmas.List.Elements.{filter-append}
+use Rattle.std.proofs.lemmas.List.{drop-append-le}
 use Rattle.rv_event.specs.Log.{events}
 use Rattle.rv_event.specs.Merges.{from_source}
 use Rattle.rv_chunk.specs.Packing.{Content}
@@ -26,18 +27,13 @@ given-entries source (e ∷ es) =
 
 given-append : (source : ℕ) (log more : List Entry) → given_by source (log ++ more) ≡ given_by source log ++
     given_by source more
-given-append source log more =
-    ap events (filter-append (λ (x : Entry). source == x.source) log more)
-    ∙ map-append (λ (x : Entry). x.event) (from_source source log) (from_source source more)
+given-append source log more = grind (arith, common_steps)
 
 -- the log has all that it had of the source, and the first of the rest
 taken-given :
     (old new : Booked) (source : ℕ) (es : List Event) (n : ℕ) → HasTaken old new source es n →
     given_by source new.log ≡ given_by source old.log ++ take n es
-taken-given old new source es n taken =
-    ap (given_by source) taken.log
-    ∙ given-append source old.log (entries_of source (take n es))
-    ∙ ap (λ (l : List Event). given_by source old.log ++ l) (given-entries source (take n es))
+taken-given old new source es n taken = search (given-append, given-entries, rules)
 
 -- what follows the given events is the rest of the chunk and what comes after it
 rest-follows :
@@ -81,24 +77,22 @@ module _ (old new : Booked) (chunk : Content) (all : List Event) (of : IsChunkOf
         prefix = subst (λ (l : List Event). IsPrefix l all) (sym now)
             (prefix-grows given begun.0 (rest_of count chunk) of.1 all n begun.1 rest);
         more = n;
-        longer = ap (λ (l : List Event). length l) now ∙ length-append given (take n (rest_of count chunk)) ∙
-            ap (λ (k : ℕ). length given + k) (length-take-le n (rest_of count chunk) within);
+        longer = grind (arith, common_steps);
         applied = applied;
       }
 
   stays : (answer : ChunkOffer) → new ≡ old → IsApplied answer 0 → IsContinued old new chunk all answer
-  stays answer same applied = record {
-    prefix = subst (λ (b : Booked). IsPrefix (given_by chunk.source b.log) all) (sym same) begun;
-    more = 0;
-    longer = ap (λ (b : Booked). count_of_source b.log chunk.source) same ∙ omega arith;
-    applied = applied;
-  }
+  stays answer same applied = grind (arith, common_steps)
 
   -- a chunk of a list leaves the log with a beginning of that list
   pub continues : (answer : ChunkOffer) → IsChunkOffered old new chunk answer → IsContinued old new chunk all answer
-  continues (Applied n) told = grows (Applied n) n told.1 (omega (arith, told.2.1)) told.2.2 refl
-  continues (Halted v) told = grows (Halted v) told.2.1.0 told.1 (omega (arith, told.2.1.2.within)) told.2.1.2.taken tt
-  continues NoMemory told = grows NoMemory told.2.1.0 told.1 (omega (arith, told.2.1.2.within)) told.2.1.2.taken tt
-  continues (NotYet c) told = stays (NotYet c) told.3 refl
-  continues Already told = stays Already told.2 refl
-  continues Stopped told = stays Stopped told.1 refl
+  continues (Applied n) told =
+      grows (Applied n) n told.turn (omega (arith, told.applied.1)) told.applied.2 refl
+  continues (Halted v) told =
+      grows (Halted v) told.halted.1.0 told.turn (omega (arith, told.halted.1.2.within)) told.halted.1.2.taken tt
+  continues NoMemory told =
+      grows NoMemory told.no_memory.1.0 told.turn (omega (arith, told.no_memory.1.2.within))
+      told.no_memory.1.2.taken tt
+  continues (NotYet c) told = stays (NotYet c) told.passed refl
+  continues Already told = stays Already told.passed refl
+  continues Stopped told = stays Stopped told.passed refl

@@ -1,12 +1,14 @@
 -- What an offered chunk tells.
-use Rattle.std.specs.Prelude.{ℕ, ◌+◌, ◌-◌, ◌*◌, ◌<◌, ◌≤◌, ◌≡◌, ◌++◌, List, [], ◌∷◌, length, map, take, drop}
+use Rattle.std.specs.Prelude.{ℕ, ◌+◌, ◌-◌, ◌*◌, ◌<◌, ◌≤◌, ◌≡◌, ◌↔◌, ◌++◌, List, [], ◌∷◌, length, map, take, drop}
 use Rattle.std.specs.Prelude.{IsTrue, IsFalse}
 use Rattle.rv_event.specs.Log.{events}
 use Rattle.rv_event.specs.Merges.{from_source}
 use Rattle.rv_event.specs.declared.event.Event.{Event}
 use Rattle.rv_event.specs.declared.event.Entry.{Entry}
 use Rattle.rv_chunk.specs.Packing.{Content}
+use Rattle.rv_cert.specs.declared.verdict.Verdict.{Verdict}
 use Rattle.rv_book.specs.Booked.{Booked, IsVerdictOn}
+use Rattle.rv_book.specs.ChunkOffers.{IfApplied, IfHalted, OnNoMemory, IfNotYet, OnAlready, OnOffered, OnPassed}
 use Rattle.rv_book.specs.declared.book.ChunkOffer.{ChunkOffer}
 use Rattle.rv_book.specs.declared.book.ChunkOffer.TheVariants.{Applied, NotYet, Already, Halted, Stopped, NoMemory}
 
@@ -32,18 +34,21 @@ pub record StopsAt (old new : Booked) (source : ℕ) (events : List Event) (coun
   pub within : count < length events
   pub follows : take (count + 1) events ≡ take count events ++ next ∷ []
 
--- what offering events in order tells of the book before and after
-abbrev pub IsOfferedAll : Booked → Booked → ℕ → List Event → ChunkOffer → Type 0
-IsOfferedAll old new source events (Applied count) =
+-- all of the events were taken, and the book goes on
+abbrev pub TakesAll : Booked → Booked → ℕ → List Event → ℕ → Type 0
+TakesAll old new source events count =
     IsFalse new.stopped × (count ≡ length events) × HasTaken old new source events count
-IsOfferedAll old new source events (Halted v) =
+
+-- the book stopped at one of them, with this verdict
+abbrev pub HaltsWith : Booked → Booked → ℕ → List Event → Verdict → Type 0
+HaltsWith old new source events v =
     IsTrue new.stopped × ((count : ℕ) × (next : Event) × StopsAt old new source events count next
     × IsVerdictOn new.model new.log (record { source = source; event = next }) v)
-IsOfferedAll old new source events NoMemory =
+
+-- memory ran out at one of them, and the book goes on
+abbrev pub RunsOut : Booked → Booked → ℕ → List Event → Type 0
+RunsOut old new source events =
     IsFalse new.stopped × ((count : ℕ) × (next : Event) × StopsAt old new source events count next)
-IsOfferedAll old new source events (NotYet count) = ⊥
-IsOfferedAll old new source events Already = ⊥
-IsOfferedAll old new source events Stopped = ⊥
 
 -- the place in its source of a chunk's first event
 abbrev pub first_of : Content → ℕ
@@ -53,26 +58,24 @@ first_of chunk = 8 * chunk.number
 abbrev pub rest_of : ℕ → Content → List Event
 rest_of count chunk = drop (count - first_of chunk) chunk.events
 
+-- those of a log
+abbrev pub rest_for : List Entry → Content → List Event
+rest_for log chunk = rest_of (count_of_source log chunk.source) chunk
+
 -- the source's entries end in the chunk, and it is its turn
 abbrev pub IsTurn : ℕ → Content → Type 0
 IsTurn count chunk = (first_of chunk ≤ count) × (count < first_of chunk + length chunk.events)
 
--- what the answer tells, where the log has so many entries of the chunk's source
-abbrev pub IsAnswered : ℕ → Booked → Booked → Content → ChunkOffer → Type 0
-IsAnswered count old new chunk (Applied n) =
-    IsFalse old.stopped × IsTurn count chunk × IsOfferedAll old new chunk.source (rest_of count chunk) (Applied n)
-IsAnswered count old new chunk (Halted v) =
-    IsFalse old.stopped × IsTurn count chunk × IsOfferedAll old new chunk.source (rest_of count chunk) (Halted v)
-IsAnswered count old new chunk NoMemory =
-    IsFalse old.stopped × IsTurn count chunk × IsOfferedAll old new chunk.source (rest_of count chunk) NoMemory
-IsAnswered count old new chunk (NotYet c) =
-    IsFalse old.stopped × (c ≡ count) × (count < first_of chunk) × (new ≡ old)
-IsAnswered count old new chunk Already =
-    IsFalse old.stopped × (first_of chunk + length chunk.events ≤ count) × (new ≡ old)
-IsAnswered count old new chunk Stopped = IsTrue old.stopped × (new ≡ old)
-
-abbrev pub IsChunkOffered : Booked → Booked → Content → ChunkOffer → Type 0
-IsChunkOffered old new chunk = IsAnswered (count_of_source old.log chunk.source) old new chunk
+-- what an answer to a chunk tells of the book before and after
+pub record IsChunkOffered (old new : Booked) (chunk : Content) (answer : ChunkOffer) : Type 0 where
+  pub turn : OnOffered answer (IsTurn (count_of_source old.log chunk.source) chunk)
+  pub applied : IfApplied answer (TakesAll old new chunk.source (rest_for old.log chunk))
+  pub halted : IfHalted answer (HaltsWith old new chunk.source (rest_for old.log chunk))
+  pub no_memory : OnNoMemory answer (RunsOut old new chunk.source (rest_for old.log chunk))
+  pub not_yet : IfNotYet answer (λ count. (count ≡ count_of_source old.log chunk.source) × (count < first_of chunk))
+  pub already : OnAlready answer (first_of chunk + length chunk.events ≤ count_of_source old.log chunk.source)
+  pub stopped : (answer ≡ Stopped) ↔ IsTrue old.stopped
+  pub passed : OnPassed answer (new ≡ old)
 
 -- the first list is the beginning of the second
 abbrev pub IsPrefix : List Event → List Event → Type 0

@@ -4,6 +4,7 @@ pub mod Booked
 pub mod Nodes
 pub mod Offers
 pub mod Counts
+pub mod ChunkOffers
 pub mod Chunked
 pub mod Tallied
 pub mod Hinted

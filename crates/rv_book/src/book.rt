@@ -1,5 +1,6 @@
 //! A well formed log with an order that is lawful for it.
-ghost use Rattle.std.specs.Prelude.{◌≡◌, ◌↔◌, ◌++◌, ◌∷◌, [], IfOk, OnErr, IsFalse, IsTrue, length, true};
+ghost use Rattle.std.specs.Prelude.{◌≡◌, ◌↔◌, ◌++◌, ◌∷◌, [], ◌<◌, ◌≤◌, ◌+◌, IfOk, OnErr, IsFalse, IsTrue};
+ghost use Rattle.std.specs.Prelude.{length, true};
 ghost use Rattle.rv_book.specs.Counts.{operations_of, waiting_of};
 ghost use Rattle.rv_event.specs.Log.{events};
 ghost use Rattle.rv_event.specs.Faults.{fault_of};
@@ -78,7 +79,11 @@ impl Book {
     ghost use Rattle.rv_book.specs.Booked.{IsForbiddenOn, IsJudged, IsMalformedOn, IsTaken};
     ghost use Rattle.rv_book.specs.Offers.{IfForbidden, IfMalformed, OnAccepted, OnRefused, OnUnjudged};
     ghost use Rattle.rv_book.specs.declared.book.Offer.TheVariants as offer;
-    ghost use Rattle.rv_book.specs.Chunked.{IsChunkOffered, IsOfferedAll, count_of_source};
+    ghost use Rattle.rv_book.specs.ChunkOffers.{IfApplied, IfHalted, OnNoMemory, IfNotYet};
+    ghost use Rattle.rv_book.specs.ChunkOffers.{OnAlready, OnOffered, OnPassed};
+    ghost use Rattle.rv_book.specs.declared.book.ChunkOffer.TheVariants as chunk_offer;
+    ghost use Rattle.rv_book.specs.Chunked.{count_of_source, rest_for, first_of, IsTurn};
+    ghost use Rattle.rv_book.specs.Chunked.{TakesAll, HaltsWith, RunsOut};
 
     /// The empty log under a memory model. It takes no memory; the allocator serves the calls to
     /// come.
@@ -222,7 +227,19 @@ impl Book {
     /// events from place c - 8k on are offered. So a chunk may come twice, and after `NoMemory` the
     /// same chunk goes on where it stopped.
     pub fn offer_chunk(&mut self, chunk: &Chunk) -> ChunkOffer
-        ensures { IsChunkOffered self.old self.new chunk.now result }
+        ensures turn { OnOffered result (IsTurn (count_of_source self.old.log chunk.now.source) chunk.now) }
+        ensures applied { IfApplied result
+            (TakesAll self.old self.new chunk.now.source (rest_for self.old.log chunk.now)) }
+        ensures halted { IfHalted result
+            (HaltsWith self.old self.new chunk.now.source (rest_for self.old.log chunk.now)) }
+        ensures no_memory { OnNoMemory result
+            (RunsOut self.old self.new chunk.now.source (rest_for self.old.log chunk.now)) }
+        ensures not_yet { IfNotYet result (λ count.
+            (count ≡ count_of_source self.old.log chunk.now.source) × (count < first_of chunk.now)) }
+        ensures already { OnAlready result
+            (first_of chunk.now + length chunk.now.events ≤ count_of_source self.old.log chunk.now.source) }
+        ensures stopped { (result ≡ chunk_offer.Stopped) ↔ IsTrue self.old.stopped }
+        ensures passed { OnPassed result (self.new ≡ self.old) }
     {
         if self.stopped {
             return ChunkOffer::Stopped;
@@ -247,7 +264,10 @@ impl Book {
     /// Offers the events in order, as entries of a source, to a book that goes on.
     fn offer_all(&mut self, source: u8, events: Vec<Event>) -> ChunkOffer
         requires { IsFalse self.old.stopped }
-        ensures { IsOfferedAll self.old self.new source events.items result }
+        ensures applied { IfApplied result (TakesAll self.old self.new source events.items) }
+        ensures halted { IfHalted result (HaltsWith self.old self.new source events.items) }
+        ensures no_memory { OnNoMemory result (RunsOut self.old self.new source events.items) }
+        ensures offered { OnPassed result ⊥ }
     {
         let count = events.len();
         for event in events {

@@ -1,6 +1,8 @@
 -- What the entry of an option holds, where the arguments with its id keep the rules of one.
+use Rattle.std.proofs.lemmas.Grind.{common_steps}
+use Rattle.std.proofs.Common.{rules}
 use Rattle.std.proofs.Common.{◌≡◌, ◌∙◌, ◌<◌, ◌≤◌, zero, suc, ℕ, Bool, true, false, List, [], ◌∷◌, length}
-use Rattle.std.proofs.Common.{Option, Some, None, refl, sym, ap, subst, inl, inr, arith}
+use Rattle.std.proofs.Common.{Some, None, refl, sym, ap, subst, inl, inr, arith}
 use Rattle.std.specs.Prelude.{find, option_map, slice_get}
 use Rattle.std.specs.Borrow.{Bor}
 use Rattle.std.specs.List.{All, slice_index_or}
@@ -9,7 +11,7 @@ use Rattle.std.proofs.lemmas.List.Elements.{All-get_or}
 use Rattle.std.proofs.lemmas.Slice.Eq.{bytes_eq-Decides}
 use Rattle.clap.specs.Built.{SameRules}
 use Rattle.clap.specs.Facts.{Entry, EntryPasses, HasId, HasIn, HasReading, PassesArg, ValuesPass, args_of, groups_of}
-use Rattle.clap.specs.Facts.{least_values, parser_of, parser_of_value}
+use Rattle.clap.specs.Facts.{least_values}
 use Rattle.clap.specs.Matches.{first_value, matched_of, one_text}
 use Rattle.clap.specs.Values.{Accepts, read_as, reading_of}
 use Rattle.clap.specs.Walk.{Text}
@@ -72,26 +74,17 @@ pub record Kept (c : Command) (a : Arg) (q : ValueParser) : Type 0 where
 
 accepted : (c : Command) (a : Arg) (q : ValueParser) (text : Text) → Kept c a q → PassesArg c a.id.now text
     → Accepts a.ignore_case q text
-accepted c a q text k pass =
-    let rules = k.known pass.0 pass.1 pass.2 pass.3 pass.4.0 in
-    let is_q : parser_of pass.1 ≡ q = ap parser_of_value (rules.parser q k.parser) in
-    let by_q = subst (λ (p : ValueParser). Accepts pass.1.ignore_case p text) is_q pass.4.1 in
-    subst (λ (b : Bool). Accepts b q text) rules.ignore_case by_q
+accepted c a q text k pass = search rules
 
 read_so : (c : Command) (a : Arg) (q : ValueParser) (how : Reading) → Kept c a q → HasReading c a.id.now how
     → how ≡ reading_of q
-read_so c a q how k any =
-    let rules = k.known any.0 any.1 any.2 any.3 any.4.0 in
-    sym any.4.1 ∙ ap (λ (p : Option ValueParser). reading_of (parser_of_value p)) (rules.parser q k.parser)
+read_so c a q how k any = search rules
 
 entry_holds : (c : Command) (a : Arg) (q : ValueParser) (e : Entry) → Kept c a q → e.0.now ≡ a.id.now → EntryPasses c e
     → (v : Bor Text) × (slice_get e.1.vals.items 0 ≡ Some v) × (e.1.reading ≡ reading_of q)
     × Accepts a.ignore_case q v.now
 entry_holds c a q e k key pass =
-    let alone : e.1.is_group ≡ true → ⊥ = λ g. elim (pass.3 g) [
-      | inl empty ↦ k.named (sym key ∙ empty)
-      | inr some ↦ let bad : 0 < 0 = rw k.no_groups at some in absurd (omega arith)
-    ] in
+    let alone : e.1.is_group ≡ true → ⊥ = grind (arith, common_steps) in
     let all : All (λ v. PassesArg c a.id.now v.now) e.1.vals.items = elim pass.0 [
       | inl g ↦ absurd (alone g)
       | inr vals ↦ subst (λ (w : Text). All (λ v. PassesArg c w v.now) e.1.vals.items) key vals

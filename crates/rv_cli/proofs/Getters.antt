@@ -1,6 +1,7 @@
 -- What the getters read, in the words of the matches.
+use Rattle.std.proofs.Common.{rules}
 use Rattle.std.proofs.Common.{◌≡◌, ◌∙◌, ◌≤◌, ◌<◌, ◌^◌, ap, sym, ℕ, List, [], true, false, Option, Some, Result, Ok}
-use Rattle.std.proofs.Common.{codes, inl, inr, subst}
+use Rattle.std.proofs.Common.{codes, subst}
 use Rattle.std.specs.Prelude.{option_map, unwrap_or}
 use Rattle.std.specs.Str.{bytes_eq}
 use Rattle.std.specs.Str.Parse.{ParsesUnsigned}
@@ -38,16 +39,9 @@ files_read f o e = ap (λ (x : Option (List Text)). unwrap_or x []) (e ∙ raw_v
 
 pub model_tso : (f : Found) (name : Text) → first_value f (codes "model") ≡ Some name
     → bytes_eq name (codes "tso") ≡ true → SaysModel (first_of (codes "model") (rows_of f)) Ztso
-model_tso f name first same =
-    rw (← first_value-rows f (codes "model"), first) ((bytes_eq-Decides name (codes "tso")).0 same)
+model_tso f name first same = search (first_value-rows, codes, bytes_eq-Decides, rules)
 
 pub model_other : (f : Found) (name : Text) → first_value f (codes "model") ≡ Some name
     → HoldsModel (first_value f (codes "model")) → bytes_eq name (codes "tso") ≡ false
     → SaysModel (first_of (codes "model") (rows_of f)) Rvwmo
-model_other f name first holds other = rw (← first_value-rows f (codes "model"), first) (elim holds [
-  | inl h ↦ ap (λ (o : Option Text). unwrap_or o []) (sym first ∙ h)
-  | inr h ↦
-      let is : name ≡ codes "tso" = ap (λ (o : Option Text). unwrap_or o []) (sym first ∙ h) in
-      let yes : bytes_eq name (codes "tso") ≡ true = (bytes_eq-Decides name (codes "tso")).1 is in
-      cc
-])
+model_other f name first holds other = search (first_value-rows, codes, bytes_eq-Decides, rules)

@@ -1,4 +1,6 @@
 -- After a parse, an option with a default has a text that its parser takes.
+use Rattle.std.proofs.lemmas.Grind.{common_steps}
+use Rattle.std.proofs.Common.{rules}
 use Rattle.std.proofs.Common.{◌≡◌, ◌⊎◌, ◌∙◌, ◌<◌, ◌≤◌, ℕ, true, List, [], ◌∷◌, length, map, Option, Some, None}
 use Rattle.std.proofs.Common.{sym, ap, subst, inl, inr, arith, codes}
 use Rattle.std.specs.List.{slice_index_or}
@@ -46,8 +48,7 @@ only_place : (c : Command) (rules : List Rule) (k : ℕ) (r : Rule) → rules_of
 only_place c rules k r same sole j e low eq =
     let count : length (args_of c) ≡ length rules = sym (length-map (args_of c) rule_of) ∙ ap length same in
     let inside : j < length rules = subst (λ (n : ℕ). j < n) count low in
-    let within : j < length (ids_of rules) =
-    subst (λ (n : ℕ). j < n) (sym (length-map rules (λ (x : Rule). x.id))) inside in
+    let within : j < length (ids_of rules) = grind (arith, common_steps) in
     let there : (slice_index_or (args_of c) j e).id.now ≡ slice_index_or (ids_of rules) j r.id =
     ap (λ (x : Rule). x.id) (rule_at c rules j e r same low)
     ∙ sym (get_or-map (λ (x : Rule). x.id) rules j r r.id inside) in

@@ -1,9 +1,10 @@
 -- Ids and rules at the places of a command's arguments.
-use Rattle.std.proofs.Common.{◌≡◌, ◌∙◌, ◌<◌, ◌&&◌, zero, suc, ℕ, Bool, true, false, not, List, [], ◌∷◌, length}
-use Rattle.std.proofs.Common.{refl, sym, ap, arith}
+use Rattle.std.proofs.lemmas.Grind.{common_steps}
+use Rattle.std.proofs.Common.{rules}
+use Rattle.std.proofs.Common.{◌≡◌, ◌<◌, ◌&&◌, zero, suc, ℕ, Bool, true, false, not, List, [], ◌∷◌, length}
+use Rattle.std.proofs.Common.{refl, ap, arith}
 use Rattle.std.specs.List.{slice_index_or}
 use Rattle.std.specs.Str.{bytes_eq}
-use Rattle.std.proofs.lemmas.List.{get_or-map}
 use Rattle.clap.specs.Facts.{args_of}
 use Rattle.clap.specs.Walk.{Rule, Text, rule_of, rules_of}
 use Rattle.clap.specs.declared.builder.arg.Arg.{Arg}
@@ -49,5 +50,4 @@ sole_place id (suc k) (x ∷ xs) (suc j) d h lt same =
 -- the rule of the argument at a place
 pub rule_at : (c : Command) (rules : List Rule) (k : ℕ) (d : Arg) (r : Rule) → rules_of c ≡ rules
     → k < length (args_of c) → rule_of (slice_index_or (args_of c) k d) ≡ slice_index_or rules k r
-rule_at c rules k d r same lt =
-    sym (get_or-map rule_of (args_of c) k d r lt) ∙ ap (λ (rs : List Rule). slice_index_or rs k r) same
+rule_at c rules k d r same lt = grind (arith, common_steps)

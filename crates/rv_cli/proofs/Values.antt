@@ -1,6 +1,8 @@
 -- What a parse of the program's command gives.
-use Rattle.std.proofs.Common.{◌≡◌, ◌⊎◌, ◌∙◌, ◌||◌, Bool, true, false, List, [], ◌∷◌, Some, Result, Ok, Err}
-use Rattle.std.proofs.Common.{refl, sym, ap, inl, inr, arith, codes}
+use Rattle.std.proofs.lemmas.Grind.{common_steps}
+use Rattle.std.proofs.Common.{rules}
+use Rattle.std.proofs.Common.{◌≡◌, ◌⊎◌, ◌∙◌, ◌||◌, true, false, List, [], ◌∷◌, Some, Result, Ok, Err}
+use Rattle.std.proofs.Common.{refl, ap, inl, inr, arith, codes}
 use Rattle.std.specs.Prelude.{pos, IfOk, IsErrAnd}
 use Rattle.std.specs.Borrow.{Bor}
 use Rattle.std.specs.List.{list_all, list_any}
@@ -10,7 +12,7 @@ use Rattle.clap.specs.Built.{IsParsedFrom}
 use Rattle.clap.specs.Faults.{fault_of, is_simple_and_free}
 use Rattle.clap.specs.Kinds.{FailsBy}
 use Rattle.clap.specs.Matches.{found_of}
-use Rattle.clap.specs.Simple.{App, HasMatchesOf, IsSimple, app_of, is_ready, is_simple, is_ready_leaf}
+use Rattle.clap.specs.Simple.{App, HasMatchesOf, IsSimple, app_of, is_simple}
 use Rattle.clap.specs.Values.{kind_of}
 use Rattle.clap.specs.Walk.{Text, rules_of, texts}
 use Rattle.clap.specs.declared.builder.command.Command.{Command}
@@ -31,45 +33,15 @@ other_text a b differs same = let equal = (bytes_eq-Decides a b).1 same in cc
 
 workers_option : (names : Names) → IsOption (app_over names).top.rules 0 (parser.Signed (pos 1) (pos 24)) workers_rule
 unfolding has_none has_one
-workers_option names = record {
-  at = refl;
-  below = omega arith;
-  sole = refl;
-  named = other_text _ _ refl;
-  own = λ e. elim e [ inl h ↦ other_text _ _ refl h | inr h ↦ other_text _ _ refl h ];
-  action = refl;
-  range = refl;
-  defaults = omega arith;
-  parser = refl;
-}
+workers_option names = grind (arith, common_steps)
 
 slots_option : (names : Names) → IsOption (app_over names).top.rules 1 (parser.Signed (pos 2) (pos 16)) slots_rule
 unfolding has_none has_one
-slots_option names = record {
-  at = refl;
-  below = omega arith;
-  sole = refl;
-  named = other_text _ _ refl;
-  own = λ e. elim e [ inl h ↦ other_text _ _ refl h | inr h ↦ other_text _ _ refl h ];
-  action = refl;
-  range = refl;
-  defaults = omega arith;
-  parser = refl;
-}
+slots_option names = grind (arith, common_steps)
 
 model_option : (names : Names) → IsOption (app_over names).top.rules 2 (parser.Names names) (model_rule names)
 unfolding has_none has_one
-model_option names = record {
-  at = refl;
-  below = omega arith;
-  sole = refl;
-  named = other_text _ _ refl;
-  own = λ e. elim e [ inl h ↦ other_text _ _ refl h | inr h ↦ other_text _ _ refl h ];
-  action = refl;
-  range = refl;
-  defaults = omega arith;
-  parser = refl;
-}
+model_option names = grind (arith, common_steps)
 
 -- ---- one of two names
 
@@ -79,24 +51,16 @@ any_text text [] = refl
 any_text text (x ∷ xs) = rw (any_text text xs) refl
 
 one_of_two : (a b text : Text) → (bytes_eq a text || (bytes_eq b text || false)) ≡ true → (text ≡ a) ⊎ (text ≡ b)
-one_of_two a b text h = go (bytes_eq a text) (bytes_eq b text) refl refl h
-  where
-    go : (s t : Bool) → bytes_eq a text ≡ s → bytes_eq b text ≡ t → (s || (t || false)) ≡ true → (text ≡ a) ⊎ (text ≡ b)
-    go true t is_a is_b e = inl (sym ((bytes_eq-Decides a text).0 is_a))
-    go false true is_a is_b e = inr (sym ((bytes_eq-Decides b text).0 is_b))
-    go false false is_a is_b e = cc
+one_of_two a b text h = search (bytes_eq-Decides, rules)
 
 model_text : (names : Names) (text : Text) → ListsModels names → list_any (λ x. bytes_eq x.now text) names.now ≡ true
     → (text ≡ codes "rvwmo") ⊎ (text ≡ codes "tso")
-model_text names text lists taken =
-    let listed = ap (list_any (λ t. bytes_eq t text)) (sym lists) ∙ sym (any_text text names.now) in
-    one_of_two (codes "rvwmo") (codes "tso") text (listed ∙ taken)
+model_text names text lists taken = search (any_text, one_of_two, codes, rules)
 
 -- ---- the parse
 
 simple_command : (names : Names) (c : Command) → app_of c ≡ app_over names → IsSimple c
-simple_command names c is =
-    ready_simple c (ap (λ (app : App). is_ready app.top) is) (ap (λ (app : App). list_all is_ready_leaf app.subs) is)
+simple_command names c is = search (ready_simple, rules)
 
 values_held : (names : Names) (c : Command) (m : ArgMatches) → ListsModels names → app_of c ≡ app_over names
     → IsParsedFrom c m → HoldsValues (found_of m)

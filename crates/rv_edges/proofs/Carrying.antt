@@ -1,12 +1,12 @@
 -- In a history kept links are edges, and cover every edge.
+use Rattle.std.proofs.lemmas.Grind.{common_steps}
+use Rattle.std.proofs.Common.{rules}
 use Rattle.std.proofs.Common.{◌≡◌, List, [], ◌∷◌, ◌++◌, length, ◌⊎◌, inl, inr, refl, sym, ap, ◌∙◌, arith}
 use Rattle.std.proofs.Common.{subst, append_assoc, append-nil, length-append}
 use Rattle.std.proofs.lemmas.List.{map-append}
-use Rattle.std.proofs.lemmas.List.Elements.{Contains-push_cases}
-use Rattle.std.proofs.lemmas.Option.{none-some}
 use Rattle.rv_event.proofs.Indexed.{Indexed, AllSound, indexed-all, indexed-nil, indexed-push, sound_of}
 use Rattle.rv_event.proofs.Pushed.{split_push}
-use Rattle.rv_event.proofs.Growing.{Any-contains, Any-from_contains, IsEdge-grows}
+use Rattle.rv_event.proofs.Growing.{Any-from_contains, IsEdge-grows}
 use Rattle.rv_event.proofs.Settled.{grows-push}
 use Rattle.rv_event.specs.Edges.{IsEdge}
 use Rattle.rv_event.specs.declared.event.Id.{Id}
@@ -19,7 +19,7 @@ use Rattle.rv_edges.specs.Kept.{Kept, kept_from, happened, grown, Joins, IsKept,
 use Rattle.rv_cover.specs.Laws.{Either}
 use Rattle.rv_edges.specs.Histories.{Joined, IsHistory, IsCarried}
 use Rattle.rv_cover.proofs.Covering.{covered, path-map}
-use Rattle.rv_edges.proofs.Listed.{Contains-old, Contains-last, Contains-none}
+use Rattle.rv_edges.proofs.Listed.{Contains-last}
 use Rattle.rv_edges.proofs.Sides.{kept_one, kept_from-push}
 
 -- the events of a history with one more
@@ -42,9 +42,7 @@ module _ (model : MemoryModel) where
   indexed_from_IsHistory h ok = indexed-all [] (happened h) indexed-nil (all_sound h [] h ok refl)
 
   IsKept-old : (h : List Kept) (k : Kept) (i j : Id) (r : Reason) → IsKept h i r j → IsKept (h ++ k ∷ []) i r j
-  IsKept-old h k i j r any =
-      let a = Any-contains (λ x. Joins x i r j) h any in
-      Any-from_contains (λ x. Joins x i r j) (h ++ k ∷ []) a.0 (Contains-old h k a.0 a.1) a.2
+  IsKept-old h k i j r any = grind (arith, common_steps)
 
   IsKept-new : (h : List Kept) (k : Kept) (i j : Id) (r : Reason) → Joins k i r j → IsKept (h ++ k ∷ []) i r j
   IsKept-new h k i j r is = Any-from_contains (λ x. Joins x i r j) (h ++ k ∷ []) k (Contains-last h k) is
@@ -52,12 +50,7 @@ module _ (model : MemoryModel) where
   -- a kept link is an old one or one of the new event
   pub IsKept-cases : (h : List Kept) (k : Kept) (i j : Id) (r : Reason) → IsKept (h ++ k ∷ []) i r j → IsKept h i r j ⊎
       Joins k i r j
-  IsKept-cases h k i j r any =
-      let a = Any-contains (λ x. Joins x i r j) (h ++ k ∷ []) any in
-      elim (Contains-push_cases h k a.0 a.1) [
-        | inl old ↦ inl (Any-from_contains (λ x. Joins x i r j) h a.0 old a.2)
-        | inr is ↦ inr (subst (λ (x : Kept). Joins x i r j) (sym is) a.2)
-      ]
+  IsKept-cases h k i j r any = grind (arith, common_steps)
 
   either_tied : (h : List Kept) (k : Kept) (i j : Id) → Either (IsTied h) (Ties k) i j → IsTied (h ++ k ∷ []) i j
   either_tied h k i j (inl t) = (t.0, IsKept-old h k i j t.0 t.1)
@@ -90,14 +83,10 @@ module _ (model : MemoryModel) where
       }
 
   IsCarried-nil : IsCarried model []
-  IsCarried-nil = record {
-    true_edges = λ i j r e. absurd (Contains-none _ (Any-contains (λ x. Joins x i r j) [] e).1);
-    covered = λ i j r n e. absurd (none-some e.a e.from_named);
-  }
+  IsCarried-nil = grind (arith, common_steps)
 
   IsHistory-part : (before rest : List Kept) → IsHistory model (before ++ rest) → IsHistory model before
-  IsHistory-part before rest ok b a k e =
-      ok b (a ++ rest) k (ap (λ (l : List Kept). l ++ rest) e ∙ append_assoc b (k ∷ a) rest)
+  IsHistory-part before rest ok b a k e = grind (arith, common_steps)
 
   carried_all : (before rest : List Kept) → IsHistory model (before ++ rest) → IsCarried model before →
       IsCarried model (before ++ rest)
@@ -118,11 +107,7 @@ module _ (model : MemoryModel) where
 
   -- an event that joins it leaves it one
   pub IsHistory-push : (h : List Kept) (k : Kept) → IsHistory model h → Joined model h k → IsHistory model (h ++ k ∷ [])
-  IsHistory-push h k ok joined before after y e = go (split_push h k before after y e)
-    where
-      go : ((h ≡ before) × (k ≡ y)) ⊎ ((rest : List Kept) × (h ≡ before ++ y ∷ rest)) → Joined model before y
-      go (inl (s, t)) = subst (λ (l : List Kept). Joined model l y) s (subst (λ (z : Kept). Joined model h z) t joined)
-      go (inr (rest, s)) = ok before rest y s
+  IsHistory-push h k ok joined before after y e = search (split_push, rules)
 
   -- and so does taking the last one off
   pub IsHistory-front : (h : List Kept) (k : Kept) → IsHistory model (h ++ k ∷ []) → IsHistory model h
@@ -136,9 +121,7 @@ module _ (model : MemoryModel) where
       (length new ≡ length more) × IsHistory model (kept_from new more) ×
       (kept_from new more ≡ kept_from xs ls ++ k ∷ [])
   pushed_sides xs new ls more x l k same ok joined is e f =
-      let cut : kept_from new more ≡ kept_from xs ls ++ k ∷ [] =
-      ap (λ (zs : List Event). kept_from zs more) e ∙ ap (kept_from (xs ++ x ∷ [])) f ∙ kept_from-push xs ls x l same
-      ∙ ap (λ (z : Kept). kept_from xs ls ++ z ∷ []) is in (
+      let cut : kept_from new more ≡ kept_from xs ls ++ k ∷ [] = search (kept_from-push, rules) in (
         omega (arith, same, ap length e, ap length f, length-append xs (x ∷ []), length-append ls (l ∷ [])),
         subst (IsHistory model) (sym cut) (IsHistory-push (kept_from xs ls) k ok joined),
         cut,

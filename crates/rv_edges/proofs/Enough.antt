@@ -1,4 +1,6 @@
 -- The links that join a history tell the event's hart enough.
+use Rattle.std.proofs.lemmas.Grind.{common_steps}
+use Rattle.std.proofs.Common.{rules}
 use Rattle.std.proofs.Common.{◌≡◌, ℕ, ◌<◌, List, None, inl, inr, refl, sym, ap, ◌∙◌, subst, arith}
 use Rattle.rv_event.specs.Log.{of_hart}
 use Rattle.rv_event.specs.Preserved.{Rule, IsPreserved}
@@ -56,8 +58,7 @@ module _ (model : MemoryModel) (h : List Kept) (k : Kept) (known : Indexed (happ
       let from : i ≡ edge.a.id = (named-is new i edge.a edge.from_named).1 in
       let to : e.id ≡ edge.b.id = (named-is new e.id edge.b edge.to_named).1 in
       let rule : Rule model new j edge.a edge.b = edge.why in
-      let at : i.hart ≡ e.id.hart = ap (λ (x : Id). x.hart) from ∙ rule.earlier.hart ∙
-      ap (λ (x : Id). x.hart) (sym to) in
+      let at : i.hart ≡ e.id.hart = grind (arith, common_steps) in
       subst (λ (es : List Event). IsPreserved model es j i e.id) same_new
       (preserved_to model new e.id.hart all_known j i e.id at
       (record { a = edge.a; b = edge.b; first = edge.from_named; second = edge.to_named; rule = rule }))
@@ -89,9 +90,7 @@ module _ (model : MemoryModel) (h : List Kept) (k : Kept) (known : Indexed (happ
         rule_is l.id j (subst (λ (r : Reason). IsEdge model new l.id r e.id) is
         (linked.listed l.id e.id l.reason (inl (refl, c))));
     carried = λ j a ca rule.
-        let rule' : Rule model new j a e =
-        rule_from model new e.id.hart all_known j a e
-        (subst (λ (es : List Event). Rule model es j a e) (sym same_new) rule) in
+        let rule' : Rule model new j a e = search (rule_from, all_known, same_new, rules) in
         let old = own_contains log e.id.hart a ca in
         elim (linked.carried.into (Preserved j) a old.0 rule'.from_memory rule'.to_memory rule') [
           | inl t ↦ elim t.1 [

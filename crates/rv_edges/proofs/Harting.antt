@@ -1,7 +1,8 @@
 -- What a hart says of a new event, over the log.
-use Rattle.std.proofs.Common.{◌≡◌, ◌≢◌, ◌<◌, List, [], ◌∷◌, ◌++◌, Contains, None, Some, inl, inr, sym, ap}
+use Rattle.std.proofs.lemmas.Grind.{common_steps}
+use Rattle.std.proofs.Common.{rules}
+use Rattle.std.proofs.Common.{◌≡◌, ◌≢◌, ◌<◌, List, [], ◌∷◌, ◌++◌, Contains, None, Some, sym, ap}
 use Rattle.std.proofs.Common.{◌∙◌, subst, arith}
-use Rattle.std.proofs.lemmas.List.Elements.{Contains-push_cases}
 use Rattle.std.proofs.lemmas.Option.{none-some}
 use Rattle.rv_event.specs.Operations.{IsLoad}
 use Rattle.rv_event.specs.Log.{of_hart, writer}
@@ -14,13 +15,11 @@ use Rattle.rv_event.specs.declared.event.Id.{Id}
 use Rattle.rv_event.specs.declared.event.Event.{Event}
 use Rattle.rv_event.specs.declared.memory_model.MemoryModel.{MemoryModel}
 use Rattle.rv_event.specs.declared.reason.Link.{Link}
-use Rattle.rv_event.specs.declared.reason.Reason.TheVariants.{Preserved}
 use Rattle.rv_hart.specs.Harts.{Hart, followed, IsReturned}
 use Rattle.rv_hart.specs.RuleLinks.{AreRuleLinks}
 use Rattle.rv_hart.proofs.OfHart.{own_contains, contains_own, own-push, paired_to, paired_from, stale_to, stale_from}
 use Rattle.rv_versions.specs.Reserved.{IsPartner}
 use Rattle.rv_edges.specs.Indexes.{hart_from}
-use Rattle.rv_edges.proofs.Listed.{Contains-none}
 
 module _ (model : MemoryModel) (log : List Event) (e : Event) (known : Indexed log)
     (sound : event_fault log e ≡ None) where
@@ -44,8 +43,7 @@ module _ (model : MemoryModel) (log : List Event) (e : Event) (known : Indexed l
       let f = own_contains log e.id.hart lr c in
       record {
         of_log = f.0;
-        paired = paired_from model new e.id.hart known' lr e f.1
-            (subst (λ (es : List Event). Paired es lr e) (sym own-new) p);
+        paired = search (paired_from, known', own-new);
       }
 
   -- and the other way round
@@ -57,19 +55,14 @@ module _ (model : MemoryModel) (log : List Event) (e : Event) (known : Indexed l
 
   -- a stale pair of the hart is one of the log
   pub stale_is : (s : Id) → IsStale (followed own e) e.id s → IsStale new e.id s
-  stale_is s p = stale_from model new e.id.hart known' e.id s
-      (subst (λ (es : List Event). IsStale es e.id s) (sym own-new) p)
+  stale_is s p = search (stale_from, known', own-new, rules)
 
   -- and the other way round
   pub stale_was : (s : Id) → IsStale new e.id s → IsStale (followed own e) e.id s
-  stale_was s p = subst (λ (es : List Event). IsStale es e.id s) own-new
-      (stale_to model new e.id.hart known' e.id s (λ i. e.id.hart) p)
+  stale_was s p = search (own-new, stale_to, known', rules)
 
   one_of : (a : Event) → own.events ≡ [] → Contains (followed own e) a → e ≡ a
-  one_of a none c = elim (Contains-push_cases own.events e a c) [
-    | inl old ↦ absurd (Contains-none a (subst (λ (es : List Event). Contains es a) none old))
-    | inr is ↦ is
-  ]
+  one_of a none c = grind (arith, common_steps)
 
   -- a hart without events has no store that makes a load stale, and no link
   pub none_stale_of : own.events ≡ [] → (s : Id) → IsStale new e.id s → ⊥
@@ -83,15 +76,7 @@ module _ (model : MemoryModel) (log : List Event) (e : Event) (known : Indexed l
 
   -- a hart without events asks for no links
   pub none_linked : own.events ≡ [] → (links : List Link) → links ≡ [] → AreRuleLinks own e links
-  none_linked none links is =
-      let no : (l : Link) → Contains links l → ⊥ =
-      λ l c. Contains-none l (subst (λ (ls : List Link). Contains ls l) is c) in
-      record {
-        rules = λ l c. absurd (no l c);
-        lowest = λ l c. absurd (no l c);
-        carried = λ k a c r. absurd (Contains-none a (subst (λ (es : List Event). Contains es a) none c));
-        unsplit = λ k a c of of' l r s. absurd (no (record { id = a.id; reason = Preserved k }) l);
-      }
+  none_linked none links is = grind (arith, common_steps)
 
 -- the own store that the event returns, from the writer of what it returned
 module _ (model : MemoryModel) (log : List Event) (e : Event) (known : Indexed log) where
@@ -124,6 +109,5 @@ module _ (model : MemoryModel) (log : List Event) (e : Event) (known : Indexed l
   returned_other w is other x s =
       let c = own_contains log e.id.hart x s.of_hart in
       let has : writer log x.word x.wrote ≡ Some x = known.written x c.0 s.store in
-      let same : writer log e.word e.read ≡ Some x = ap (λ y. writer log y e.read) s.returns.word ∙
-      ap (λ v. writer log x.word v) s.returns.version ∙ has in
+      let same : writer log e.word e.read ≡ Some x = grind (arith, common_steps) in
       other (ap (λ (y : Event). y.id.hart) (Rattle.std.proofs.lemmas.Option.same_Some w x (sym is ∙ same)) ∙ c.1)

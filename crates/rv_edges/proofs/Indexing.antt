@@ -1,7 +1,8 @@
 -- What the indexes of a history say of its events.
+use Rattle.std.proofs.Common.{rules}
 use Rattle.std.proofs.Common.{◌≡◌, ℕ, ◌≤◌, List, length, None, subst, sym, ap, ◌∙◌, arith}
 use Rattle.std.proofs.lemmas.List.{length-map}
-use Rattle.rv_event.specs.Log.{events, of_hart}
+use Rattle.rv_event.specs.Log.{events}
 use Rattle.rv_event.specs.Faults.{event_fault}
 use Rattle.rv_event.proofs.Indexed.{Indexed}
 use Rattle.rv_event.proofs.Bounded.{length-Indexed}
@@ -12,7 +13,7 @@ use Rattle.rv_hart.specs.Harts.{Hart, Follows}
 use Rattle.rv_hart.proofs.OfHart.{fault_own}
 use Rattle.rv_edges.specs.OwnLinks.{OwnLinks}
 use Rattle.rv_edges.specs.Kept.{Past, kept_from, happened}
-use Rattle.rv_edges.specs.Indexes.{AreIndexes, hart_of, hart_from, hart_in}
+use Rattle.rv_edges.specs.Indexes.{AreIndexes, hart_of, hart_in}
 use Rattle.rv_edges.proofs.Carrying.{indexed_from_IsHistory}
 use Rattle.rv_edges.proofs.Sides.{happened-kept_from}
 
@@ -51,13 +52,7 @@ module _ (model : MemoryModel) (entries : List Entry) (harts : List Hart) (links
 
     -- the hart of a number, as the past has it
     pub hart-is : (h : ℕ) → hart_of model harts h ≡ hart_in past h
-    hart-is h = known.own h ∙ ap (hart_from model log) refl-number ∙ same
-      where
-        refl-number : h ≡ h
-        refl-number = λ i. h
-
-        same : hart_from model log h ≡ hart_in past h
-        same = λ i. record { model = (view i).model; number = h; events = of_hart h (log-is i) }
+    hart-is h = search (log-is, rules)
 
 -- an event that may join the log may follow its hart's events
 pub follows : (past : Past) (e : Event) → event_fault (happened past.kept) e ≡ None → Follows (hart_in past e.id.hart) e

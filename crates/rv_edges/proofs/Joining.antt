@@ -1,4 +1,6 @@
 -- The links by rules and those by versions are together as a history wants them.
+use Rattle.std.proofs.Common.{rules}
+use Rattle.std.proofs.lemmas.Grind.{common_steps}
 use Rattle.std.proofs.Common.{◌≡◌, ◌≢◌, ℕ, ◌<◌, Bool, true, false, List, [], ◌∷◌, ◌++◌, Contains, None}
 use Rattle.std.proofs.Common.{length, ◌⊎◌, inl, inr, refl, sym, ap, ◌∙◌, subst, arith}
 use Rattle.std.proofs.lemmas.Bool.{false≢true}
@@ -55,12 +57,7 @@ kinds AtomicOut = inr (of_versions AtomicOut refl)
 -- what is no rule is the lowest for want of another
 lowest_of_versions : (model : MemoryModel) (log : List Event) (i : Id) (reason : Reason) (j : Id) →
     IsOfVersions reason → IsLowest model log i reason j
-lowest_of_versions model log i (Preserved k) j plain = absurd (plain k refl)
-lowest_of_versions model log i Coherence j plain = tt
-lowest_of_versions model log i ReadsFrom j plain = tt
-lowest_of_versions model log i FromRead j plain = tt
-lowest_of_versions model log i AtomicIn j plain = tt
-lowest_of_versions model log i AtomicOut j plain = tt
+lowest_of_versions model log i reason j h = grind (arith, common_steps)
 
 module _ (model : MemoryModel) (log : List Event) (e : Event) (known : Indexed log) (sound : event_fault log e ≡ None)
     (rules others before after : List Link)
@@ -88,8 +85,7 @@ module _ (model : MemoryModel) (log : List Event) (e : Event) (known : Indexed l
   sides l c = Contains-append_cases rules others l (subst (λ (ls : List Link). Contains ls l) joined c)
 
   preserved_is : (k : ℕ) (i : Id) → IsPreserved model (followed own e) k i e.id → IsPreserved model new k i e.id
-  preserved_is k i p = preserved_from model new e.id.hart all_known k i e.id
-      (subst (λ (es : List Event). IsPreserved model es k i e.id) (sym same_new) p)
+  preserved_is k i p = grind (arith, common_steps, preserved_from, all_known, same_new)
 
   -- a link by a rule names an earlier event of the hart
   hart_of_link : (l : Link) → Contains rules l → l.id.hart ≡ e.id.hart
@@ -132,9 +128,7 @@ module _ (model : MemoryModel) (log : List Event) (e : Event) (known : Indexed l
     | inl r ↦ (
         let p = (by_rules.rules l r).preserved in
         let less : p.a.id.seq < p.b.id.seq = p.rule.earlier.seq in
-        let at : p.a.id.seq ≡ p.b.id.seq =
-        ap (λ (i : Id). i.seq) (sym (named-is (followed own e) l.id p.a p.first).1 ∙ same ∙
-        (named-is (followed own e) e.id p.b p.second).1) in
+        let at : p.a.id.seq ≡ p.b.id.seq = grind (arith, common_steps) in
         omega (arith, less, at))
     | inr v ↦ by_versions.other_before l v same
   ]
@@ -186,8 +180,7 @@ module _ (model : MemoryModel) (log : List Event) (e : Event) (known : Indexed l
   none_after k b cb r =
       let less : e.id.seq < b.id.seq = r.earlier.seq in
       let low : b.id.seq < length (of_hart b.id.hart log) = known.below b cb in
-      let low' : b.id.seq < length (of_hart e.id.hart log) = subst (λ (h : ℕ). b.id.seq < length (of_hart h log))
-      (sym r.earlier.hart) low in
+      let low' : b.id.seq < length (of_hart e.id.hart log) = grind (arith, common_steps) in
       let at : e.id.seq ≡ length (of_hart e.id.hart log) = (sound_of log e sound).seq in
       omega (arith, less, low', at)
 

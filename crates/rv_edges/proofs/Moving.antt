@@ -1,10 +1,10 @@
 -- The harts of a history when an event comes or goes.
-use Rattle.std.proofs.Common.{◌≡◌, ◌≢◌, ℕ, ◌-◌, ◌<◌, ◌≤◌, ◌==◌, Bool, false, cond, List, [], ◌∷◌, ◌++◌}
-use Rattle.std.proofs.Common.{length, Some, ◌⊎◌, inl, inr, refl, sym, ap, ◌∙◌, subst, arith, slice_set}
-use Rattle.std.proofs.Common.{slice_get, slice_index_or, length-append, append-nil, get_or}
-use Rattle.std.proofs.lemmas.Bool.{cases_eq, cases_lt, ne_eqb}
-use Rattle.std.proofs.lemmas.List.{get_or-set_same, get_or-set_other, get_or_default, get_or_past, map-append}
-use Rattle.std.proofs.lemmas.List.Elements.{filter-append}
+use Rattle.std.proofs.lemmas.Grind.{common_steps}
+use Rattle.std.proofs.Common.{◌≡◌, ◌≢◌, ℕ, ◌-◌, ◌<◌, ◌≤◌, List, [], ◌∷◌, ◌++◌}
+use Rattle.std.proofs.Common.{length, Some, ◌⊎◌, inl, inr, refl, sym, ap, ◌∙◌, arith, slice_set}
+use Rattle.std.proofs.Common.{slice_get, slice_index_or, length-append, get_or}
+use Rattle.std.proofs.lemmas.Bool.{cases_lt}
+use Rattle.std.proofs.lemmas.List.{get_or_past, map-append}
 use Rattle.std.proofs.lemmas.Option.{get_or_from_slice_get}
 use Rattle.std.proofs.Math.Seq.{get_or-append_seam}
 use Rattle.rv_event.specs.Log.{events, of_hart}
@@ -17,11 +17,7 @@ use Rattle.rv_edges.specs.Indexes.{hart_of, hart_from}
 
 -- another hart's events stay
 other-push : (log : List Event) (e : Event) (h : ℕ) → h ≢ e.id.hart → of_hart h (log ++ e ∷ []) ≡ of_hart h log
-other-push log e h other =
-    let p : Event → Bool = λ x. h == x.id.hart in
-    let out : (b : Bool) → b ≡ false → cond b (e ∷ []) [] ≡ [] = λ b t. rw t in
-    filter-append p log (e ∷ []) ∙ ap (λ (ys : List Event). of_hart h log ++ ys)
-    (out (h == e.id.hart) (ne_eqb h e.id.hart other)) ∙ append-nil (of_hart h log)
+other-push log e h other = grind (arith, common_steps)
 
 module _ (model : MemoryModel) (log log' : List Event) (harts : List Hart) (n : ℕ) (x : Hart)
     (own : (h : ℕ) → hart_of model harts h ≡ hart_from model log h)
@@ -29,15 +25,7 @@ module _ (model : MemoryModel) (log log' : List Event) (harts : List Hart) (n : 
     (others : (h : ℕ) → h ≢ n → of_hart h log ≡ of_hart h log') where
   -- one hart changes, and the log in its events alone
   pub harts-set : (h : ℕ) → hart_of model (slice_set harts n x) h ≡ hart_from model log' h
-  harts-set h = go (cases_eq h n)
-    where
-      go : (h ≡ n) ⊎ (h ≡ n → ⊥) → hart_of model (slice_set harts n x) h ≡ hart_from model log' h
-      go (inl same) =
-          subst (λ (m : ℕ). hart_of model (slice_set harts n x) m ≡ hart_from model log' m) (sym same)
-          (get_or-set_same harts n x (record { model = model; number = n; events = [] }) within ∙ is)
-      go (inr other) =
-          get_or-set_other harts n h x (record { model = model; number = h; events = [] }) other ∙ own h
-          ∙ ap (λ (es : List Event). record { model = model; number = h; events = es }) (others h other)
+  harts-set h = grind (arith, common_steps)
 
 -- the hart of the event has it, and the others stay
 pub harts-push :
@@ -46,16 +34,7 @@ pub harts-push :
     e.id.hart < length harts → log' ≡ log ++ e ∷ [] → was ≡ slice_index_or harts e.id.hart was →
     is ≡ hart_with was e → (h : ℕ) →
     hart_of model (slice_set harts e.id.hart is) h ≡ hart_from model log' h
-harts-push model log log' harts e was is own within grown at with_e =
-    let n = e.id.hart in
-    let here : was ≡ hart_from model log n =
-    at ∙ get_or_default harts n was (record { model = model; number = n; events = [] }) within ∙ own n in
-    let more : is ≡ hart_from model log' n =
-    with_e ∙ ap (λ (x : Hart). hart_with x e) here
-    ∙ ap (λ (es : List Event). record { model = model; number = n; events = es })
-    (sym (own-push log e n refl) ∙ ap (of_hart n) (sym grown)) in
-    harts-set model log log' harts n is own within more (λ h other. sym (other-push log e h other) ∙
-    ap (of_hart h) (sym grown))
+harts-push model log log' harts e was is own within grown at with_e = grind (arith, common_steps)
 
 not_both : {X : Type 0} (xs : List X) (y : X) → xs ++ y ∷ [] ≡ [] → ⊥
 not_both xs y e = omega (arith, ap length e, length-append xs (y ∷ []))
@@ -84,8 +63,7 @@ pub last-of_hart :
 last-of_hart model front harts e was own at =
     let n = e.id.hart in
     let within = reaches-to_hart model front harts e own in
-    let here : was ≡ hart_from model (front ++ e ∷ []) n =
-    at ∙ get_or_default harts n was (record { model = model; number = n; events = [] }) within ∙ own n in (
+    let here : was ≡ hart_from model (front ++ e ∷ []) n = grind (arith, common_steps) in (
       ap (λ (x : Hart). x.model) here,
       ap (λ (x : Hart). x.number) here,
       ap (λ (x : Hart). x.events) here ∙
@@ -104,13 +82,7 @@ pub harts-pop :
     ((xs : List Event) (y : Event) → was.events ≡ xs ++ y ∷ [] → is.events ≡ xs) →
     (h : ℕ) → hart_of model (slice_set harts e.id.hart is) h ≡ hart_from model front h
 harts-pop model front harts e was is own at same_model same_number popped =
-    let n = e.id.hart in
-    let within = reaches-to_hart model front harts e own in
-    let l = last-of_hart model front harts e was own at in
-    let less : is.events ≡ of_hart n front = popped (of_hart n front) e l.2 in
-    let more : is ≡ hart_from model front n =
-    λ i. record { model = (same_model ∙ l.0) i; number = (same_number ∙ l.1) i; events = less i } in
-    harts-set model (front ++ e ∷ []) front harts n is own within more (λ h other. other-push front e h other)
+    grind (arith, common_steps)
 
 -- the events of a log without its last entry
 pub events-pop : (log front : List Entry) (x : Entry) → log ≡ front ++ x ∷ [] →
@@ -130,13 +102,11 @@ pub own-front :
     (model : MemoryModel) (log front : List Entry) (harts : List Hart) (x : Entry) → log ≡ front ++ x ∷ [] →
     ((h : ℕ) → hart_of model harts h ≡ hart_from model (events log) h) →
     (h : ℕ) → hart_of model harts h ≡ hart_from model (events front ++ x.event ∷ []) h
-own-front model log front harts x is own h =
-    own h ∙ ap (λ (es : List Event). hart_from model es h) (events-pop log front x is)
+own-front model log front harts x is own h = grind (arith, common_steps)
 
 -- a hart that is found in a list which was made longer is the log's
 pub found-hart :
     (model : MemoryModel) (log : List Event) (harts : List Hart) (n : ℕ) (found : Hart) →
     ((h : ℕ) → hart_of model harts h ≡ hart_from model log h) → n < length harts →
     found ≡ slice_index_or harts n found → found ≡ hart_from model log n
-found-hart model log harts n found own within at =
-    at ∙ get_or_default harts n found (record { model = model; number = n; events = [] }) within ∙ own n
+found-hart model log harts n found own within at = grind (arith, common_steps)

@@ -1,6 +1,7 @@
 -- Links of events, in one list, when one event more comes or the last one goes.
+use Rattle.std.proofs.lemmas.Grind.{common_steps}
 use Rattle.std.proofs.Common.{◌≡◌, ℕ, ◌+◌, ◌-◌, ◌≤◌, List, [], ◌∷◌, ◌++◌, length, take, drop, sym, ap, ◌∙◌, arith}
-use Rattle.std.proofs.lemmas.List.{take-append-le, drop-append-le, take-append-drop, length-drop, length-take-le}
+use Rattle.std.proofs.lemmas.List.{length-drop, length-take-le}
 use Rattle.std.proofs.Math.Seq.{take-append_seam, drop-append_seam, take-length}
 use Rattle.rv_event.specs.declared.reason.Link.{Link}
 use Rattle.rv_edges.specs.declared.links.Sides.{Sides}
@@ -22,15 +23,7 @@ one links s = record { before = take s.before links; after = take s.after (drop 
 -- the first event's links are the same where more come behind
 one-append : (s : Sides) (links more : List Link) → s.before + s.after ≤ length links →
     one (links ++ more) s ≡ one links s
-one-append s links more few = λ i. record { before = front i; after = back i }
-  where
-    front : take s.before (links ++ more) ≡ take s.before links
-    front = take-append-le s.before links more (omega (arith, few))
-
-    back : take s.after (drop s.before (links ++ more)) ≡ take s.after (drop s.before links)
-    back =
-        ap (take s.after) (drop-append-le s.before links more (omega (arith, few)))
-        ∙ take-append-le s.after (drop s.before links) more (omega (arith, few, length-drop s.before links))
+one-append s links more few = grind (arith, common_steps)
 
 -- the links of one event more
 pub own_from-push :
@@ -57,9 +50,7 @@ own_from-push (s ∷ sides) links before after same =
     rest :
         own_from (drop (s.before + s.after) (links ++ (before ++ after))) (sides ++ sides_of before after ∷ [])
         ≡ own_from (drop (s.before + s.after) links ++ (before ++ after)) (sides ++ sides_of before after ∷ [])
-    rest =
-        ap (λ (ls : List Link). own_from ls (sides ++ sides_of before after ∷ []))
-        (drop-append-le (s.before + s.after) links (before ++ after) few)
+    rest = grind (arith, common_steps)
 
 -- the links without those of the last event
 module _ (sides : List Sides) (s : Sides) (links : List Link) (same : total (sides ++ s ∷ []) ≡ length links) where
@@ -95,9 +86,7 @@ module _ (sides : List Sides) (s : Sides) (links : List Link) (same : total (sid
       long_after = omega (arith, long, length-drop s.before back)
 
   parts : links ≡ front ++ (before ++ after)
-  parts =
-      sym (take-append-drop (length links - (s.before + s.after)) links)
-      ∙ ap (λ (ls : List Link). front ++ ls) (sym (take-append-drop s.before back))
+  parts = grind (arith, common_steps)
 
   -- the last event's own links are taken off
   pub own_from-pop : (own : OwnLinks) × (own_from links (sides ++ s ∷ []) ≡ own_from front sides ++ own ∷ [])

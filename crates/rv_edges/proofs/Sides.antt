@@ -1,7 +1,8 @@
 -- Entries and links side by side.
-use Rattle.std.proofs.Common.{◌≡◌, List, [], ◌∷◌, ◌++◌, length, ◌⊎◌}
-use Rattle.std.proofs.Common.{inl, inr, refl, sym, ap, ◌∙◌, arith, length-append}
-use Rattle.rv_event.proofs.Pushed.{split_push}
+use Rattle.std.proofs.Common.{rules}
+use Rattle.std.proofs.lemmas.Grind.{common_steps}
+use Rattle.std.proofs.Common.{◌≡◌, List, [], ◌∷◌, ◌++◌, length}
+use Rattle.std.proofs.Common.{refl, sym, ap, ◌∙◌, arith, length-append}
 use Rattle.rv_event.specs.declared.event.Event.{Event}
 use Rattle.rv_edges.specs.OwnLinks.{OwnLinks}
 use Rattle.rv_edges.specs.Kept.{Kept, kept_from, happened}
@@ -44,24 +45,12 @@ popped_sides xs ys ls ms x l same e f =
     record {
       lengths = lengths;
       last = kept_one x l;
-      cut = ap (λ (zs : List Event). kept_from zs ls) e ∙ ap (kept_from (ys ++ x ∷ [])) f ∙
-          kept_from-push ys ms x l lengths;
+      cut = search (kept_from-push, rules);
     }
 
 -- lists with one more at the end are equal where their fronts are
 pub same_front : {X : Type 0} (xs ys : List X) (x y : X) → xs ++ x ∷ [] ≡ ys ++ y ∷ [] → xs ≡ ys
-same_front {X} xs ys x y e = go (split_push xs x ys [] y e)
-  where
-    go : ((xs ≡ ys) × (x ≡ y)) ⊎ ((rest : List X) × (xs ≡ ys ++ y ∷ rest)) → xs ≡ ys
-    go (inl (s, t)) = s
-    go (inr (rest, s)) = absurd (omega (
-      arith,
-      ap length e,
-      ap length s,
-      length-append xs (x ∷ []),
-      length-append ys (y ∷ []),
-      length-append ys (y ∷ rest),
-    ))
+same_front {X} xs ys x y e = grind (arith, common_steps)
 
 -- nothing at all is a history
 pub no_sides : (xs : List Event) (ls : List OwnLinks) → xs ≡ [] → ls ≡ [] → (length xs ≡ length ls) ×

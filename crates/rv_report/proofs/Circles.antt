@@ -1,5 +1,6 @@
 -- The lines of a circle, one more at a time.
-use Rattle.std.proofs.Common.{◌≡◌, ◌∙◌, ◌∷◌, ℕ, List, [], ◌++◌, length, sym, append_assoc, arith}
+use Rattle.std.proofs.lemmas.Grind.{common_steps}
+use Rattle.std.proofs.Common.{◌≡◌, ◌∙◌, ◌∷◌, ℕ, List, [], ◌++◌, length, sym, arith}
 use Rattle.std.proofs.lemmas.List.{append-nil}
 use Rattle.rv_event.specs.declared.event.Id.{Id}
 use Rattle.rv_event.specs.declared.reason.Reason.{Reason}
@@ -12,8 +13,7 @@ pub edge_more : (start now next : List ℕ) (rest after all : List (Id × Reason
     → rest ≡ step ∷ after → to ≡ start_of after end → next ≡ now ++ edge_line step.0 step.1 to
     → next ++ edge_lines after end ≡ start ++ edge_lines all end
 unfolding edge_lines
-edge_more start now next rest after all step to end h e t n =
-    rw (n, t) (append_assoc now (edge_line step.0 step.1 (start_of after end)) (edge_lines after end) ∙ rw e at h)
+edge_more start now next rest after all step to end h e t n = grind (arith, common_steps)
 
 -- all its lines
 pub edges_done : (start now : List ℕ) (rest all : List (Id × Reason)) (first : Id × Reason)

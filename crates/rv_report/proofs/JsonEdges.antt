@@ -1,6 +1,7 @@
 -- The edges of a circle as JSON, one more at a time.
-use Rattle.std.proofs.Common.{◌≡◌, ◌∙◌, ◌∷◌, List, [], ◌++◌, length, refl, sym, append_assoc, arith, map}
-use Rattle.std.proofs.lemmas.List.{append-nil, map-append}
+use Rattle.std.proofs.lemmas.Grind.{common_steps}
+use Rattle.std.proofs.Common.{◌≡◌, ◌∙◌, ◌∷◌, List, [], ◌++◌, length, sym, arith, map}
+use Rattle.std.proofs.lemmas.List.{append-nil}
 use Rattle.serde_json.specs.View.{view}
 use Rattle.serde_json.specs.declared.value.Value.{Value}
 use Rattle.rv_event.specs.declared.event.Id.{Id}
@@ -15,10 +16,7 @@ pub data_more : (now next : List Value) (v : Value) (rest after all : List (Id �
     → rest ≡ step ∷ after → to ≡ start_of after end → view v ≡ edge_data step.0 step.1 to → next ≡ now ++ (v ∷ [])
     → map view next ++ walk_data after end ≡ walk_data all end
 unfolding walk_data
-data_more now next v rest after all step to end h e t w n =
-    let one : map view (v ∷ []) ≡ edge_data step.0 step.1 (start_of after end) ∷ [] = rw (w, t) refl in
-    rw (n, map-append view now (v ∷ []), one)
-    (append_assoc (map view now) (edge_data step.0 step.1 (start_of after end) ∷ []) (walk_data after end) ∙ rw e at h)
+data_more now next v rest after all step to end h e t w n = grind (arith, common_steps)
 
 -- all its edges
 pub data_done : (now : List Value) (rest all : List (Id × Reason)) (first : Id × Reason)

@@ -1,4 +1,5 @@
 -- The compact text of a report, byte by byte.
+use Rattle.std.proofs.Common.{rules}
 use Rattle.std.proofs.Common.{◌≡◌, ◌∙◌, ℕ, ◌∷◌, [], List, ◌++◌, Bool, true, false, refl, sym, ap, ap₂}
 use Rattle.std.proofs.Common.{append_assoc, codes}
 use Rattle.json.specs.Print.{escape}
@@ -6,18 +7,16 @@ use Rattle.serde_json.specs.Data.{Data, string, array, object, member, no_member
 use Rattle.serde_json.specs.View.{items_of}
 use Rattle.serde_json.specs.Written.{compact_text, items_text, comma_if, has_float, items_have_float}
 use Rattle.serde_json.proofs.OnLiterals.{serde_json_on_literals}
-use Rattle.rv_event.specs.Texts.{◌⋯◌, id_text, reason_text, fault_text, fault_number}
+use Rattle.rv_event.specs.Texts.{◌⋯◌, id_text, reason_text}
 use Rattle.rv_event.specs.declared.event.Id.{Id}
 use Rattle.rv_event.specs.declared.reason.Reason.{Reason}
 use Rattle.rv_cert.specs.declared.certificate.Certificate.{Certificate}
 use Rattle.rv_cert.specs.declared.certificate.Certificate.TheVariants as certificate
-use Rattle.rv_report.specs.Texts.{refused_text, accepted_count}
 use Rattle.rv_report.specs.Json.{allowed_json, forbidden_json, malformed_json, edge_json, stale_json}
 use Rattle.rv_report.specs.Json.{circle_json, walk_json, edges_json, certificate_json, json_text}
 use Rattle.rv_report.specs.JsonData.{whole_number, allowed_data, edge_data, walk_data, edges_data}
 use Rattle.rv_report.specs.JsonData.{circle_data, certificate_data, forbidden_data, report_data}
 use Rattle.rv_report.specs.declared.outcome.Outcome.{Outcome}
-use Rattle.rv_report.specs.declared.outcome.Outcome.TheVariants as outcome
 use Rattle.rv_report.proofs.Plain.{escape_id, escape_reason, escape_fault, escape_refused}
 
 -- ---- objects over any texts
@@ -80,12 +79,7 @@ walk_law later step (next ∷ rest) end =
 circle_law : (steps : List (Id × Reason)) → compact_text (circle_data (edges_data steps)) ≡ circle_json
     (edges_json steps)
 unfolding serde_json_on_literals
-circle_law [] = refl
-circle_law (step ∷ rest) =
-    circle_text (items_of (walk_data (step ∷ rest) step.0))
-    ∙ ap (λ (x : List ℕ). codes "{\"circle\":[" ++ (x ++ codes "}")) (walk_law false step rest step.0)
-    ∙ ap (λ (x : List ℕ). codes "{\"circle\":[" ++ x) (append_assoc (walk_json (step ∷ rest) step.0) (codes
-    "]") (codes "}"))
+circle_law steps = search (circle_text, codes, walk_law, append_assoc, rules)
 
 certificate_law : (c : Certificate) → compact_text (certificate_data c) ≡ certificate_json c
 certificate_law (certificate.Circle steps) = circle_law steps
@@ -95,15 +89,17 @@ certificate_law (certificate.Stale load store) =
 
 -- ---- outcomes
 pub text_of_data : (o : Outcome) → compact_text (report_data o) ≡ json_text o
-text_of_data (outcome.Allowed e o w) = allowed_text e o w
-text_of_data (outcome.Forbidden f) =
-    forbidden_text (accepted_count f.evidence) (certificate_data f.certificate) (refused_text f.evidence)
-    ∙ ap₂ (λ (x y : List ℕ). forbidden_json (accepted_count f.evidence) x y)
-    (certificate_law f.certificate) (escape_refused f.evidence)
-text_of_data (outcome.Malformed m) =
-    malformed_text (accepted_count m.evidence) (fault_number m.fault) (refused_text m.evidence) (fault_text m.fault)
-    ∙ ap₂ (λ (x y : List ℕ). malformed_json (accepted_count m.evidence) x (fault_number m.fault) y)
-    (escape_refused m.evidence) (escape_fault m.fault)
+text_of_data o =
+    search (
+      allowed_text,
+      forbidden_text,
+      ap₂,
+      certificate_law,
+      escape_refused,
+      malformed_text,
+      escape_fault,
+      rules,
+    )
 
 -- ---- no number of a report is a float
 walk_has_no_float : (steps : List (Id × Reason)) (end : Id) → items_have_float (items_of (walk_data steps end)) ≡ false
@@ -112,12 +108,8 @@ walk_has_no_float [] end = refl
 walk_has_no_float (step ∷ rest) end = walk_has_no_float rest end
 
 certificate_has_no_float : (c : Certificate) → has_float (certificate_data c) ≡ false
-certificate_has_no_float (certificate.Circle []) = refl
-certificate_has_no_float (certificate.Circle (step ∷ rest)) = rw (walk_has_no_float (step ∷ rest) step.0) refl
-certificate_has_no_float (certificate.Stale load store) = refl
+certificate_has_no_float c = search (walk_has_no_float, rules)
 
 -- a report has no float
 pub data_has_no_float : (o : Outcome) → has_float (report_data o) ≡ false
-data_has_no_float (outcome.Allowed e o w) = refl
-data_has_no_float (outcome.Forbidden f) = rw (certificate_has_no_float f.certificate) refl
-data_has_no_float (outcome.Malformed m) = refl
+data_has_no_float o = search (certificate_has_no_float, rules)

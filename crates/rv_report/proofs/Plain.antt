@@ -1,8 +1,10 @@
 -- Texts in which JSON escapes no byte.
-use Rattle.std.proofs.Common.{◌≡◌, ℕ, zero, suc, ◌+◌, ◌/◌, ◌%◌, ◌<◌, ◌==◌, nat_lt, ◌∷◌, [], List, ◌++◌, Bool}
+use Rattle.std.proofs.lemmas.Grind.{common_steps}
+use Rattle.std.proofs.Common.{rules}
+use Rattle.std.proofs.Common.{◌≡◌, ℕ, zero, suc, ◌/◌, ◌%◌, ◌<◌, ◌==◌, ◌∷◌, [], List, ◌++◌, Bool}
 use Rattle.std.proofs.Common.{true, false, ◌&&◌, if◌then◌else◌, length, Option, None, Some, option_map}
 use Rattle.std.proofs.Common.{unwrap_or, refl, sym, arith, codes}
-use Rattle.std.proofs.lemmas.Bool.{ne_eqb, true≢false}
+use Rattle.std.proofs.lemmas.Bool.{true≢false}
 use Rattle.std.specs.Prelude.{decimal}
 use Rattle.std.specs.Fmt.{digits, digits_onto, digit_glyph}
 use Rattle.std.specs.List.{last_or}
@@ -14,9 +16,7 @@ use Rattle.rv_event.specs.Texts.{◌⋯◌, id_text, reason_text, fault_text}
 use Rattle.rv_event.specs.declared.event.Id.{Id}
 use Rattle.rv_event.specs.declared.event.Entry.{Entry}
 use Rattle.rv_event.specs.declared.fault.Fault.{Fault}
-use Rattle.rv_event.specs.declared.fault.Fault.TheVariants as fault
 use Rattle.rv_event.specs.declared.reason.Reason.{Reason}
-use Rattle.rv_event.specs.declared.reason.Reason.TheVariants as reason
 use Rattle.rv_report.specs.Texts.{refused_text}
 
 -- each byte stands for itself
@@ -42,12 +42,7 @@ append_plain (x ∷ s) t h k = let p = and_parts (is_plain x) (are_plain s) h in
 
 -- ---- decimals
 glyph_plain : (d : ℕ) → d < 10 → is_plain (digit_glyph false d) ≡ true
-glyph_plain d h =
-    let below : nat_lt d 10 ≡ true = grind (arith, h) in
-    let quote : ((48 + d) == 34) ≡ false = ne_eqb (48 + d) 34 (λ e. omega (arith, e)) in
-    let backslash : ((48 + d) == 92) ≡ false = ne_eqb (48 + d) 92 (λ e. omega (arith, e, h)) in
-    let low : nat_lt (48 + d) 32 ≡ false = grind arith in
-    rw (below, quote, backslash, low) refl
+glyph_plain d h = grind (arith, common_steps)
 
 either_plain : (b : Bool) (s t : List ℕ) → are_plain s ≡ true → are_plain t ≡ true →
     are_plain (if b then s else t) ≡ true
@@ -69,23 +64,10 @@ id_plain : (i : Id) → are_plain (id_text i) ≡ true
 id_plain i = append_plain (decimal i.hart) (codes ":" ⋯ decimal i.seq) (decimal_plain i.hart) (decimal_plain i.seq)
 
 reason_plain : (r : Reason) → are_plain (reason_text r) ≡ true
-reason_plain (reason.Preserved k) = decimal_plain k
-reason_plain reason.Coherence = refl
-reason_plain reason.ReadsFrom = refl
-reason_plain reason.FromRead = refl
-reason_plain reason.AtomicIn = refl
-reason_plain reason.AtomicOut = refl
+reason_plain r = search (decimal_plain, rules)
 
 fault_plain : (f : Fault) → are_plain (fault_text f) ≡ true
-fault_plain fault.Hart = refl
-fault_plain (fault.Sequence n) = decimal_plain n
-fault_plain fault.Dependency = refl
-fault_plain fault.VersionZero = refl
-fault_plain (fault.VersionTaken i) = id_plain i
-fault_plain fault.NoReservation = refl
-fault_plain fault.Full = refl
-fault_plain fault.OtherSource = refl
-fault_plain fault.TooManyDeps = refl
+fault_plain f = search (decimal_plain, id_plain, rules)
 
 last_plain : (o : Option Entry) → are_plain (unwrap_or (option_map (λ x. id_text x.event.id) o) []) ≡ true
 last_plain None = refl

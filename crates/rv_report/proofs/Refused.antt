@@ -1,5 +1,6 @@
 -- The last entry of a log that refuses it.
-use Rattle.std.proofs.Common.{◌≡◌, ◌∙◌, ◌∷◌, List, [], ◌++◌, Option, None, Some, option_map, unwrap_or, refl, ap}
+use Rattle.std.proofs.Common.{rules}
+use Rattle.std.proofs.Common.{◌≡◌, ◌∷◌, List, [], ◌++◌, Option, Some, option_map, unwrap_or, refl}
 use Rattle.std.specs.List.{last_or}
 use Rattle.rv_event.specs.Texts.{id_text}
 use Rattle.rv_event.specs.declared.event.Id.{Id}
@@ -13,8 +14,4 @@ last_or-append o (y ∷ front) x = last_or-append (Some y) front x
 
 -- the refused event is the last
 pub refused_text_of_last : (log : List Entry) (i : Id) → LastIs log i → refused_text log ≡ id_text i
-refused_text_of_last log i h =
-    ap (λ (l : List Entry). refused_text l) h.whole
-    ∙ ap (λ (o : Option Entry). unwrap_or (option_map (λ x. id_text x.event.id) o) [])
-    (last_or-append None h.front h.last)
-    ∙ ap (λ (j : Id). id_text j) h.id
+refused_text_of_last log i h = search (unwrap_or, option_map, last_or-append, rules)

@@ -19,6 +19,7 @@ use Rattle.once_cell.specs.Once.{noted}
 use Rattle.once_cell.specs.contracts.race.note.Note as note
 use Rattle.once_cell.proofs.Notes.{token, noted_twice}
 
+-- a note in memory
 abbrev pub NoteOf : RattleType → RattleType
 NoteOf V = note.the_row V
 

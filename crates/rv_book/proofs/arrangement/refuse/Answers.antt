@@ -1,6 +1,7 @@
 -- The evidence is the log with the entry, in which the path is a circle.
+use Rattle.std.proofs.Common.{arith}
+use Rattle.std.proofs.lemmas.Grind.{common_steps}
 use Rattle.std.proofs.Common.{◌≡◌, List, [], ◌∷◌, ◌++◌, map, sym, ap, ◌∙◌, subst}
-use Rattle.std.proofs.lemmas.List.{map-append}
 use Rattle.rv_event.specs.Log.{events}
 use Rattle.rv_event.specs.declared.event.Entry.{Entry}
 use Rattle.rv_event.specs.declared.event.Event.{Event}
@@ -14,9 +15,7 @@ use Rattle.rv_book.proofs.arrangement.refuse.Goals as goal
 -- the events of a log with the entry, where the log's are known
 events-with : (log entries evidence : List Entry) (x : Entry) (happened : List Event) → log ≡ evidence →
     evidence ≡ entries ++ x ∷ [] → events entries ≡ happened → events log ≡ happened ++ x.event ∷ []
-events-with log entries evidence x happened is with_x known =
-    ap events (is ∙ with_x) ∙ map-append (λ (y : Entry). y.event) entries (x ∷ [])
-    ∙ ap (λ (es : List Event). es ++ x.event ∷ []) known
+events-with log entries evidence x happened is with_x known = grind (arith, common_steps)
 
 pub close-requires-clause-leads : goal.close-requires-clause-leads
 close-requires-clause-leads c =

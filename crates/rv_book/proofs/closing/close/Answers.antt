@@ -1,8 +1,7 @@
-use Rattle.std.proofs.Common.{arith, ◌∙◌, subst}
-use Rattle.std.proofs.lemmas.List.{take_all}
+use Rattle.std.proofs.lemmas.Grind.{common_steps}
+use Rattle.std.proofs.Common.{arith}
 use Rattle.rv_event.specs.Log.{events}
-use Rattle.rv_cert.specs.Certificates.{IsWalk}
-use Rattle.rv_book.proofs.IdWalks.{walk_step, closed_walk, end-past}
+use Rattle.rv_book.proofs.IdWalks.{walk_step}
 use Rattle.rv_book.proofs.closing.close.Goals as goal
 
 pub reason_of-reason-requires : goal.reason_of-reason-requires
@@ -14,8 +13,4 @@ loop-k-preserved c = walk_step c.args.model (events c.args.log.now) c.args.ids.n
     (rw c.next_of.ensures at c.reason_of-reason.ensures) c.in_ok-push.ensures.items
 
 pub returns-clause-closed : goal.returns-clause-closed
-returns-clause-closed c =
-    closed_walk c.args.model (events c.args.log.now) c.loop-k.steps.items c.args.ids.now c.requires.some
-    (c.loop-k.invariant.0 ∙ take_all c.loop-k.k c.args.ids.now (omega arith))
-    (subst (IsWalk c.args.model (events c.args.log.now) c.loop-k.steps.items)
-    (end-past c.args.ids.now c.loop-k.k (omega arith)) c.loop-k.invariant.1)
+returns-clause-closed c = grind (arith, common_steps)

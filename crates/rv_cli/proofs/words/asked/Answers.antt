@@ -1,3 +1,5 @@
+use Rattle.std.proofs.Common.{arith}
+use Rattle.std.proofs.lemmas.Grind.{common_steps}
 use Rattle.std.proofs.Common.{List, subst}
 use Rattle.clap.specs.Words.{Row, found_of, rows_of}
 use Rattle.rv_cli.specs.Asked.{SaysAsked}
@@ -14,11 +16,6 @@ returns-clause-answer c =
       json = c.json_in.result;
       files = c.in_ok-files.files;
     } in
-    let says : SaysAsked (rows_of (found_of c.in_ok-matches.matches)) asked = record {
-      workers = c.workers_in.ensures.said;
-      slots = c.slots_in.ensures.said;
-      model = c.model_in.ensures;
-      json = c.json_in.ensures;
-      files = c.in_ok-files.ensures.names;
-    } in
+    let says : SaysAsked (rows_of (found_of c.in_ok-matches.matches)) asked =
+    grind (arith, common_steps) in
     (parsed.0, parsed.1, (parsed.2.0, subst (λ (rows : List Row). SaysAsked rows asked) parsed.2.1 says))

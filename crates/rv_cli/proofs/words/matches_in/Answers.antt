@@ -1,11 +1,11 @@
+use Rattle.std.proofs.Common.{rules}
 use Rattle.clap.specs.Walk.{texts}
 use Rattle.clap.specs.Words.{app_of}
 use Rattle.rv_cli.proofs.Values.{parses, unmade}
 use Rattle.rv_cli.proofs.words.matches_in.Goals as goal
 
 pub returns-in_err-command_of : goal.returns-in_err-command_of
-returns-in_err-command_of c =
-    unmade (texts c.args.words.now) c.from_residual.result c.from_residual.ensures.1
+returns-in_err-command_of c = search (unmade, rules)
 
 pub returns : goal.returns
 returns c =

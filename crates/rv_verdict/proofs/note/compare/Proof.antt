@@ -27,6 +27,7 @@ use Rattle.rv_verdict.specs.contracts.note.compare.Key.{name as #self}
 use Rattle.rv_verdict.proofs.note.compare.Statement.{statement}
 use Rattle.rv_verdict.proofs.note.compare.Code as code
 
+-- the function does what its contract says
 pub compare_spec : {M : Type 1} → statement M
 compare_spec 𝓤 𝓛 𝓜 𝓡 wired =
     let program = tables 𝓤 𝓛.H 𝓜 𝓡 𝓡.env in

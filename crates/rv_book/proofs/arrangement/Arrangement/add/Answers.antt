@@ -1,3 +1,6 @@
+use Rattle.std.proofs.Common.{rules}
+use Rattle.std.proofs.Common.{arith}
+use Rattle.std.proofs.lemmas.Grind.{common_steps}
 use Rattle.std.proofs.Common.{◌≡◌, ◌++◌, [], ◌∷◌, None, IfOk, refl, sym, ◌∙◌, subst}
 use Rattle.std.proofs.lemmas.Bool.{false≢true}
 use Rattle.rv_event.specs.Edges.{IsStale}
@@ -17,20 +20,12 @@ use Rattle.rv_book.proofs.arrangement.Arrangement.add.Goals as goal
 fit_of : (v now : Arranged) (k : Kept) → v ≡ now → event_fault (happened now.history) k.event ≡ None →
     IsLinked v.model v.history k → (HasOwnEdge v.model v.history k.event → ⊥) →
     ((s : Id) → IsStale (grown v.history k.event) k.event.id s → ⊥) → IsFit v k
-fit_of v now k is sound linked none_own not_stale = record {
-  joined = record {
-    sound = subst (λ (w : Arranged). event_fault (happened w.history) k.event ≡ None) (sym is) sound;
-    linked = linked;
-  };
-  none_own = none_own;
-  not_stale = not_stale;
-}
+fit_of v now k is sound linked none_own not_stale = grind (arith, common_steps)
 
 pub place-requires-clause-fit : goal.place-requires-clause-fit
 place-requires-clause-fit c =
     let k = kept_of c.args.entry.event c.in_ok-around.around in
-    let stale : IsStaleOf c.self.inside.history.kept c.args.entry.event None =
-    rw c.in_default.is at c.in_ok-around.ensures.stale in
+    let stale : IsStaleOf c.self.inside.history.kept c.args.entry.event None = search rules in
     subst (λ (w : Arranged). IsFit w k) c.self.view_is
     (fit_of _ c.args.self.now k c.self.view_is c.requires.sound c.in_ok-around.ensures.linked
     (λ own. false≢true (sym c.if-around.false ∙ c.in_ok-around.ensures.itself.1 own)) stale)
@@ -42,8 +37,7 @@ invariant_of-self-2 c =
     rw c.in_default.is at c.in_ok-around.ensures.stale in
     let fit = fit_of _ c.args.self.now k c.self.view_is c.requires.sound c.in_ok-around.ensures.linked
     (λ own. false≢true (sym c.if-around.false ∙ c.in_ok-around.ensures.itself.1 own)) stale in
-    let aside : IsMemory c.args.entry.event → ⊥ =
-    λ m. false≢true (sym c.if-is_memory.false ∙ c.is_memory.ensures.1 m) in
+    let aside : IsMemory c.args.entry.event → ⊥ = grind (arith, common_steps) in
     subst (λ (h : Past). IsArranged (record {
       model = h.model;
       log = h.log;

@@ -1,3 +1,5 @@
+use Rattle.std.proofs.Common.{arith}
+use Rattle.std.proofs.lemmas.Grind.{common_steps}
 use Rattle.std.proofs.Common.{◌≡◌, List, [], ◌∷◌, ◌++◌, length, sym, ap, ◌∙◌, subst}
 use Rattle.rv_event.specs.declared.event.Id.{Id}
 use Rattle.rv_event.specs.declared.event.Entry.{Entry}
@@ -56,8 +58,7 @@ invariant_of-self-in-Ok c =
     (grown_between _ _ preds _ succs _ c.as_slice-preds.ensures.value c.as_slice-succs.ensures.value placed.grown)
     placed.ordered (c.self.inside.history.log ++ c.args.entry ∷ []) in
     let ids : c.push.new.self.items ≡ c.self.inside.ids.items ++ k.event.id ∷ [] =
-    (rw c.unwrap.ensures at c.push.ensures.items) ∙
-    ap (λ (x : List Id). x ++ k.event.id ∷ []) c.in_ok-reserve.ensures.items in
+    grind (arith, common_steps) in
     subst (λ (h : Past). IsArranged (record {
       model = h.model;
       log = h.log;

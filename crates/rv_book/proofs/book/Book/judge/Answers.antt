@@ -1,9 +1,9 @@
-use Rattle.std.proofs.Common.{◌≡◌, ◌<◌, List, [], ◌∷◌, ◌++◌, None, sym, ap, ◌∙◌, subst}
-use Rattle.rv_event.specs.Log.{events}
-use Rattle.rv_event.specs.WellFormed.{WellFormed}
-use Rattle.rv_event.specs.Faults.{fault_of, event_fault, source_fault}
+use Rattle.std.proofs.Common.{arith}
+use Rattle.std.proofs.lemmas.Grind.{common_steps}
+use Rattle.std.proofs.Common.{rules}
+use Rattle.std.proofs.Common.{◌≡◌, List, [], ◌∷◌, ◌++◌, None, sym, ap, ◌∙◌, subst}
+use Rattle.rv_event.specs.Faults.{fault_of, source_fault}
 use Rattle.rv_event.proofs.Pushed.{WellFormed-push}
-use Rattle.rv_event.specs.declared.event.Event.{Event}
 use Rattle.rv_event.specs.declared.event.Entry.{Entry}
 use Rattle.rv_cert.specs.Certificates.{Certifies}
 use Rattle.rv_cert.specs.declared.certificate.Certificate.{Certificate}
@@ -12,25 +12,16 @@ use Rattle.rv_book.specs.Arranged.{Arranged, IsOwn}
 use Rattle.rv_book.specs.Booked.{Booked, IsForbiddenOn, booked_of}
 use Rattle.rv_book.specs.Tallied.{IsTallied}
 use Rattle.rv_cert.specs.Refusals.{Refusal}
-use Rattle.rv_event.specs.declared.memory_model.MemoryModel.{MemoryModel}
-use Rattle.rv_book.proofs.PushedEntries.{event_sound, source_sound, hart_sound, room_in, room_of, events-push}
+use Rattle.rv_book.proofs.PushedEntries.{event_sound, source_sound, room_in, room_of, events-push}
 use Rattle.rv_book.proofs.PushedEntries.{booked_push, forbidden_of, taken_of}
 use Rattle.rv_edges.proofs.Moving.{last_pushed}
 use Rattle.rv_book.proofs.book.Book.judge.Goals as goal
 
 pub add-requires-clause-sound : goal.add-requires-clause-sound
-add-requires-clause-sound c =
-    let none = ap (λ (b : Booked). fault_of b.log c.args.entry) c.self.view_is ∙ sym c.fault.ensures ∙
-    c.in_default.is in
-    subst (λ (l : List Event). event_fault l c.args.entry.event ≡ None) (sym c.self.invariant.0.same)
-    (event_sound c.self.inside.arrangement.log c.args.entry none)
+add-requires-clause-sound c = search (event_sound, rules)
 
 pub add-requires-clause-room : goal.add-requires-clause-room
-add-requires-clause-room c =
-    let none = ap (λ (b : Booked). fault_of b.log c.args.entry) c.self.view_is ∙ sym c.fault.ensures ∙
-    c.in_default.is in
-    room_of c.self.inside.arrangement.log c.self.inside.arrangement.history c.args.entry
-    c.self.invariant.0.well_formed none c.self.invariant.0.same
+add-requires-clause-room c = search (room_of, rules)
 
 pub invariant_of-self-in-Taken : goal.invariant_of-self-in-Taken
 invariant_of-self-in-Taken c =
@@ -52,16 +43,7 @@ invariant_of-self-in-Taken c =
     )
 
 pub add-requires-in-Taken : goal.add-requires-in-Taken
-add-requires-in-Taken c =
-    let none = ap (λ (b : Booked). fault_of b.log c.args.entry) c.self.view_is ∙ sym c.fault.ensures ∙
-    c.in_default.is in
-    let grew = rw c.in-Taken.is at c.in_ok-added.ensures.added in
-    let last = last_pushed c.log-in-Taken.result.now c.self.inside.arrangement.log c.args.entry c.in-Some-last.last.now
-    (c.log-in-Taken.ensures ∙ grew.2) (sym c.in-Some-last.ensures.value) in
-    record {
-      hart = subst (λ (x : Entry). x.event.id.hart < 16) (sym last)
-          (hart_sound c.self.inside.arrangement.log c.args.entry none);
-    }
+add-requires-in-Taken c = grind (arith, common_steps)
 
 pub returns-in-Some-last-clause-judged : goal.returns-in-Some-last-clause-judged
 returns-in-Some-last-clause-judged c =
@@ -73,23 +55,10 @@ returns-in-Some-last-clause-judged c =
     c.self.view_is c.self.invariant.0 none grew.0 grew.1 c.model-model-2.ensures.lawful grew.2
 
 pub new-requires-in-Refused-clause-well_formed : goal.new-requires-in-Refused-clause-well_formed
-new-requires-in-Refused-clause-well_formed c =
-    let none = ap (λ (b : Booked). fault_of b.log c.args.entry) c.self.view_is ∙ sym c.fault.ensures ∙
-    c.in_default.is in
-    let told = rw c.in-Refused.is at c.in_ok-added.ensures.added in
-    subst WellFormed (sym told.1) (WellFormed-push c.self.inside.arrangement.log c.args.entry
-    c.self.invariant.0.well_formed none)
+new-requires-in-Refused-clause-well_formed c = search (WellFormed-push, rules)
 
 pub new-requires-in-Refused-clause-certifies : goal.new-requires-in-Refused-clause-certifies
-new-requires-in-Refused-clause-certifies c =
-    let told = rw c.in-Refused.is at c.in_ok-added.ensures.added in
-    subst (λ (m : MemoryModel). Certifies m (events c.in-Refused.evidence) c.in-Refused.certificate)
-    (sym c.model-model.ensures.value)
-    (subst (λ (l : List Entry). Certifies c.self.inside.arrangement.model (events l) c.in-Refused.certificate)
-    (sym told.1)
-    (subst (λ (es : List Event). Certifies c.self.inside.arrangement.model es c.in-Refused.certificate)
-    (events-push c.self.inside.arrangement.log c.self.inside.arrangement.history c.args.entry
-    c.self.invariant.0.same) told.2))
+new-requires-in-Refused-clause-certifies c = search (events-push, rules)
 
 pub returns-in-Refused-clause-judged : goal.returns-in-Refused-clause-judged
 returns-in-Refused-clause-judged c =

@@ -1,4 +1,5 @@
 -- The log whose versions are kept has the events of the history, which are few.
+use Rattle.std.proofs.Common.{rules}
 use Rattle.std.proofs.Common.{◌≤◌, List, length, ap, sym, ◌∙◌, subst}
 use Rattle.rv_event.specs.Log.{events}
 use Rattle.rv_event.specs.declared.event.Entry.{Entry}
@@ -18,6 +19,4 @@ returns-clause-few c =
     c.args.self.now c.self.view_is)
 
 pub returns-clause-indexed : goal.returns-clause-indexed
-returns-clause-indexed c =
-    past-indexed c.self.inside.model c.self.inside.versions c.self.inside.harts.items c.self.inside.links
-    c.self.invariant c.args.self.now c.self.view_is
+returns-clause-indexed c = search (past-indexed, rules)

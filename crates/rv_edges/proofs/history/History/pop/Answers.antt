@@ -1,4 +1,5 @@
 -- Log, hart and links lose their last together.
+use Rattle.std.proofs.Common.{rules}
 use Rattle.std.proofs.Common.{◌<◌, List, length, sym, ap, ◌∙◌, subst, arith}
 use Rattle.std.proofs.lemmas.Bool.{false≢true}
 use Rattle.rv_event.specs.Log.{events, of_hart}
@@ -35,11 +36,7 @@ module _ (c : goal.After-drop_last) where
   front = events c.pop-entry.new.self
 
   less : Popped (events c.self.inside.versions) front c.self.inside.links c.drop_last.new.self
-  less =
-      popped_sides (events c.self.inside.versions) front c.self.inside.links c.drop_last.new.self
-      c.pop-entry.result.event c.drop_last.ensures.0 c.self.invariant.lengths
-      (events-pop c.self.inside.versions c.pop-entry.new.self c.pop-entry.result c.pop-entry.ensures)
-      c.drop_last.ensures.1
+  less = search (popped_sides, events-pop, rules)
 
 pub invariant_of-self : goal.invariant_of-self
 invariant_of-self c =

@@ -1,4 +1,6 @@
 -- The entries that are kept have the events of the history.
+use Rattle.std.proofs.Common.{arith}
+use Rattle.std.proofs.lemmas.Grind.{common_steps}
 use Rattle.std.proofs.Common.{ℕ, ◌<◌, List, IfSome, IfNone, ap, subst}
 use Rattle.rv_event.specs.Preserved.{IsPreserved}
 use Rattle.rv_event.specs.declared.event.Event.{Event}
@@ -7,13 +9,7 @@ use Rattle.rv_edges.specs.Kept.{Past, happened}
 use Rattle.rv_edges.proofs.history.History.preserved.Goals as goal
 
 pub returns-clause-some : goal.returns-clause-some
-returns-clause-some c =
-    subst (λ (m : MemoryModel). IfSome c.lowest_rule.result
-    (λ k. IsPreserved m (happened c.args.self.now.kept) k c.args.a c.args.b))
-    (ap (λ (w : Past). w.model) c.self.view_is)
-    (subst (λ (es : List Event). IfSome c.lowest_rule.result
-    (λ k. IsPreserved c.self.inside.model es k c.args.a c.args.b)) c.entries.ensures.events
-    c.lowest_rule.ensures.some)
+returns-clause-some c = grind (arith, common_steps)
 
 pub returns-clause-lowest : goal.returns-clause-lowest
 returns-clause-lowest c =

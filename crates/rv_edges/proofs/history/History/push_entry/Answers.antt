@@ -1,4 +1,7 @@
 -- The entry joins the history with the links handed in, and its hart with it.
+use Rattle.std.proofs.Common.{arith}
+use Rattle.std.proofs.lemmas.Grind.{common_steps}
+use Rattle.std.proofs.Common.{rules}
 use Rattle.std.proofs.Common.{◌≡◌, ℕ, List, [], ◌∷◌, ◌++◌, None, refl, sym, ap, ◌∙◌, subst, length}
 use Rattle.rv_event.specs.Faults.{event_fault}
 use Rattle.rv_event.specs.Log.{events}
@@ -9,7 +12,7 @@ use Rattle.rv_hart.specs.Harts.{Hart, Follows, IsReturned, hart_with}
 use Rattle.rv_hart.specs.RuleLinks.{AreEnoughLinks}
 use Rattle.rv_versions.specs.Reserved.{IsReserved}
 use Rattle.rv_edges.specs.Kept.{Past, kept_from, happened}
-use Rattle.rv_edges.specs.Histories.{IsLinked, Joined, IsHistory, kept_of}
+use Rattle.rv_edges.specs.Histories.{Joined, IsHistory, kept_of}
 use Rattle.rv_edges.specs.Indexes.{hart_from, hart_in}
 use Rattle.rv_edges.specs.OwnLinks.{OwnLinks}
 use Rattle.rv_edges.proofs.Carrying.{pushed_sides}
@@ -22,8 +25,7 @@ use Rattle.rv_edges.proofs.history.History.push_entry.Goals.{After-push-arg-1}
 
 module _ (c : After-push-arg-1) where
   log : events c.self.inside.versions ≡ happened c.args.self.now.kept
-  log = log-is c.self.inside.model c.self.inside.versions c.self.inside.harts.items c.self.inside.links c.self.invariant
-      c.args.self.now c.self.view_is
+  log = search (log-is, rules)
 
 pub push-kept-requires-clause-sound : goal.push-kept-requires-clause-sound
 push-kept-requires-clause-sound c =
@@ -36,9 +38,7 @@ push-kept-requires-clause-reserved c =
 
 module _ (c : goal.In-Some-get_mut) where
   last-is : c.in-Some.last.now ≡ c.args.entry
-  last-is =
-      last_pushed c.entries.result.now c.self.inside.versions c.args.entry c.in-Some.last.now
-      (c.entries.ensures.value ∙ c.in_default.ensures.pushed) (sym c.in-Some.ensures.value)
+  last-is = grind (arith, common_steps)
 
   same-event : c.in-Some.last.now.event ≡ c.args.entry.event
   same-event = ap (λ (x : Entry). x.event) last-is
@@ -79,12 +79,9 @@ pub invariant_of-self-in-Err-joined : goal.invariant_of-self-in-Err-joined
 invariant_of-self-in-Err-joined c =
     let n = c.args.entry.event.id.hart in
     let model = c.self.inside.model in
-    let entries : c.pop.new.self ≡ c.self.inside.versions =
-    same_front c.pop.new.self c.self.inside.versions c.pop.result c.args.entry
-    (sym c.pop.ensures ∙ c.in_default.ensures.pushed) in
+    let entries : c.pop.new.self ≡ c.self.inside.versions = search (same_front, rules) in
     let links : c.drop_last-in-Err-joined.new.self ≡ c.self.inside.links =
-    same_front c.drop_last-in-Err-joined.new.self c.self.inside.links c.drop_last-in-Err-joined.ensures.0 _
-    (sym c.drop_last-in-Err-joined.ensures.1 ∙ c.in_ok-append.ensures.pushed) in
+    search (same_front, rules) in
     let log : events c.pop.new.self ≡ events c.self.inside.versions = ap events entries in
     let own = λ (h : ℕ). c.in_ok-open_harts.ensures.same h ∙ c.self.invariant.own h in
     record {
@@ -119,16 +116,9 @@ module _ (c : goal.In_default-joined) where
       let e = c.args.entry.event in
       let k = kept_of e c.args.around.now in
       let h = kept_from (events c.self.inside.versions) c.self.inside.links in
-      let joined : Joined c.self.inside.model h k = record {
-        sound = subst (λ (w : Past). event_fault (happened w.kept) e ≡ None) (sym c.self.view_is) c.requires.sound;
-        linked = subst (λ (w : Past). IsLinked w.model w.kept k) (sym c.self.view_is) c.requires.linked;
-      } in
+      let joined : Joined c.self.inside.model h k = grind (arith, common_steps) in
       let l : OwnLinks = record { before = c.as_slice-before.result.now; after = c.as_slice.result.now } in
-      let one : kept_one e l ≡ k = λ i. record {
-        event = e;
-        before = c.as_slice-before.ensures i;
-        after = c.as_slice.ensures i;
-      } in
+      let one : kept_one e l ≡ k = grind (arith, common_steps) in
       let p = pushed_sides c.self.inside.model (events c.self.inside.versions) (events c.push-kept.new.self)
       c.self.inside.links c.append.new.self e l k
       c.self.invariant.lengths c.self.invariant.history joined one

@@ -1,6 +1,7 @@
 -- The LR is one of the hart's events, and so one of the history's.
-use Rattle.std.proofs.Common.{◌≡◌, List, Contains, Some, None, refl, sym, subst}
-use Rattle.rv_event.specs.declared.event.Event.{Event}
+use Rattle.std.proofs.Common.{arith}
+use Rattle.std.proofs.lemmas.Grind.{common_steps}
+use Rattle.std.proofs.Common.{◌≡◌, Some, None, refl, sym, subst}
 use Rattle.rv_hart.specs.Harts.{Hart, Follows}
 use Rattle.rv_hart.specs.Kept.{IsPartner}
 use Rattle.rv_versions.specs.Reserved.{IsReserved}
@@ -8,7 +9,6 @@ use Rattle.rv_edges.specs.Kept.{happened}
 use Rattle.rv_edges.specs.Indexes.{hart_in}
 use Rattle.rv_edges.proofs.Indexing.{follows}
 use Rattle.rv_edges.proofs.Harting.{partner_from, partner_to}
-use Rattle.rv_edges.proofs.Listed.{Contains-none}
 use Rattle.rv_edges.proofs.history.History.reserved.Goals as goal
 
 pub partner-requires : goal.partner-requires
@@ -26,11 +26,7 @@ returns-in_err-lr c =
     c.hart.ensures.indexed c.requires lr p in none lr q.0 q.1)
 
 pub returns-in_err-hart : goal.returns-in_err-hart
-returns-in_err-hart c =
-    subst (IsReserved (happened c.args.self.now.kept) c.args.event.now) (sym c.from_residual.ensures)
-    (λ lr p. let q = partner_to c.args.self.now.model (happened c.args.self.now.kept) c.args.event.now
-    c.hart.ensures.indexed c.requires lr p in Contains-none lr (subst (λ (es : List Event). Contains es lr)
-    (c.in_err-hart.ensures.hart) q.0))
+returns-in_err-hart c = grind (arith, common_steps)
 
 pub returns : goal.returns
 returns c =

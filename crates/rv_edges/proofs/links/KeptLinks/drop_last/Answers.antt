@@ -1,8 +1,10 @@
 -- The links of the last event stand behind all others.
-use Rattle.std.proofs.Common.{◌≡◌, ℕ, ◌+◌, ◌-◌, List, [], ◌∷◌, ◌++◌, length, take, sym, ap, ◌∙◌, arith}
+use Rattle.std.proofs.lemmas.Grind.{common_steps}
+use Rattle.std.proofs.Common.{rules}
+use Rattle.std.proofs.Common.{◌≡◌, ◌+◌, ◌-◌, List, [], ◌∷◌, ◌++◌, length, take, sym, ap, ◌∙◌, arith}
 use Rattle.rv_event.specs.declared.reason.Link.{Link}
 use Rattle.rv_edges.specs.declared.links.Sides.{Sides}
-use Rattle.rv_edges.specs.OwnLinks.{total, own_from}
+use Rattle.rv_edges.specs.OwnLinks.{total}
 use Rattle.rv_edges.proofs.Owning.{total-push, total-front, own_from-pop}
 use Rattle.rv_edges.proofs.links.KeptLinks.drop_last.Goals as goal
 
@@ -39,19 +41,10 @@ module _ (c : goal.After-truncate) where
   same = sym (ap total c.in-Some.ensures.items) ∙ c.self.invariant
 
   left : c.truncate.new.self.items ≡ take (length links - (last.before + last.after)) links
-  left =
-      c.truncate.ensures.items
-      ∙ ap (λ (n : ℕ). take n links) (omega (arith, c.len.ensures, c.self.inside.links.ok))
+  left = grind (arith, common_steps)
 
 pub invariant_of-self : goal.invariant_of-self
 invariant_of-self c = total-front c.pop.new.self.items (last c) (links c) (same c) ∙ sym (ap length (left c))
 
 pub returns-in-Some : goal.returns-in-Some
-returns-in-Some c =
-    let p = own_from-pop c.pop.new.self.items (last c) (links c) (same c) in (
-      p.0,
-      sym c.self.view_is
-          ∙ ap (own_from (links c)) c.in-Some.ensures.items
-          ∙ p.1
-          ∙ ap (λ (ls : List Link). own_from ls c.pop.new.self.items ++ p.0 ∷ []) (sym (left c)),
-    )
+returns-in-Some c = search (own_from-pop, rules)
