@@ -1,7 +1,7 @@
 -- Whether a log is well formed, entry by entry.
 use Rattle.std.proofs.Common.{rules}
 use Rattle.std.proofs.Common.{◌≡◌, ℕ, suc, ◌+◌, ◌<◌, true, false, List, ◌∷◌, ◌++◌, length, take, drop}
-use Rattle.std.proofs.Common.{get_or, Option, Some, None, IsTrue, is_some, ◌↔◌, sym, ◌∙◌, arith}
+use Rattle.std.proofs.Common.{get_or, Option, Some, None, IsTrue, is_some, ◌↔◌, sym, ◌∙◌}
 use Rattle.std.proofs.Common.{take-append-drop, drop-cons}
 use Rattle.std.proofs.lemmas.Bool.{false≢true}
 use Rattle.std.proofs.lemmas.Option.{none-some}
@@ -10,12 +10,7 @@ use Rattle.rv_event.specs.Faults.{fault_of}
 use Rattle.rv_event.specs.WellFormed.{WellFormed}
 use Rattle.rv_event.specs.declared.event.Entry.{Entry}
 use Rattle.rv_event.specs.declared.fault.Fault.{Fault}
-use Rattle.rv_event.proofs.Bounded.{length-WellFormed}
 use Rattle.rv_event.proofs.Pushed.{WellFormed-push}
-
--- no well formed log is longer than sixteen full harts
-pub too_long : (log : List Entry) → 65536 < length log → IsTrue false ↔ WellFormed log
-too_long log long = (λ t. absurd (false≢true t), λ ok. absurd (omega (arith, long, length-WellFormed log ok)))
 
 module _ (log : List Entry) (k : ℕ) (x : Entry) (low : k < length log) (is : x ≡ get_or log k x) where
   -- an entry that has no fault over those before it goes on a well formed log

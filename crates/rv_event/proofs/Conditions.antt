@@ -19,7 +19,8 @@ at_number : {C : Type 0} (model : MemoryModel) (log : List Event) (a b : Event) 
     Condition model log a b k
 at_number model log a b n k r e into out test = grind (arith, common_steps)
 
-overlapping_store_out : (model : MemoryModel) (log : List Event) (a b : Event) → Condition model log a b 1 →
+-- what the condition of rule 1 says
+pub overlapping_store_out : (model : MemoryModel) (log : List Event) (a b : Event) → Condition model log a b 1 →
     OverlappingStore a b
 overlapping_store_out model log a b (overlapping_store h) = h
 
@@ -29,7 +30,8 @@ pub overlapping_store_at : (model : MemoryModel) (log : List Event) (a b : Event
 overlapping_store_at model log a b k r e test = at_number model log a b 1 k r e overlapping_store
     (overlapping_store_out model log a b) test
 
-different_reads_out : (model : MemoryModel) (log : List Event) (a b : Event) → Condition model log a b 2 →
+-- what the condition of rule 2 says
+pub different_reads_out : (model : MemoryModel) (log : List Event) (a b : Event) → Condition model log a b 2 →
     DifferentReads log a b
 different_reads_out model log a b (different_reads h) = h
 
@@ -39,7 +41,8 @@ pub different_reads_at : (model : MemoryModel) (log : List Event) (a b : Event) 
 different_reads_at model log a b k r e test = at_number model log a b 2 k r e different_reads
     (different_reads_out model log a b) test
 
-reads_atomic_write_out : (model : MemoryModel) (log : List Event) (a b : Event) → Condition model log a b 3 →
+-- what the condition of rule 3 says
+pub reads_atomic_write_out : (model : MemoryModel) (log : List Event) (a b : Event) → Condition model log a b 3 →
     ReadsAtomicWrite a b
 reads_atomic_write_out model log a b (reads_atomic_write h) = h
 
@@ -49,7 +52,8 @@ pub reads_atomic_write_at : (model : MemoryModel) (log : List Event) (a b : Even
 reads_atomic_write_at model log a b k r e test = at_number model log a b 3 k r e reads_atomic_write
     (reads_atomic_write_out model log a b) test
 
-fenced_out : (model : MemoryModel) (log : List Event) (a b : Event) → Condition model log a b 4 → Fenced log a b
+-- what the condition of rule 4 says
+pub fenced_out : (model : MemoryModel) (log : List Event) (a b : Event) → Condition model log a b 4 → Fenced log a b
 fenced_out model log a b (fenced h) = h
 
 -- so it is of rule 4
@@ -57,7 +61,8 @@ pub fenced_at : (model : MemoryModel) (log : List Event) (a b : Event) (k : ℕ)
     Fenced log a b → IsTrue r ↔ Condition model log a b k
 fenced_at model log a b k r e test = at_number model log a b 4 k r e fenced (fenced_out model log a b) test
 
-after_acquire_out : (model : MemoryModel) (log : List Event) (a b : Event) → Condition model log a b 5 →
+-- what the condition of rule 5 says
+pub after_acquire_out : (model : MemoryModel) (log : List Event) (a b : Event) → Condition model log a b 5 →
     IsAcquire model a
 after_acquire_out model log a b (after_acquire h) = h
 
@@ -67,7 +72,8 @@ pub after_acquire_at : (model : MemoryModel) (log : List Event) (a b : Event) (k
 after_acquire_at model log a b k r e test = at_number model log a b 5 k r e after_acquire
     (after_acquire_out model log a b) test
 
-before_release_out : (model : MemoryModel) (log : List Event) (a b : Event) → Condition model log a b 6 →
+-- what the condition of rule 6 says
+pub before_release_out : (model : MemoryModel) (log : List Event) (a b : Event) → Condition model log a b 6 →
     IsRelease model b
 before_release_out model log a b (before_release h) = h
 
@@ -77,7 +83,8 @@ pub before_release_at : (model : MemoryModel) (log : List Event) (a b : Event) (
 before_release_at model log a b k r e test = at_number model log a b 6 k r e before_release
     (before_release_out model log a b) test
 
-both_rcsc_out : (model : MemoryModel) (log : List Event) (a b : Event) → Condition model log a b 7 → IsRcsc model a ×
+-- what the condition of rule 7 says
+pub both_rcsc_out : (model : MemoryModel) (log : List Event) (a b : Event) → Condition model log a b 7 → IsRcsc model a ×
     IsRcsc model b
 both_rcsc_out model log a b (both_rcsc g h) = (g, h)
 
@@ -87,7 +94,8 @@ pub both_rcsc_at : (model : MemoryModel) (log : List Event) (a b : Event) (k : �
 both_rcsc_at model log a b k r e test = at_number model log a b 7 k r e (λ c. both_rcsc c.0 c.1)
     (both_rcsc_out model log a b) test
 
-paired_out : (model : MemoryModel) (log : List Event) (a b : Event) → Condition model log a b 8 → Paired log a b
+-- what the condition of rule 8 says
+pub paired_out : (model : MemoryModel) (log : List Event) (a b : Event) → Condition model log a b 8 → Paired log a b
 paired_out model log a b (paired h) = h
 
 -- so it is of rule 8
@@ -95,7 +103,8 @@ pub paired_at : (model : MemoryModel) (log : List Event) (a b : Event) (k : ℕ)
     Paired log a b → IsTrue r ↔ Condition model log a b k
 paired_at model log a b k r e test = at_number model log a b 8 k r e paired (paired_out model log a b) test
 
-address_out : (model : MemoryModel) (log : List Event) (a b : Event) → Condition model log a b 9 → DependsOn Addr b a
+-- what the condition of rule 9 says
+pub address_out : (model : MemoryModel) (log : List Event) (a b : Event) → Condition model log a b 9 → DependsOn Addr b a
 address_out model log a b (address h) = h
 
 -- so it is of rule 9
@@ -103,7 +112,8 @@ pub address_at : (model : MemoryModel) (log : List Event) (a b : Event) (k : ℕ
     DependsOn Addr b a → IsTrue r ↔ Condition model log a b k
 address_at model log a b k r e test = at_number model log a b 9 k r e address (address_out model log a b) test
 
-data_of_out : (model : MemoryModel) (log : List Event) (a b : Event) → Condition model log a b 10 → DependsOn DataOf b a
+-- what the condition of rule 10 says
+pub data_of_out : (model : MemoryModel) (log : List Event) (a b : Event) → Condition model log a b 10 → DependsOn DataOf b a
 data_of_out model log a b (data_of h) = h
 
 -- so it is of rule 10
@@ -111,7 +121,8 @@ pub data_of_at : (model : MemoryModel) (log : List Event) (a b : Event) (k : ℕ
     DependsOn DataOf b a → IsTrue r ↔ Condition model log a b k
 data_of_at model log a b k r e test = at_number model log a b 10 k r e data_of (data_of_out model log a b) test
 
-control_out : (model : MemoryModel) (log : List Event) (a b : Event) → Condition model log a b 11 → IsStore b ×
+-- what the condition of rule 11 says
+pub control_out : (model : MemoryModel) (log : List Event) (a b : Event) → Condition model log a b 11 → IsStore b ×
     ControlDependsOn log b a
 control_out model log a b (control g h) = (g, h)
 
@@ -121,7 +132,8 @@ pub control_at : (model : MemoryModel) (log : List Event) (a b : Event) (k : ℕ
 control_at model log a b k r e test = at_number model log a b 11 k r e (λ c. control c.0 c.1)
     (control_out model log a b) test
 
-reads_dependent_write_out : (model : MemoryModel) (log : List Event) (a b : Event) → Condition model log a b 12 →
+-- what the condition of rule 12 says
+pub reads_dependent_write_out : (model : MemoryModel) (log : List Event) (a b : Event) → Condition model log a b 12 →
     ReadsDependentWrite log a b
 reads_dependent_write_out model log a b (reads_dependent_write h) = h
 
@@ -131,7 +143,8 @@ pub reads_dependent_write_at : (model : MemoryModel) (log : List Event) (a b : E
 reads_dependent_write_at model log a b k r e test = at_number model log a b 12 k r e reads_dependent_write
     (reads_dependent_write_out model log a b) test
 
-after_dependent_address_out : (model : MemoryModel) (log : List Event) (a b : Event) → Condition model log a b 13 →
+-- what the condition of rule 13 says
+pub after_dependent_address_out : (model : MemoryModel) (log : List Event) (a b : Event) → Condition model log a b 13 →
     AfterDependentAddress log a b
 after_dependent_address_out model log a b (after_dependent_address h) = h
 

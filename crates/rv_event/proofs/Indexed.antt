@@ -96,12 +96,8 @@ wrote-own : (e : Event) → IsStore e → (is_store e.op && ((e.word == e.word) 
 wrote-own e s = and_from _ _ s (and_from _ _ (eq-eqb e.word e.word refl) (eq-eqb e.wrote e.wrote refl))
 
 module _ (log : List Event) (e : Event) (known : Indexed log) (sound : Sound log e) where
-  -- the new id is nobody's
-  new_name : named log e.id ≡ None
-  new_name = search (named-is, rules)
-
   own_new : named (log ++ e ∷ []) e.id ≡ Some e
-  own_new = search (find-append_none, new_name, find-one, same_id-refl, rules)
+  own_new = grind (arith, common_steps, find-append_none, find-one, same_id-refl, named-is)
 
   own' : (a : Event) → Contains (log ++ e ∷ []) a → named (log ++ e ∷ []) a.id ≡ Some a
   own' a c = go (Contains-push_cases log e a c)

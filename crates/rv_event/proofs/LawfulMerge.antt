@@ -21,17 +21,11 @@ module _ (model : MemoryModel) (one two : List Event) (order : List Id) (there :
   operation-there : (i : Id) → IsOperation one i → IsOperation two i
   operation-there i o = search (named-grows, rules)
 
-  operation-back : (i : Id) → IsOperation two i → IsOperation one i
-  operation-back i o = search (named-grows, rules)
-
-  event-there : (e : Event) → Contains one e → Contains two e
-  event-there = Contains-grows model one two there known known'
-
   event-back : (e : Event) → Contains two e → Contains one e
   event-back = Contains-grows model two one back known' known
 
   candidate-there : (load store : Event) → Candidate one order load store → Candidate two order load store
-  candidate-there load store c = search (event-there, rules)
+  candidate-there load store c = search (Contains-grows)
 
   candidate-back : (load store : Event) → Candidate two order load store → Candidate one order load store
   candidate-back load store c = search (event-back, rules)
@@ -42,11 +36,18 @@ module _ (model : MemoryModel) (one two : List Event) (order : List Id) (there :
   -- the order is lawful for the other merge
   pub lawful-there : Lawful model two order
   lawful-there = record {
-    is_order = record {
-      each = λ i o. lawful.is_order.each i (operation-back i o);
-      nothing_else = λ i c. operation-there i (lawful.is_order.nothing_else i c);
-      once = lawful.is_order.once;
-    };
+    is_order =
+        search (
+          operation-there,
+          Rule-grows,
+          event-back,
+          candidate-back,
+          candidate-there,
+          writer-back,
+          Paired-grows,
+          named-grows,
+          rules,
+        );
     program_order = λ k a b r. lawful.program_order k a b (Rule-grows model two one back known' known k a b r);
     write_order = λ a b ca cb sa sb word versions. lawful.write_order a b (event-back a ca)
         (event-back b cb) sa sb word versions;

@@ -15,7 +15,7 @@ use Rattle.rv_event.proofs.Indexed.{indexed_from_WellFormed, sound_from_none, lo
 use Rattle.rv_event.proofs.Growing.{filter-map, named-of_hart}
 use Rattle.rv_event.proofs.Pushed.{WellFormed-front}
 use Rattle.rv_event.specs.Operations.{IsStore}
-use Rattle.rv_event.specs.Log.{named, of_hart, writer, events}
+use Rattle.rv_event.specs.Log.{of_hart, writer, events}
 use Rattle.rv_event.specs.Faults.{expected}
 use Rattle.rv_event.specs.Faults.{dependency_fault, taken_fault, reservation_fault, source_fault, deps_fault}
 use Rattle.rv_event.specs.Faults.{fault_of}
@@ -73,12 +73,9 @@ module _ (one other : List Entry) (x : Entry)
   same_expected : expected (events one) x.event ≡ expected (events other) x.event
   same_expected = ap length same_events
 
-  same_named : (seq : ℕ) → named (events one) (record { hart = x.event.id.hart; seq = seq }) ≡ named (events other)
-      (record { hart = x.event.id.hart; seq = seq })
-  same_named seq = search (named-of_hart, find, same_events, rules)
-
   same_dependency : dependency_fault (events one) x.event ≡ dependency_fault (events other) x.event
-  same_dependency = search (ltb, unwrap_or, option_map, same_named, rules)
+  same_dependency =
+      grind (arith, common_steps, ltb, unwrap_or, option_map, named-of_hart, find, same_events)
 
   same_reservation : reservation_fault (events one) x.event ≡ reservation_fault (events other) x.event
   same_reservation = search (unwrap_or, option_map, find, reverse, same_events, rules)

@@ -6,15 +6,14 @@ use Rattle.std.proofs.lemmas.Bool.{or_cases, or_left, or_right, and_parts, and_f
 use Rattle.std.proofs.lemmas.List.Elements.{Contains-push_cases, Contains-push, All-contains}
 use Rattle.std.proofs.lemmas.Grind.{common_steps}
 use Rattle.rv_event.proofs.Growing.{Any-contains, Any-from_contains, All-from_contains}
-use Rattle.rv_event.specs.Operations.{is_load, is_store, is_memory, is_exclusive, IsLoad, IsStore, IsMemory}
+use Rattle.rv_event.specs.Operations.{is_load, is_store, is_exclusive, IsLoad, IsStore, IsMemory}
 use Rattle.rv_event.specs.Log.{Earlier}
-use Rattle.rv_event.specs.Relations.{in_set, fence_orders, DependsOn}
+use Rattle.rv_event.specs.Relations.{fence_orders, DependsOn}
 use Rattle.rv_event.specs.declared.event.Event.{Event}
 use Rattle.rv_event.specs.declared.event.DepKind.{DepKind}
 use Rattle.rv_event.specs.declared.event.DepKind.TheVariants.{Addr, Ctrl}
 use Rattle.rv_event.specs.declared.event.Op.{Op}
-use Rattle.rv_event.specs.declared.event.Op.TheVariants.{Load, Store, Lr, Sc, ScFailed, Amo, Fence, FenceTso, Branch}
-use Rattle.rv_event.specs.declared.event.Set.TheVariants.{R, W, Rw}
+use Rattle.rv_event.specs.declared.event.Op.TheVariants.{Load, Store, Lr, Branch}
 use Rattle.rv_rows.specs.Bits.{Has, has_bit}
 use Rattle.rv_hart.specs.Harts.{Hart, followed}
 use Rattle.rv_hart.specs.Sets.{HasEvent, RowIs, NamesMemory, IsFencedFor, IsControlling, IsAddressing}
@@ -109,31 +108,6 @@ module _ (h : Hart) (e : Event) (f : Fits h e) where
   pub fenced-never : (op : Op) → IsFencedFor op (followed h e) e → ⊥
   fenced-never op x = search (Any-contains, none_after)
 
--- a fence orders an operation by whether it is a load and whether it is a store
-by_kind_R : (x y s : Bool) → (x && s) ≡ ((x && s) || (y && false))
-by_kind_R true true true = refl
-by_kind_R true true false = refl
-by_kind_R true false true = refl
-by_kind_R true false false = refl
-by_kind_R false true s = refl
-by_kind_R false false s = refl
-
-by_kind_W : (x y s : Bool) → (y && s) ≡ ((x && false) || (y && s))
-by_kind_W true y s = refl
-by_kind_W false y s = refl
-
-by_kind_Rw : (x y s : Bool) → ((x || y) && s) ≡ ((x && s) || (y && s))
-by_kind_Rw true true true = refl
-by_kind_Rw true true false = refl
-by_kind_Rw true false true = refl
-by_kind_Rw true false false = refl
-by_kind_Rw false y s = refl
-
-by_kind_tso : (x y m t : Bool) → ((x && m) || (y && t)) ≡ ((x && (m || false)) || (y && t))
-by_kind_tso true y true t = refl
-by_kind_tso true y false t = refl
-by_kind_tso false y m t = refl
-
 by_kind_none : (x y : Bool) → false ≡ ((x && false) || (y && false))
 by_kind_none true true = refl
 by_kind_none true false = refl
@@ -143,17 +117,7 @@ by_kind_none false false = refl
 -- a fence orders by loads and by stores
 pub orders_by_kind : (f a op : Op) → fence_orders f a op ≡ ((is_load a && fence_orders f Load op) ||
     (is_store a && fence_orders f Store op))
-orders_by_kind (Fence R succ) a op = by_kind_R (is_load a) (is_store a) (in_set succ op)
-orders_by_kind (Fence W succ) a op = by_kind_W (is_load a) (is_store a) (in_set succ op)
-orders_by_kind (Fence Rw succ) a op = by_kind_Rw (is_load a) (is_store a) (in_set succ op)
-orders_by_kind FenceTso a op = by_kind_tso (is_load a) (is_store a) (is_memory op) (is_store op)
-orders_by_kind Load a op = by_kind_none (is_load a) (is_store a)
-orders_by_kind Store a op = by_kind_none (is_load a) (is_store a)
-orders_by_kind Lr a op = by_kind_none (is_load a) (is_store a)
-orders_by_kind Sc a op = by_kind_none (is_load a) (is_store a)
-orders_by_kind ScFailed a op = by_kind_none (is_load a) (is_store a)
-orders_by_kind Amo a op = by_kind_none (is_load a) (is_store a)
-orders_by_kind Branch a op = by_kind_none (is_load a) (is_store a)
+orders_by_kind f a op = grind (arith, common_steps, by_kind_none)
 
 -- what the loads and the stores say of memory operations
 module _ (events : List Event) (loads stores : List ℕ) (loads_are : RowIs loads IsLoad events)

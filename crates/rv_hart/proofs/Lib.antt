@@ -1,5 +1,4 @@
 pub mod Absorbing
-pub mod Conditions
 pub mod Depending
 pub mod Joining
 pub mod Keeping

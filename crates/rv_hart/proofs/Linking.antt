@@ -8,7 +8,7 @@ use Rattle.std.proofs.lemmas.Option.{same_Some}
 use Rattle.std.proofs.lemmas.Grind.{common_steps}
 use Rattle.std.proofs.Common.{rules}
 use Rattle.rv_event.proofs.Names.{named-is}
-use Rattle.rv_event.proofs.Conditions.{Condition-number, Condition-above}
+use Rattle.rv_event.proofs.Conditions.{Condition-number}
 use Rattle.rv_event.specs.Operations.{IsMemory}
 use Rattle.rv_event.specs.Log.{named}
 use Rattle.rv_event.specs.Preserved.{Rule, IsPreserved}
@@ -38,10 +38,6 @@ module _ (h : Hart) (e : Event) (f : Fits h e) (memory : IsMemory e) (s : ℕ) (
   -- a candidate is a memory operation
   pub candidate-operation : IsOperationOf h a
   candidate-operation = record { of_hart = candidate.1.of_hart; memory = candidate.1.rule.from_memory }
-
-  -- no rule is below 1
-  pub none-first : (j : ℕ) → j < 1 → IsOrderedBy h e j s → ⊥
-  none-first j low x = let above = Condition-above h.model (followed h e) x.a e j x.rule.condition in omega arith
 
   -- the first rule that holds is the lowest
   pub lowest-here : (k : ℕ) → ConditionOf h e k a → ((j : ℕ) → j < k → IsOrderedBy h e j s → ⊥) → IsLowestRule h e s k

@@ -11,17 +11,16 @@ use Rattle.rv_event.proofs.Names.{named-is, find-found}
 use Rattle.rv_event.proofs.Indexed.{Indexed, lowest-none, none-lowest, not_taken}
 use Rattle.rv_event.proofs.Growing.{Any-contains, Any-from_contains, All-from_contains, named-of_hart}
 use Rattle.rv_event.specs.Operations.{IsStore, is_exclusive}
-use Rattle.rv_event.specs.Log.{same_id, named, of_hart, writer, Between}
+use Rattle.rv_event.specs.Log.{same_id, named, of_hart, Between}
 use Rattle.rv_event.specs.Relations.{Paired, DependsOn, fence_orders}
 use Rattle.rv_event.specs.Preserved.{Condition, overlapping_store, different_reads, reads_atomic_write}
 use Rattle.rv_event.specs.Preserved.{fenced, after_acquire, before_release, both_rcsc, paired, address}
 use Rattle.rv_event.specs.Preserved.{data_of, control, reads_dependent_write, after_dependent_address}
 use Rattle.rv_event.specs.Preserved.{IsDependentWrite, Rule, IsPreserved}
 use Rattle.rv_event.specs.Edges.{IsLowest, IsStale}
-use Rattle.rv_event.specs.Faults.{event_fault, is_bad_dependency, taken_fault}
+use Rattle.rv_event.specs.Faults.{event_fault, taken_fault}
 use Rattle.rv_event.specs.Faults.{is_reserved}
 use Rattle.rv_event.specs.declared.event.Id.{Id}
-use Rattle.rv_event.specs.declared.event.Dep.{Dep}
 use Rattle.rv_event.specs.declared.event.DepKind.TheVariants.{Addr, Ctrl}
 use Rattle.rv_event.specs.declared.event.Event.{Event}
 use Rattle.rv_event.specs.declared.event.Op.TheVariants.{Branch}
@@ -269,16 +268,8 @@ find-none {X} p q (x ∷ xs) e = go (p x) refl (q x) e (find-none p q xs)
     go false t true f again = rw t (again f)
     go false t false f again = again f
 
-writer_none : (log : List Event) (h word version : ℕ) → writer log word version ≡ None →
-    writer (of_hart h log) word version ≡ None
-writer_none log h word version e = grind (arith, common_steps, find, find-none)
-
 taken_none : (log : List Event) (h : ℕ) (e : Event) → taken_fault log e ≡ None → taken_fault (of_hart h log) e ≡ None
-taken_none log h e none = grind (arith, common_steps, writer_none, not_taken)
-
-bad-own : (log : List Event) (h : ℕ) (e : Event) (d : Dep) → e.id.hart ≡ h →
-    is_bad_dependency (of_hart h log) e d ≡ is_bad_dependency log e d
-bad-own log h e d at = rw (named-own log h (record { hart = e.id.hart; seq = d.seq }) at)
+taken_none log h e none = grind (arith, common_steps, not_taken, find, find-none)
 
 -- equal tests find the same
 pub any-same : {X : Type 0} (p q : X → Bool) (xs : List X) → ((x : X) → p x ≡ q x) → list_any p xs ≡ list_any q xs
@@ -288,7 +279,16 @@ any-same p q (x ∷ xs) same = rw (same x, any-same p q xs same)
 -- an event without a fault over the log has none over its hart's events
 pub fault_own : (log : List Event) (e : Event) → event_fault log e ≡ None → event_fault (of_hart e.id.hart log) e ≡ None
 fault_own log e none =
-    grind (arith, common_steps, lowest-none, own_again, any-same, bad-own, taken_none, none-lowest)
+    grind (
+      arith,
+      common_steps,
+      lowest-none,
+      own_again,
+      any-same,
+      taken_none,
+      none-lowest,
+      named-own,
+    )
 
 -- nor does it change whether the hart has a reservation
 pub reserved-own : (log : List Event) (h : ℕ) → is_reserved (of_hart h log) h ≡ is_reserved log h

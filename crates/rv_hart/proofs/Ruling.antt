@@ -7,15 +7,15 @@ use Rattle.std.proofs.lemmas.List.Elements.{Contains-push, All-contains}
 use Rattle.std.proofs.Common.{arith, rules}
 use Rattle.std.proofs.lemmas.Grind.{common_steps}
 use Rattle.rv_event.proofs.Growing.{Any-contains, Any-from_contains, All-from_contains}
-use Rattle.rv_hart.proofs.Conditions.{reads_atomic_write_out, fenced_out}
-use Rattle.rv_hart.proofs.Conditions.{after_acquire_out, before_release_out, both_rcsc_out, paired_out}
-use Rattle.rv_hart.proofs.Conditions.{address_out, data_of_out, control_out, reads_dependent_write_out}
-use Rattle.rv_hart.proofs.Conditions.{after_dependent_address_out}
-use Rattle.rv_event.specs.Operations.{is_amo, is_load, is_store, is_memory, is_exclusive, IsLoad, IsStore}
+use Rattle.rv_event.proofs.Conditions.{reads_atomic_write_out, fenced_out}
+use Rattle.rv_event.proofs.Conditions.{after_acquire_out, before_release_out, both_rcsc_out, paired_out}
+use Rattle.rv_event.proofs.Conditions.{address_out, data_of_out, control_out, reads_dependent_write_out}
+use Rattle.rv_event.proofs.Conditions.{after_dependent_address_out}
+use Rattle.rv_event.specs.Operations.{is_load, is_store, is_memory, is_exclusive, IsLoad, IsStore}
 use Rattle.rv_event.specs.Operations.{IsMemory, Returns}
 use Rattle.rv_event.specs.Annotations.{is_annotated, IsAcquire, IsRelease, IsRcsc}
 use Rattle.rv_event.specs.Log.{Earlier, Between}
-use Rattle.rv_event.specs.Relations.{Paired, in_set, fence_orders, Fenced, DependsOn}
+use Rattle.rv_event.specs.Relations.{Paired, fence_orders, Fenced, DependsOn}
 use Rattle.rv_event.specs.Preserved.{Condition, reads_atomic_write, fenced}
 use Rattle.rv_event.specs.Preserved.{after_acquire, before_release, both_rcsc, paired, address, data_of}
 use Rattle.rv_event.specs.Preserved.{control, reads_dependent_write, after_dependent_address}
@@ -25,8 +25,6 @@ use Rattle.rv_event.specs.declared.event.DepKind.{DepKind}
 use Rattle.rv_event.specs.declared.event.DepKind.TheVariants.{Addr, DataOf, Ctrl}
 use Rattle.rv_event.specs.declared.event.Op.{Op}
 use Rattle.rv_event.specs.declared.event.Op.TheVariants.{Load, Store, Lr, Sc, ScFailed, Amo, Fence, FenceTso, Branch}
-use Rattle.rv_event.specs.declared.event.Set.{Set}
-use Rattle.rv_event.specs.declared.event.Set.TheVariants.{R, W, Rw}
 use Rattle.rv_event.specs.declared.memory_model.MemoryModel.{MemoryModel}
 use Rattle.rv_event.specs.declared.memory_model.MemoryModel.TheVariants.{Rvwmo, Ztso}
 use Rattle.rv_rows.specs.Bits.{Has, has_bit}
@@ -107,59 +105,22 @@ acquire-memory Rvwmo a h = annotated-memory a.op a.acquire h
 acquire-memory Ztso a h = elim (or_cases (is_load a.op) (is_annotated a.op && a.acquire) h)
     [ inl l ↦ load-memory a l | inr t ↦ annotated-memory a.op a.acquire t ]
 
-amo-memory : (op : Op) → IsTrue (is_amo op) → IsTrue (is_memory op)
-amo-memory Amo t = refl
-amo-memory Load t = absurd (false≢true t)
-amo-memory Store t = absurd (false≢true t)
-amo-memory Lr t = absurd (false≢true t)
-amo-memory Sc t = absurd (false≢true t)
-amo-memory ScFailed t = absurd (false≢true t)
-amo-memory (Fence p q) t = absurd (false≢true t)
-amo-memory FenceTso t = absurd (false≢true t)
-amo-memory Branch t = absurd (false≢true t)
-
 rcsc-memory : (model : MemoryModel) (a : Event) → IsRcsc model a → IsMemory a
-rcsc-memory Rvwmo a h = annotated-memory a.op (a.acquire || a.release) h
-rcsc-memory Ztso a h = elim (or_cases (is_amo a.op) (is_annotated a.op && (a.acquire || a.release)) h)
-    [ inl l ↦ amo-memory a.op l | inr t ↦ annotated-memory a.op (a.acquire || a.release) t ]
+rcsc-memory model a h = grind (arith, common_steps, annotated-memory, or_cases, false≢true)
 
 fence-memory : (f a op : Op) → IsTrue (fence_orders f a op) → IsTrue (is_memory a)
 fence-memory f a op h = grind (arith, common_steps)
 
 -- ---- what a fence orders before an operation it orders before a load or a store that the operation is
-set_cases : (succ : Set) (b : Op) → IsTrue (in_set succ b) → (IsTrue (is_load b) × IsTrue (in_set succ Load)) ⊎
-    (IsTrue (is_store b) × IsTrue (in_set succ Store))
-set_cases R b h = inl (h, refl)
-set_cases W b h = inr (h, refl)
-set_cases Rw b h = elim (or_cases (is_load b) (is_store b) h) [ inl l ↦ inl (l, refl) | inr w ↦ inr (w, refl) ]
-
-set_load : (succ : Set) (b : Op) → IsTrue (is_load b) → IsTrue (in_set succ Load) → IsTrue (in_set succ b)
-set_load R b l h = l
-set_load W b l h = absurd (false≢true h)
-set_load Rw b l h = or_left (is_load b) (is_store b) l
-
-set_store : (succ : Set) (b : Op) → IsTrue (is_store b) → IsTrue (in_set succ Store) → IsTrue (in_set succ b)
-set_store R b l h = absurd (false≢true h)
-set_store W b l h = l
-set_store Rw b l h = or_right (is_load b) (is_store b) l
-
 orders_cases : (f a b : Op) → IsTrue (fence_orders f a b) → (IsTrue (is_load b) × IsTrue (fence_orders f a Load)) ⊎
     (IsTrue (is_store b) × IsTrue (fence_orders f a Store))
-orders_cases (Fence pred succ) a b h = grind (arith, common_steps, and_parts, set_cases, and_from)
-orders_cases FenceTso a b h = grind (arith, common_steps)
-orders_cases f a b h = absurd (false≢true h)
+orders_cases f a b h = grind (arith, common_steps, and_parts, and_from, false≢true, or_cases)
 
 orders_load : (f a b : Op) → IsTrue (is_load b) → IsTrue (fence_orders f a Load) → IsTrue (fence_orders f a b)
-orders_load (Fence pred succ) a b l h = let p = and_parts (in_set pred a) (in_set succ Load) h in
-    and_from _ _ p.0 (set_load succ b l p.1)
-orders_load FenceTso a b l h = grind (arith, common_steps)
-orders_load f a b l h = absurd (false≢true h)
+orders_load f a b h l = grind (arith, common_steps, and_parts, and_from, false≢true, or_left)
 
 orders_store : (f a b : Op) → IsTrue (is_store b) → IsTrue (fence_orders f a Store) → IsTrue (fence_orders f a b)
-orders_store (Fence pred succ) a b l h = let p = and_parts (in_set pred a) (in_set succ Store) h in
-    and_from _ _ p.0 (set_store succ b l p.1)
-orders_store FenceTso a b l h = grind (arith, common_steps)
-orders_store f a b l h = absurd (false≢true h)
+orders_store f a b h l = grind (arith, common_steps, and_parts, and_from, false≢true, or_right)
 
 -- ---- each rule
 module _ (h : Hart) (e : Event) (f : Fits h e) (memory : IsMemory e) where

@@ -1,5 +1,5 @@
 -- Rows say which events rules lead from, also after one more event.
-use Rattle.std.proofs.Common.{◌≡◌, ℕ, ◌==◌, ◌%◌, false, ◌<◌, ◌≤◌, List, [], ◌∷◌, ◌++◌, length, get_or}
+use Rattle.std.proofs.Common.{◌≡◌, ℕ, ◌<◌, ◌≤◌, List, [], ◌∷◌, ◌++◌, length, get_or}
 use Rattle.std.proofs.Common.{Contains, ◌⊎◌, ◌↔◌, inl, inr, sym, refl, ap, ◌∙◌, arith, subst}
 use Rattle.std.proofs.lemmas.Nat.Bits.{bit_at-zero}
 use Rattle.std.proofs.lemmas.Bool.{false≢true, cases_lt, cases_order}
@@ -18,7 +18,7 @@ use Rattle.rv_event.specs.declared.reason.Reason.TheVariants.{Preserved}
 use Rattle.rv_cover.specs.Paths.{one, more, AnyRule, Reaches}
 use Rattle.rv_cover.specs.Carries.{IsSplit}
 use Rattle.rv_cover.proofs.Covering.{path-append, path-map, reaches-earlier}
-use Rattle.rv_rows.specs.Bits.{Has, has_bit}
+use Rattle.rv_rows.specs.Bits.{Has}
 use Rattle.rv_rows.specs.Closure.{RowHas, IsClosed, IsReached, IsThinned}
 use Rattle.rv_hart.specs.Harts.{Hart, followed, hart_with}
 use Rattle.rv_hart.specs.Rows.{IsBefore, RowsMean, IsCandidate, IsEnough}
@@ -31,6 +31,7 @@ pub record LastStep (model : MemoryModel) (log : List Event) (a b : Event) : Typ
   pub last : AnyRule model log c b
 
 module _ (model : MemoryModel) (log : List Event) where
+  -- the same event, or rules lead from the one to the other
   abbrev pub Leads : Event → Event → Type 0
   Leads a b = (a ≡ b) ⊎ Reaches model log a b
 
@@ -98,12 +99,9 @@ pub row_own : (h : Hart) (rows : List (List ℕ)) (a : Event) → RowsMean h row
     RowHas rows a.id.seq a.id.seq
 row_own h rows a mean ca memory = grind (arith, common_steps)
 
-has_bit-nil : (s : ℕ) → has_bit [] s ≡ false
-has_bit-nil s = ap (λ x. x == 1) (bit_at-zero (s % 64))
-
 -- no row has nothing
 pub none_has : (s : ℕ) → Has [] s → ⊥
-none_has s x = false≢true (sym (has_bit-nil s) ∙ x)
+none_has s x = grind (arith, common_steps, false≢true, bit_at-zero)
 
 module _ (h : Hart) (e : Event) (f : Fits h e) where
   abbrev log : List Event

@@ -21,7 +21,7 @@ use Rattle.std.proofs.lemmas.Grind.{common_steps}
 use Rattle.rv_hart.specs.Words.{IsOfWord, IsAbove, NamesOfWord, IsLastBelow, IsBeforeRun, IsWordLink, AreWords}
 use Rattle.rv_hart.specs.declared.words.WordLink.{WordLink}
 use Rattle.rv_hart.specs.declared.words.Words.{Words}
-use Rattle.rv_hart.proofs.Conditions.{overlapping_store_out, different_reads_out}
+use Rattle.rv_event.proofs.Conditions.{overlapping_store_out, different_reads_out}
 use Rattle.rv_hart.proofs.Knowing.{Known, Fits, same_event, follows_all, earlier_old, old_new}
 use Rattle.rv_hart.proofs.Tying.{rule-old}
 use Rattle.rv_hart.proofs.Ruling.{ordered}

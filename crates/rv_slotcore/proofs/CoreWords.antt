@@ -90,13 +90,22 @@ bit_set w k n = let m : bit_and w (2 ^ k) ≡ bit_at w k * 2 ^ k = and_pow w k i
     bit_at-lt w k in one_is (bit_at w k)
     (one_from (bit_at w k) l (λ z. n (m ∙ ap (λ (t : ℕ). t * 2 ^ k) z ∙ zero-mul (2 ^ k))))
 
--- a mask that gives 0 finds the bit clear
-pub bit_clear : (w k : ℕ) → bit_and w (2 ^ k) ≡ 0 → (bit_at w k == 1) ≡ false
-bit_clear w k e = grind (arith, common_steps, and_pow, bit_at-lt, pow_pos, ne_eqb, not_both)
-
 -- a mask tells the bit
 pub mask_is : (w k : ℕ) → not (nat_eq (bit_and w (2 ^ k)) 0) ≡ (bit_at w k == 1)
-mask_is w k = grind (arith, common_steps, bit_clear, eqb-true, bit_set, true≢false, eq-eqb)
+mask_is w k =
+    grind (
+      arith,
+      common_steps,
+      eqb-true,
+      bit_set,
+      true≢false,
+      eq-eqb,
+      and_pow,
+      bit_at-lt,
+      pow_pos,
+      ne_eqb,
+      not_both,
+    )
 
 flag_of_bit : (n : ℕ) → n < 2 → n ≡ flag (n == 1)
 flag_of_bit n h = grind (arith, common_steps)

@@ -1,5 +1,5 @@
 -- The slot that a seat's state names is one of the table, after every step.
-use Rattle.std.proofs.Common.{◌≡◌, ℕ, ◌<◌, Bool, true, false, ◌&&◌, refl, sym, List, true≢false}
+use Rattle.std.proofs.Common.{◌≡◌, ℕ, ◌<◌, Bool, true, false, ◌&&◌, refl, List, true≢false}
 use Rattle.std.specs.Prelude.{Option, nat_lt}
 use Rattle.std.proofs.lemmas.Bool.{ltb-true}
 use Rattle.std.proofs.Common.{arith}
@@ -9,17 +9,13 @@ use Rattle.rv_slotcore.specs.Machine.{Act}
 use Rattle.rv_slotcore.specs.Machine.{put_at}
 use Rattle.rv_slotcore.specs.Machine.{claims, puts, publishes, publishes_if, pins_on, pins_as}
 use Rattle.rv_slotcore.specs.Machine.{gets}
-use Rattle.rv_slotcore.specs.Machine.{finishes, unpins, frees, frees_if, if_fits, moves, Moved}
+use Rattle.rv_slotcore.specs.Machine.{finishes, unpins, frees, frees_if, moves}
 use Rattle.rv_slotcore.specs.CoreIs.{names_slot_below}
 use Rattle.rv_slotcore.proofs.Updates.{put_cases}
 
 -- each seat's state names a slot that is there
 abbrev pub AllNamed : Core → Type 0
 AllNamed c = (t : ℕ) → names_slot_below c.slot_count (c.seats t).state
-
-second_true : (a b : Bool) → a && b ≡ true → b ≡ true
-second_true true b e = e
-second_true false b e = absurd (true≢false (sym e))
 
 module _ (c : Core) (s : ℕ) (h : AllNamed c) where
   put_keeps : (q : Seat) → names_slot_below c.slot_count q.state → (t : ℕ)
@@ -67,12 +63,8 @@ module _ (c : Core) (s : ℕ) (h : AllNamed c) where
   frees_keep : (i seen : ℕ) (st : SeatState) → AllNamed (frees c s i seen st).0
   frees_keep i seen st = grind (arith, common_steps, free_if)
 
-  fits_keep : (b : Bool) (m : Moved) → (b ≡ true → AllNamed m.0) → AllNamed (if_fits c s b m).0
-  fits_keep true m f = f refl
-  fits_keep false m f = h
-
   low : (a : Bool) (i : ℕ) → a && nat_lt i c.slot_count ≡ true → i < c.slot_count
-  low a i e = ltb-true i c.slot_count (second_true a (nat_lt i c.slot_count) e)
+  low a i e = grind (arith, common_steps, ltb-true, true≢false)
 
   -- each act keeps the names of slots and seats
   pub moves_keep_named : (a : Act) → AllNamed (moves c s a).0
@@ -80,7 +72,6 @@ module _ (c : Core) (s : ℕ) (h : AllNamed c) where
       grind (
         arith,
         common_steps,
-        fits_keep,
         claims_keep,
         puts_keep,
         publishes_keep,
@@ -131,18 +122,12 @@ module _ (c : Core) (s : ℕ) where
       ≡ c.seat_count
   frees_keep_count i seen st = grind (arith, common_steps, free_if_count)
 
-  fits_keep_count : (b : Bool) (m : Moved) → (b ≡ true → m.0.seat_count ≡ c.seat_count) →
-      (if_fits c s b m).0.seat_count ≡ c.seat_count
-  fits_keep_count true m f = f refl
-  fits_keep_count false m f = refl
-
   -- and the number of seats
   pub moves_keep_count : (a : Act) → (moves c s a).0.seat_count ≡ c.seat_count
   moves_keep_count a =
       grind (
         arith,
         common_steps,
-        fits_keep_count,
         claims_keep_count,
         puts_keep_count,
         publishes_keep_count,

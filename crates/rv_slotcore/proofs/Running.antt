@@ -9,7 +9,6 @@ use Rattle.rv_slotcore.specs.Machine as machine
 use Rattle.rv_slotcore.specs.CoreIs.{step_of, answer_of}
 use Rattle.rv_slotcore.specs.declared.step.Step.{Step}
 use Rattle.rv_slotcore.specs.declared.step.Answer.{Answer}
-use Rattle.rv_slotcore.proofs.Updates.{run-append}
 
 answers-append : (es fs : List machine.Step) (c : machine.Core) → answers (es ++ fs) c
     ≡ answers es c ++ answers fs (run es c)
@@ -26,11 +25,6 @@ module _ (all : List Step) (k : ℕ) (d : Step) (from : machine.Core) where
   one_more : k < length all → map step_of (take (k + 1) all) ≡ first ++ next ∷ []
   one_more low = ap (map step_of) (take_more all k d low) ∙ map-append step_of (take k all)
       (get_or all k d ∷ [])
-
-  -- one step more of a run
-  pub core_more : k < length all → (c e : machine.Core) → c ≡ run first from → e ≡ after c next
-      → e ≡ run (map step_of (take (k + 1) all)) from
-  core_more low c e ran is = grind (arith, common_steps, run-append, one_more)
 
   -- one answer more
   pub told_more : k < length all → (c : machine.Core) (told more : List Answer) (a : Answer) → c

@@ -26,14 +26,10 @@ blank_at zero i = refl
 blank_at (suc n) zero = empty_is
 blank_at (suc n) (suc i) = blank_at n i
 
-idle_at : (n i : ℕ) → get_or (replicate n idle_seat) i idle_seat ≡ idle_seat
-idle_at n i = grind (arith, common_steps)
-
 -- a new program is the machine's start
 pub starts : (h : Parts) (n m : ℕ) → h.slots.items ≡ replicate n empty_slot
     → map seat_of h.seats.items ≡ replicate m idle_seat → core_of h ≡ start n m
-starts h n m slots idle =
-    grind (arith, common_steps, length-replicate, length-map, blank_at, idle_at)
+starts h n m slots idle = grind (arith, common_steps, length-replicate, length-map, blank_at)
 
 -- what is filled up from nothing
 pub filled : (xs ys : List SlotState) (n k : ℕ) → xs ≡ take n ys ++ replicate (n - k) empty_slot

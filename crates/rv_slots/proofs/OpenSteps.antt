@@ -14,6 +14,7 @@ use Rattle.rv_slots.specs.Opening.{AreSeats}
 use Rattle.rv_slots.specs.Rule.{Kept}
 use Rattle.rv_slots.proofs.Places.{cuts, in_longer}
 
+-- what one thread knows: a view
 abbrev pub Mine : Type 0
 Mine = Me (Unit {0}) View
 
@@ -46,18 +47,12 @@ right_is k m w h e f = f ∙
 pub idle_fresh : (k : ℕ) (w : Mine) → k ≤ last_seat → w ≡ only (fresh k) → IsIdle k w
 idle_fresh k w h e = grind (arith, common_steps)
 
--- one seat more
-pub more_seats : (t : TableId) (l : List Seat) (k : ℕ) (s : Seat) → AreSeats t l k
-    → s.place.table_id ≡ t → s.number ≡ k → s.place.me ≡ only (fresh k) → AreSeats t (l ++ s ∷ [])
-    (k + 1)
-more_seats t l k s a same named e = grind (arith, common_steps, length-append, ⊎_elim, in_longer)
-
 -- at the end of the list
 pub seats_pushed : (t : TableId) (l m : List Seat) (k : ℕ) (s : Seat) → m ≡ l ++ s ∷ []
     → AreSeats t l k → s.place.table_id ≡ t → s.number ≡ k → s.place.me ≡ only (fresh k)
     → AreSeats t m (k + 1)
-seats_pushed t l m k s is a same named e = subst (λ (z : List Seat). AreSeats t z (k + 1))
-    (sym is) (more_seats t l k s a same named e)
+seats_pushed t l m k s is a same named e =
+    grind (arith, common_steps, length-append, ⊎_elim, in_longer)
 
 -- within the list the default doesn't matter
 at_default : (l : List Seat) (j : ℕ) (d : Seat) → j < length l

@@ -17,6 +17,7 @@ use Rattle.rv_slots.specs.declared.views.SeatView.{SeatView}
 use Rattle.rv_slots.specs.Rule.{At, IsSeated, IsReached, IsTable, IsMarked, Marked, AreWhole}
 use Rattle.rv_slots.specs.Rule.{Whole, Fits, Kept}
 
+-- a view of one seat
 abbrev pub one : SeatView → View
 one p = record { seats = p ∷ [] }
 

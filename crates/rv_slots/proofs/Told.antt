@@ -14,11 +14,12 @@ use Rattle.rv_slots.specs.declared.views.SeatState.TheVariants.{Idle, Stray}
 use Rattle.std.proofs.Common.{◌==◌, eq-eqb, true≢false}
 use Rattle.std.proofs.lemmas.Grind.{common_steps}
 use Rattle.rv_slots.specs.declared.views.Record.{Record}
-use Rattle.rv_slots.specs.Lines.{pinned, pin_state, IsNewest, the_view}
-use Rattle.rv_slots.specs.Lines.{claimed, ToldFor}
-use Rattle.rv_slots.specs.Knows.{IsAlone, IsIdle, IsFilling, IsPinned, IsStray}
+use Rattle.rv_slots.specs.Lines.{pin_state, IsNewest, the_view}
+use Rattle.rv_slots.specs.Lines.{ToldFor}
+use Rattle.rv_slots.specs.Knows.{IsAlone, IsIdle}
 use Rattle.rv_slots.proofs.Seating.{one}
 
+-- what one thread knows: a view
 abbrev pub Mine : Type 0
 Mine = Me (Unit {0}) View
 
@@ -42,16 +43,6 @@ pub told_here : (line : ℕ → SeatView) (slot : ℕ) (w : Mine) → ToldFor (s
     → w ≡ (one (line slot), [])
 told_here line slot w t = let k = t.0 in let f = t.1 in let same : k ≡ slot = omega arith in t.2
     ∙ ap (λ (z : ℕ). (one (line z), [])) same
-
--- the seat fills the slot
-pub filling_after : (q i n : ℕ) (m w : Mine) → IsIdle q m → ToldFor (slot_words * i)
-    (λ k. claimed (the_view m.0) k n) w → bit_at n claimed_bit ≡ 0 → IsFilling q i w
-filling_after q i n m w idle t clear = grind (arith, common_steps)
-
--- or the slot was busy
-pub busy_after : (q i n : ℕ) (m w : Mine) → IsIdle q m → ToldFor (slot_words * i)
-    (λ k. claimed (the_view m.0) k n) w → bit_at n claimed_bit ≡ 1 → IsIdle q w
-busy_after q i n m w idle t set = grind (arith, common_steps)
 
 -- the view afterwards
 pub view_told : (line : ℕ → SeatView) (slot : ℕ) (w : Mine) → ToldFor (slot_words * slot) line w
@@ -96,12 +87,6 @@ pub done_set : (n : ℕ) → bit_and n (2 ^ done_bit) ≢ 0 → bit_at n done_bi
 done_set n h = let e : bit_and n (2 ^ done_bit) ≡ bit_at n done_bit * 2 ^ done_bit =
     and_pow n done_bit in let l = bit_at-lt n done_bit in omega arith
 
--- the seat has the slot pinned
-pub pinned_after : (q i n : ℕ) (m w : Mine) → IsIdle q m → ToldFor (slot_words * i)
-    (λ k. pinned (the_view m.0) k n) w → bit_at n full_bit ≡ 1 → bit_at n done_bit ≡ 0
-    → IsPinned q i w
-pinned_after q i n m w idle t full live = grind (arith, common_steps)
-
 -- 0 is not 1
 pub zero_one : ◌≡◌ {A = ℕ} 0 1 → ⊥
 zero_one e = omega arith
@@ -110,12 +95,6 @@ stray_state : (i g f d : ℕ) → (f ≡ 1 → d ≡ 1) → f < 2 → pin_state 
 stray_state i g zero d h l = refl
 stray_state i g (suc f) zero h l = let one : suc f ≡ 1 = omega arith in absurd (zero_one (h one))
 stray_state i g (suc f) (suc d) h l = refl
-
--- or its pin is stray
-pub stray_after : (q i n : ℕ) (m w : Mine) → IsIdle q m → ToldFor (slot_words * i)
-    (λ k. pinned (the_view m.0) k n) w → (bit_at n full_bit ≡ 1 → bit_at n done_bit ≡ 1)
-    → IsStray q i w
-stray_after q i n m w idle t h = grind (arith, common_steps)
 
 -- no record is of a later generation
 pub latest_told : (p : SeatView) (i n : ℕ) → IsNewest p (slot_words * i) n → (r : Record)

@@ -28,6 +28,7 @@ use Rattle.std.specs.Int.{bit_not, w64}
 use Rattle.std.proofs.Common.{bit_and}
 use Rattle.std.proofs.lemmas.Grind.{common_steps}
 
+-- all bits but the seat's
 abbrev pub bit_not_of : ℕ → ℕ
 bit_not_of s = bit_not w64 (2 ^ s)
 

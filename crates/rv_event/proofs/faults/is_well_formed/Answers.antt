@@ -1,11 +1,14 @@
 -- The log is well formed as far as it was looked at.
+use Rattle.std.proofs.lemmas.Bool.{false≢true}
+use Rattle.rv_event.proofs.Bounded.{length-WellFormed}
+use Rattle.std.proofs.lemmas.Grind.{common_steps}
 use Rattle.std.proofs.Common.{sym, ◌∙◌, arith}
-use Rattle.rv_event.proofs.Checked.{too_long, one_more, none_more}
+use Rattle.rv_event.proofs.Checked.{one_more, none_more}
 use Rattle.rv_event.proofs.Pushed.{WellFormed-nil}
 use Rattle.rv_event.proofs.faults.is_well_formed.Goals as goal
 
 pub returns-then-log-gt65536 : goal.returns-then-log-gt65536
-returns-then-log-gt65536 c = too_long c.args.log.now (omega arith)
+returns-then-log-gt65536 c = grind (arith, common_steps, false≢true, length-WellFormed)
 
 pub loop-i-init : goal.loop-i-init
 loop-i-init c = WellFormed-nil

@@ -1,9 +1,10 @@
+use Rattle.rv_event.proofs.Conditions.{Condition-above}
 use Rattle.std.proofs.Common.{◌≡◌, ◌<◌, ◌↔◌, IsTrue, length, sym, ◌∙◌, subst, arith}
 use Rattle.std.proofs.lemmas.Bool.{false≢true}
 use Rattle.std.proofs.lemmas.Grind.{common_steps}
 use Rattle.rv_hart.specs.RuleRows.{IsOperationOf, ConditionOf}
 use Rattle.rv_hart.proofs.Knowing.{read_is}
-use Rattle.rv_hart.proofs.Linking.{candidate-operation, none-first, lowest-here, none-here, some-rule}
+use Rattle.rv_hart.proofs.Linking.{candidate-operation, lowest-here, none-here, some-rule}
 use Rattle.rv_event.specs.declared.event.Event.{Event}
 use Rattle.rv_hart.specs.Harts.{Hart}
 use Rattle.rv_hart.specs.Kept.{hart_of}
@@ -21,7 +22,7 @@ index-met-requires c =
     omega (arith, c.args.self.now.events.ok.0)
 
 pub loop-rule-init : goal.loop-rule-init
-loop-rule-init c = search (fits_of, none-first)
+loop-rule-init c = grind (arith, common_steps, fits_of, Condition-above)
 
 pub is_condition-requires-clause-met : goal.is_condition-requires-clause-met
 is_condition-requires-clause-met c =

@@ -1,7 +1,7 @@
 use Rattle.std.proofs.Common.{arith}
 use Rattle.std.proofs.lemmas.Grind.{common_steps}
 use Rattle.rv_slots.proofs.ClaimSteps.{claims_by}
-use Rattle.rv_slots.proofs.Told.{inside_after, filling_after, busy_after, clear_bit}
+use Rattle.rv_slots.proofs.Told.{inside_after, clear_bit}
 use Rattle.rv_slots.proofs.Told.{set_bit}
 use Rattle.rv_slots.proofs.slots.Slots.claim.Goals as goal
 
@@ -16,7 +16,7 @@ fetch_or-found-requires c = let sized = c.args.self.now.sized in let below = c.r
     )
 
 pub invariant_of-result : goal.invariant_of-result
-invariant_of-result c = search (filling_after, clear_bit, inside_after)
+invariant_of-result c = grind (arith, common_steps, clear_bit, inside_after)
 
 pub invariant_of-result-else-found-eq0 : goal.invariant_of-result-else-found-eq0
-invariant_of-result-else-found-eq0 c = grind (arith, common_steps, busy_after, set_bit)
+invariant_of-result-else-found-eq0 c = grind (arith, common_steps, set_bit)

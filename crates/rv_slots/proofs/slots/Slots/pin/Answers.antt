@@ -1,8 +1,8 @@
-use Rattle.std.proofs.Common.{arith, sym}
-use Rattle.std.proofs.Common.{◌∙◌}
+use Rattle.std.proofs.Common.{rules}
+use Rattle.std.proofs.Common.{arith}
 use Rattle.std.proofs.lemmas.Grind.{common_steps}
 use Rattle.rv_slots.proofs.PinSteps.{pins_with}
-use Rattle.rv_slots.proofs.Told.{zero_one, view_told, inside_after, pinned_after, stray_after}
+use Rattle.rv_slots.proofs.Told.{zero_one, view_told, inside_after}
 use Rattle.rv_slots.proofs.Told.{latest_told, full_set, full_clear, done_set, done_clear}
 use Rattle.rv_slots.proofs.slots.Slots.pin.Goals as goal
 use Rattle.rv_slots.proofs.slots.Slots.pin.Goals.{else-found-ne0-via-then-found-ne0+else-found-eq0}
@@ -19,19 +19,21 @@ fetch_or-found-requires c = let sized = c.args.self.now.sized in let below = c.r
     )
 
 pub invariant_of-result : goal.invariant_of-result
-invariant_of-result c = search (pinned_after, full_set, done_clear, inside_after)
+invariant_of-result c = grind (arith, common_steps, full_set, done_clear, inside_after)
 
 pub invariant_of-result-else-found-ne0 : goal.invariant_of-result-else-found-ne0
 invariant_of-result-else-found-ne0 c = let q = c.args.seat in let n = c.fetch_or-found.result in
     record {
-      stray = stray_after q.number c.args.slot n q.place.me c.fetch_or-found.new.seat.me q.idle
-          c.fetch_or-found.ensures.2.0
-          (elim c.else-found-ne0.branch [
-            | else-found-ne0-via-then-found-ne0+else-found-eq0 w ↦ λ _.
-                done_set n w.if-found-eq0.false
-            | else-found-ne0-via-else-found-ne0 w ↦ λ e. absurd
-                (zero_one (sym (full_clear n w.if-found-ne0.false) ∙ e))
-          ]);
+      stray =
+          search (
+            n,
+            else-found-ne0-via-then-found-ne0+else-found-eq0,
+            done_set,
+            else-found-ne0-via-else-found-ne0,
+            zero_one,
+            full_clear,
+            rules,
+          );
       inside = grind (arith, common_steps);
     }
 
