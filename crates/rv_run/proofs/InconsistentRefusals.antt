@@ -1,5 +1,7 @@
 -- What a pass refuses is not consistent.
-use Rattle.std.proofs.Common.{◌≡◌, ◌==◌, ◌↔◌, List, [], ◌∷◌, ◌++◌, sym, ◌∙◌, subst, append_assoc}
+use Rattle.std.proofs.Common.{arith}
+use Rattle.std.proofs.lemmas.Grind.{common_steps}
+use Rattle.std.proofs.Common.{◌≡◌, ◌==◌, ◌↔◌, List, [], ◌∷◌, ◌++◌, sym, ◌∙◌, subst}
 use Rattle.std.proofs.lemmas.Option.{none-some}
 use Rattle.std.proofs.lemmas.List.Elements.{filter-append}
 use Rattle.rv_event.specs.Log.{events}
@@ -26,8 +28,7 @@ exactly_allowed model entries (Malformed m) told = (
 )
 exactly_allowed model entries (Forbidden f) told =
     let evidence = told.0 ++ told.1 ∷ [] in
-    let whole : entries ≡ evidence ++ told.2.after =
-    told.2.whole ∙ sym (append_assoc told.0 (told.1 ∷ []) told.2.after) in (
+    let whole : entries ≡ evidence ++ told.2.after = grind (arith, common_steps) in (
       λ none. absurd none,
       λ ok. absurd (no_longer_log model evidence entries f.certificate ok.lawful.0
           (WellFormed-front evidence told.2.after (subst WellFormed whole ok.well_formed)) ok.well_formed

@@ -1,4 +1,6 @@
 -- What is counted over a log is the same for each merge of its sources.
+use Rattle.std.proofs.lemmas.Grind.{common_steps}
+use Rattle.std.proofs.Common.{rules}
 use Rattle.std.proofs.Common.{◌≡◌, ℕ, suc, zero, ◌+◌, ◌<◌, ◌≤◌, ◌==◌, ◌⊎◌, Bool, true, false, cond, ◌&&◌, not}
 use Rattle.std.proofs.Common.{List, [], ◌∷◌, length, All, find, None, Some, count_by, inl, inr, refl, sym, ap}
 use Rattle.std.proofs.Common.{◌∙◌, arith}
@@ -63,12 +65,7 @@ total-one (suc n) s v low = one-last n s v (n == s) refl low (total-one n s v)
 weight-one :
     (h : Entry → ℕ) (j : ℕ) (x : Entry) (log : List Entry) → weight h (from_source j (x ∷ log)) ≡ cond (j == x.source)
     (h x) 0 + weight h (from_source j log)
-weight-one h j x log = go (j == x.source)
-  where
-    go : (b : Bool) → weight h (cond b (x ∷ from_source j log) (from_source j log)) ≡ cond b (h x) 0 +
-        weight h (from_source j log)
-    go true = refl
-    go false = let sum : weight h (from_source j log) ≡ 0 + weight h (from_source j log) = omega arith in sum
+weight-one h j x log = grind (arith, common_steps)
 
 -- a log weighs what its sources weigh together
 weight-split : (h : Entry → ℕ) (n : ℕ) (log : List Entry) → All (λ x. x.source < n) log →
@@ -104,19 +101,13 @@ weight-count p log = is_count_by (weight (λ x. cond (p x) 1 0)) p refl
     step false rest = omega arith
 
 weight-like : (h g : Entry → ℕ) (log : List Entry) → ((x : Entry) → h x ≡ g x) → weight h log ≡ weight g log
-weight-like h g [] like = refl
-weight-like h g (x ∷ log) like = ap (λ (k : ℕ). k + weight h log) (like x) ∙
-    ap (λ (k : ℕ). g x + k) (weight-like h g log like)
+weight-like h g log l = grind (arith, common_steps)
 
 none-here :
     (p : Event → Bool) (x : Entry) (log : List Entry) (b : Bool) → is_none (find p (events log)) ≡
     (weight (λ y. cond (p y.event) 1 0) log == 0) →
     is_none (cond b (Some x.event) (find p (events log))) ≡ ((cond b 1 0 + weight (λ y. cond (p y.event) 1 0) log) == 0)
-none-here p x log true so = sym (apart (1 + weight (λ y. cond (p y.event) 1 0) log) 0
-    (λ none. absurd (omega (arith, none))))
-none-here p x log false so =
-    let sum : 0 + weight (λ y. cond (p y.event) 1 0) log ≡ weight (λ y. cond (p y.event) 1 0) log = omega arith in
-    so ∙ ap (λ (k : ℕ). k == 0) (sym sum)
+none-here p x log b h = grind (arith, common_steps)
 
 -- a search finds nothing where nothing weighs
 found-none : (p : Event → Bool) (log : List Entry) → is_none (find p (events log)) ≡
@@ -156,9 +147,4 @@ module _ (n : ℕ) (one other : List Entry) (low : All (λ x. x.source < n) one)
 
   -- as many waiting loads
   pub waiting-merge : waiting_of one ≡ waiting_of other
-  waiting-merge =
-      sym (weight-count (λ x. is_waiting (events one) x.event) one)
-      ∙ weight-like (λ x. cond (is_waiting (events one) x.event) 1 0)
-      (λ x. cond (is_waiting (events other) x.event) 1 0) one
-      (λ x. ap (λ (b : Bool). cond b 1 0) (waits-alike x.event))
-      ∙ weight-count (λ x. is_waiting (events other) x.event) one ∙ count-merge (λ x. is_waiting (events other) x.event)
+  waiting-merge = search (weight-count, weight-like, cond, waits-alike, count-merge, rules)

@@ -1,8 +1,10 @@
 -- Entries of several sources, and merges of them.
-use Rattle.std.proofs.Common.{◌≡◌, ℕ, suc, zero, ◌+◌, ◌<◌, ◌≤◌, ◌==◌, Bool, true, false, cond, List, [], ◌∷◌}
+use Rattle.std.proofs.lemmas.Grind.{common_steps}
+use Rattle.std.proofs.Common.{rules}
+use Rattle.std.proofs.Common.{◌≡◌, ℕ, suc, zero, ◌+◌, ◌<◌, ◌≤◌, ◌==◌, Bool, false, cond, List, [], ◌∷◌}
 use Rattle.std.proofs.Common.{◌++◌, length, drop, get_or, All, ◌⊎◌, inl, inr, refl, sym, ap, ◌∙◌, subst}
 use Rattle.std.proofs.Common.{append-nil, arith}
-use Rattle.std.proofs.lemmas.Bool.{eq-eqb, eqb-true, cases_lt}
+use Rattle.std.proofs.lemmas.Bool.{eq-eqb, cases_lt}
 use Rattle.std.proofs.lemmas.List.{map-append, drop_at}
 use Rattle.std.proofs.lemmas.List.Elements.{filter-append, All-head, All-tail, All-append, All-nil, All-cons}
 use Rattle.rv_event.specs.Log.{events}
@@ -18,11 +20,7 @@ together from (es ∷ more) = entries_of from es ++ together (suc from) more
 
 -- numbers that differ
 pub apart : (a b : ℕ) → (a ≡ b → ⊥) → (a == b) ≡ false
-apart a b differ = go (a == b) refl
-  where
-    go : (same : Bool) → (a == b) ≡ same → same ≡ false
-    go true is = absurd (differ (eqb-true a b is))
-    go false is = refl
+apart a b differ = grind (arith, common_steps)
 
 -- of a source's own entries all are from it, of another's none
 own-entries : (source : ℕ) (es : List Event) → from_source source (entries_of source es) ≡ entries_of source es
@@ -45,11 +43,7 @@ given-one :
     from_source source log ≡ entries_of source (given_by source log) →
     cond b (x ∷ from_source source log) (from_source source log) ≡ entries_of source
     (events (cond b (x ∷ from_source source log) (from_source source log)))
-given-one source x log true is so =
-    ap (λ (l : List Entry). x ∷ l) so
-    ∙ ap (λ (n : ℕ). record { source = n; event = x.event } ∷ entries_of source (given_by source log))
-    (sym (eqb-true source x.source is))
-given-one source x log false is so = so
+given-one source x log b h l = grind (arith, common_steps)
 
 -- the entries from a source are those of its events
 pub from-given : (source : ℕ) (log : List Entry) → from_source source log ≡ entries_of source (given_by source log)
@@ -144,15 +138,11 @@ pub record GoesOn (log : List Entry) (ess : List (List Event)) : Type 0 where
 
 in-all : (k : ℕ) (ess : List (List Event)) → k < length ess → from_source k (together 0 ess) ≡ entries_of k
     (get_or ess k [])
-in-all k ess low =
-    let same : 0 + k ≡ k = omega arith in
-    subst (λ (n : ℕ). from_source n (together 0 ess) ≡ entries_of n (get_or ess k [])) same (in-together k 0 ess low)
+in-all k ess low = grind (arith, common_steps, in-together)
 
 left-all : (k : ℕ) (log : List Entry) (ess : List (List Event)) → k < length ess → get_or (lefts 0 log ess) k [] ≡ drop
     (length (given_by k log)) (get_or ess k [])
-left-all k log ess low =
-    let same : 0 + k ≡ k = omega arith in
-    lefts-at k 0 log ess low ∙ ap (λ (n : ℕ). drop (length (given_by n log)) (get_or ess k [])) same
+left-all k log ess low = search (lefts-at, rules)
 
 -- merges of longer sources continue merges of their beginnings
 pub goes-on :

@@ -1,4 +1,6 @@
 -- What the comparison with what was read says of the sources.
+use Rattle.std.proofs.lemmas.Grind.{common_steps}
+use Rattle.std.proofs.Common.{rules}
 use Rattle.std.proofs.Common.{◌≡◌, ℕ, suc, zero, ◌<◌, List, [], ◌∷◌, ◌++◌, length, map, take, drop, get_or}
 use Rattle.std.proofs.Common.{All, Option, Some, None, IfSome, Result, Ok, Err, IfOk, IfErr, refl, sym, ap}
 use Rattle.std.proofs.Common.{◌∙◌, subst, append_assoc, arith}
@@ -156,8 +158,7 @@ pub part-goes-on :
     (more : List Entry) × SameSources entries (log ++ more)
 part-goes-on streams log entries known part read =
     let r = read-of 0 streams entries read in
-    let low : All (λ x. x.source < length r.ess) log = subst (λ (n : ℕ). All (λ x. x.source < n) log)
-    (sym r.long) part.none_else in
+    let low : All (λ x. x.source < length r.ess) log = grind (arith, common_steps) in
     let on = goes-on log r.ess low (λ i below.
     let here : i < length streams = omega (arith, below, r.long) in
     prefix-known (get_or streams i None) (given_by i log) (get_or r.ess i []) (known i None here) (part.first i here)
@@ -200,18 +201,13 @@ runs-agree model streams (Forbidden f) other known one told allowed refused = al
 runs-agree model streams (Malformed m) other known one told allowed refused = allowed
 
 not-both : (outcome : Outcome) → IsAllowed outcome → IsRefused outcome → ⊥
-not-both (Allowed e o w) allowed refused = refused
-not-both (Forbidden f) allowed refused = allowed
-not-both (Malformed m) allowed refused = allowed
+not-both outcome h l = grind (arith, common_steps)
 
 run-allowed :
     (model : MemoryModel) (streams : List (Option Stream)) (entries : List Entry) (run : Outcome) → All IsSome streams →
     HasReadAll 0 streams entries →
     IsTrueOf model streams run → IsAllowed run → IsConsistent model entries
-run-allowed model streams entries (Allowed e o w) known read told allowed =
-    subst (λ (l : List Entry). IsConsistent model l) (read-once 0 streams told.0 entries known told.1 read) told.2
-run-allowed model streams entries (Forbidden f) known read told allowed = absurd allowed
-run-allowed model streams entries (Malformed m) known read told allowed = absurd allowed
+run-allowed model streams entries run h l e s = search (read-once, rules)
 
 run-refused :
     (model : MemoryModel) (streams : List (Option Stream)) (entries : List Entry) (run : Outcome) → All IsSome streams →

@@ -1,7 +1,9 @@
 -- A book that has taken the first entries of a list.
+use Rattle.std.proofs.lemmas.Grind.{common_steps}
+use Rattle.std.proofs.Common.{rules}
 use Rattle.std.proofs.Common.{◌≡◌, ℕ, ◌≤◌, ◌<◌, ◌+◌, List, [], ◌∷◌, ◌++◌, length, take, drop, suc, get_or}
 use Rattle.std.proofs.Common.{IsFalse, inl, inr, sym, ap, ◌∙◌, subst, arith, take-append-drop, drop-cons}
-use Rattle.std.proofs.Math.Seq.{take-suc, take-length}
+use Rattle.std.proofs.Math.Seq.{take-length}
 use Rattle.std.proofs.lemmas.List.{length-take-le, take_all}
 use Rattle.std.proofs.lemmas.Bool.{cases_lt}
 use Rattle.rv_event.specs.Log.{events}
@@ -11,7 +13,7 @@ use Rattle.rv_event.specs.declared.event.Entry.{Entry}
 use Rattle.rv_event.specs.declared.memory_model.MemoryModel.{MemoryModel}
 use Rattle.rv_event.proofs.Pushed.{WellFormed-nil, WellFormed-push}
 use Rattle.rv_cert.specs.Refusals.{FaultyLog, Refusal}
-use Rattle.rv_book.specs.Booked.{Booked, IsForbiddenOn, IsMalformedOn, IsTaken, SomeLawful}
+use Rattle.rv_book.specs.Booked.{Booked, IsForbiddenOn, IsMalformedOn, IsTaken}
 use Rattle.rv_report.specs.declared.outcome.Outcome.TheVariants as outcome
 use Rattle.rv_run.specs.Replays.{IsConsistent, Reaches, IsReplayed}
 
@@ -34,11 +36,7 @@ replaying-begin model entries book going same empty lawful = record {
   shorter = λ n low. let none : 0 ≡ n = omega (arith, low) in
       subst (λ (k : ℕ). IsConsistent model (take k entries)) none (record {
         well_formed = WellFormed-nil;
-        lawful = (
-          book.order,
-          subst (λ (m : MemoryModel). Lawful m [] book.order) same
-              (subst (λ (l : List Entry). Lawful book.model (events l) book.order) empty lawful),
-        );
+        lawful = grind (arith, common_steps);
       });
 }
 
@@ -50,14 +48,11 @@ pub replaying-turn :
     IsReplaying model entries (count + 1) new
 replaying-turn model entries count old new x r low is taken =
     let next : suc count ≡ count + 1 = omega arith in
-    let log : old.log ++ x ∷ [] ≡ take (count + 1) entries =
-    ap (λ (l : List Entry). l ++ x ∷ []) r.log ∙ ap (λ (y : Entry). take count entries ++ y ∷ []) is
-    ∙ sym (take-suc entries count x low) ∙ ap (λ (n : ℕ). take n entries) next in
+    let log : old.log ++ x ∷ [] ≡ take (count + 1) entries = grind (arith, common_steps) in
     let last : IsConsistent model (take (count + 1) entries) = record {
       well_formed = subst WellFormed log (WellFormed-push old.log x
           (subst WellFormed (sym r.log) (r.shorter count (omega arith)).well_formed) taken.sound);
-      lawful = subst (λ (l : List Entry). SomeLawful model l) log
-          (subst (λ (m : MemoryModel). SomeLawful m (old.log ++ x ∷ [])) r.judged_by taken.lawful);
+      lawful = grind (arith, common_steps);
     } in
     record {
       going = taken.stopped ∙ r.going;
@@ -77,9 +72,7 @@ pub replaying-stops :
     count < length entries → x ≡ get_or entries count x → Reaches model entries book.log x
 replaying-stops model entries count book x r low is = record {
   after = drop (suc count) entries;
-  whole = sym (take-append-drop count entries) ∙ ap (λ (l : List Entry). take count entries ++ l)
-      (drop-cons entries count x low ∙ ap (λ (y : Entry). y ∷ drop (suc count) entries) (sym is))
-      ∙ ap (λ (l : List Entry). l ++ x ∷ drop (suc count) entries) (sym r.log);
+  whole = search (take-append-drop, drop-cons, suc, rules);
   shorter = λ n within. r.shorter n (omega (
     arith,
     within,
@@ -93,12 +86,7 @@ pub replaying-malformed :
     (model : MemoryModel) (entries : List Entry) (count : ℕ) (book : Booked) (x : Entry) (m : FaultyLog) →
     IsReplaying model entries count book → count < length entries → x ≡ get_or entries count x →
     IsMalformedOn book.model book.log x m → IsReplayed model entries (outcome.Malformed m)
-replaying-malformed model entries count book x m r low is told = (
-  book.log,
-  x,
-  replaying-stops model entries count book x r low is,
-  subst (λ (judged_by : MemoryModel). IsMalformedOn judged_by book.log x m) r.judged_by told,
-)
+replaying-malformed model entries count book x m r low is told = search (replaying-stops, rules)
 
 -- what it comes to at an entry with which no order is lawful
 pub replaying-forbidden :

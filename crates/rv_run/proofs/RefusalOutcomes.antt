@@ -1,4 +1,6 @@
 -- Verdicts as outcomes that agree with what was read.
+use Rattle.std.proofs.Common.{arith}
+use Rattle.std.proofs.lemmas.Grind.{common_steps}
 use Rattle.std.proofs.Common.{◌≡◌, List, sym, ap, ◌∙◌, subst}
 use Rattle.rv_event.specs.WellFormed.{WellFormed}
 use Rattle.rv_event.specs.declared.event.Entry.{Entry}
@@ -31,6 +33,4 @@ module _ (model : MemoryModel) (fed : List Fed) (of copy : Verdict) (evidence : 
   -- a malformed verdict agrees with what was read
   pub malformed-agrees : (m : FaultyLog) → of ≡ verdict.Malformed m → evidence ≡ m.evidence →
       IsMalformed m.evidence m.fault → AgreesWith model fed outcome
-  malformed-agrees m is log bad =
-      subst (λ (o : Outcome). AgreesWith model fed o) (sym (out ∙ ap outcome_of (same ∙ is)))
-      (ap model_of (sym is) ∙ own, subst (λ (l : List Entry). IsBegun l fed) log begun, bad)
+  malformed-agrees m is log bad = grind (arith, common_steps)

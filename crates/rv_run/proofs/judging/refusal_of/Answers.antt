@@ -1,4 +1,6 @@
-use Rattle.std.proofs.Common.{◌≡◌, ap, sym, ◌∙◌, rules}
+use Rattle.std.proofs.Common.{arith}
+use Rattle.std.proofs.lemmas.Grind.{common_steps}
+use Rattle.std.proofs.Common.{◌≡◌, ap, ◌∙◌, rules}
 use Rattle.rv_cert.specs.Verdicts.{model_of}
 use Rattle.rv_run.specs.Comparisons.{IsBegun}
 use Rattle.rv_run.proofs.RefusalOutcomes.{forbidden-agrees, malformed-agrees}
@@ -7,8 +9,7 @@ use Rattle.rv_run.proofs.judging.refusal_of.Goals as goal
 
 pub returns-clause-outcome : goal.returns-clause-outcome
 returns-clause-outcome c =
-    let own : model_of c.args.verdict.now ≡ c.args.model = sym c.model.ensures ∙
-    c.is_asked.ensures c.if-not-is_asked.false in
+    let own : model_of c.args.verdict.now ≡ c.args.model = grind (arith, common_steps) in
     let begun : IsBegun c.match-verdict.evidence.now c.args.fed.now = search rules in
     elim c.match-verdict.branch [
       | in-Forbidden w ↦ forbidden-agrees c.args.model c.args.fed.now c.args.verdict.now c.in_ok-copy.field-0

@@ -1,5 +1,6 @@
-use Rattle.std.proofs.Common.{List, length, refl, ap, sym, ◌∙◌, arith}
-use Rattle.std.proofs.lemmas.Bool.{false≢true}
+use Rattle.std.proofs.lemmas.Grind.{common_steps}
+use Rattle.std.proofs.Common.{rules}
+use Rattle.std.proofs.Common.{List, length, ap, ◌∙◌, arith}
 use Rattle.rv_event.specs.declared.event.Entry.{Entry}
 use Rattle.rv_book.specs.Counts.{operations_of, waiting_of}
 use Rattle.rv_run.proofs.Passes.{replaying-begin, replaying-turn}
@@ -7,13 +8,10 @@ use Rattle.rv_run.proofs.Passes.{replaying-malformed, replaying-forbidden, repla
 use Rattle.rv_run.proofs.replaying.pass.Goals as goal
 
 pub loop-entry-init : goal.loop-entry-init
-loop-entry-init c =
-    replaying-begin c.args.book.now.model c.args.entries.now c.args.book.now c.requires.going refl c.requires.empty
-    c.model-model.ensures.lawful
+loop-entry-init c = search (replaying-begin, rules)
 
 pub unreachable-requires : goal.unreachable-requires
-unreachable-requires c =
-    absurd (false≢true (sym c.loop-entry.invariant.going ∙ c.offer.ensures.stopped.0 c.in-Stopped.is))
+unreachable-requires c = grind (arith, common_steps)
 
 pub returns-in-Malformed : goal.returns-in-Malformed
 returns-in-Malformed c =
