@@ -1,6 +1,7 @@
 -- From a step's ending to the program's.
+use Rattle.std.proofs.lemmas.Grind.{common_steps}
 use Rattle.std.proofs.Common.{Global, String, ◌≡◌, ◌≢◌, ◌≤◌, ◌<◌, ℕ, List, [], ◌∷◌, Option, None, Ok, length}
-use Rattle.std.proofs.Common.{map, slice_index_or, string_bytes, inl, inr, sym, ◌∙◌, subst, ap, refl, arith}
+use Rattle.std.proofs.Common.{map, slice_index_or, string_bytes, sym, ◌∙◌, subst, ap, refl, arith}
 use Rattle.std.proofs.Common.{nat_eq, false, replicate}
 use Rattle.std.proofs.lemmas.Bool.{false≢true}
 use Rattle.std.proofs.lemmas.List.{length-replicate, length-map, get_or-map}
@@ -26,15 +27,7 @@ sources_few (x ∷ xs) few = (omega arith, few)
 pub in_range :
     (asked : Asked) (sources : ℕ) (settings : Settings) → IsInRange asked → sources ≡ sources_of asked.files.items →
     settings.workers ≡ asked.workers → settings.slots ≡ asked.slots → IsOutOfRange sources settings → ⊥
-in_range asked sources settings r many workers slots out = go out (sources_few asked.files.items r.files)
-  where
-    go : IsOutOfRange sources settings → (0 < sources_of asked.files.items) × (sources_of asked.files.items ≤ 8) → ⊥
-    go (inl none) few = omega (arith, none, many, few.0)
-    go (inr (inl above)) few = omega (arith, above, many, few.1)
-    go (inr (inr (inl none))) few = omega (arith, none, workers, r.workers.0)
-    go (inr (inr (inr (inl above)))) few = omega (arith, above, workers, r.workers.1)
-    go (inr (inr (inr (inr (inl below))))) few = omega (arith, below, slots, r.slots.0)
-    go (inr (inr (inr (inr (inr above))))) few = omega (arith, above, slots, r.slots.1)
+in_range asked sources settings r many workers slots out = grind (arith, common_steps)
 
 -- streams of which nothing is known
 abbrev unknown : ℕ → List (Option Stream)

@@ -1,5 +1,5 @@
 -- What the program prints at its end, and its exit status.
-use Rattle.std.specs.Prelude.{◌≡◌, ◌⊎◌, ℕ, List, Bool, true, false, Option, ⊤}
+use Rattle.std.specs.Prelude.{◌≡◌, ◌⊎◌, ℕ, List, Bool, true, false, Option}
 use Rattle.std.specs.Io.KnownBytes.{Appends}
 use Rattle.rv_event.specs.Texts.{◌⋯◌}
 use Rattle.rv_report.specs.Json.{json_text}

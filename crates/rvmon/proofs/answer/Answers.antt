@@ -1,9 +1,10 @@
-use Rattle.std.proofs.Common.{◌≡◌, Err, map, string_bytes, subst, sym, ap, refl, ◌∙◌}
+use Rattle.std.proofs.Common.{rules}
+use Rattle.std.proofs.Common.{Err, string_bytes, ap, refl, ◌∙◌}
 use Rattle.std.proofs.lemmas.List.{length-map}
 use Rattle.rv_run.specs.declared.fault.RunFault.{RunFault}
 use Rattle.rv_run.specs.declared.fault.RunFault.TheVariants as fault
 use Rattle.rv_run.specs.declared.running.Settings.{Settings}
-use Rattle.rvmon.specs.Starting.{IsUnopened, sources_of}
+use Rattle.rvmon.specs.Starting.{sources_of}
 use Rattle.rvmon.specs.declared.ending.Ending.TheVariants.{Failed}
 use Rattle.rvmon.proofs.Ends.{ends_unopened, in_range}
 use Rattle.rvmon.proofs.answer.Goals as goal
@@ -12,10 +13,7 @@ pub returns-in_default : goal.returns-in_default
 returns-in_default g c = ends_unopened c.args.asked.now (Failed fault.NoMemory) refl
 
 pub returns-in-Err : goal.returns-in-Err
-returns-in-Err g c =
-    ends_unopened c.args.asked.now c.in-Err.ending
-    (subst (λ names. IsUnopened (map string_bytes names) c.in-Err.ending) c.as_slice-names.ensures.value
-    c.in-Err.ensures.refused)
+returns-in-Err g c = search (ends_unopened, string_bytes, rules)
 
 pub returns : goal.returns
 returns g c =
