@@ -77,6 +77,7 @@ impl ByVersion {
     }
 
     /// The access of the highest version below this one.
+    #[inline(always)]
     pub fn lower(&self, version: u32) -> Option<Access>
         ensures found { IsLower self.now version result }
         ensures below { IfSome result (λ x. x.version < version) }
@@ -91,6 +92,7 @@ impl ByVersion {
     /// The access of the lowest version from this one on, but for those of one hart.
     ///
     /// It costs a step for each access that it passes on the way.
+    #[inline(always)]
     pub fn first_from(&self, version: u64, aside: Option<u8>) -> Option<Access>
         ensures { IsFirstFrom self.now version aside result }
     {
@@ -106,6 +108,7 @@ impl ByVersion {
     /// The accesses of a version from the first on and below the second.
     ///
     /// Besides looking for the second version, it costs a step for each of them.
+    #[inline(always)]
     pub fn between(&self, from: u64, to: u64) -> &[Access]
         ensures { (x : Access) → Contains result.now x ↔ (Contains self.now x × (from ≤ x.version) × (x.version < to)) }
     {
@@ -140,6 +143,7 @@ impl ByVersion {
     }
 
     /// How many accesses are of a version below this one.
+    #[inline(always)]
     fn start(&self, version: u64) -> usize
         ensures bound { result ≤ length self.now }
         ensures parted { IsStart self.now version result }
@@ -153,6 +157,7 @@ impl ByVersion {
     }
 
     /// The place from which on those before the end are of this version or a higher one.
+    #[inline(always)]
     fn start_back(&self, version: u64, end: usize) -> usize
         requires { end ≤ length self.now }
         ensures bound { result ≤ end }

@@ -24,6 +24,7 @@ impl Accesses {
     }
 
     /// The version of the next lower store, where there is a version; 0 where no store is lower.
+    #[inline(always)]
     pub fn lower_store(&self, version: Option<u32>) -> u32
         ensures { (n : ℕ) → version ≡ Some n → IsNearestBelow self.now.stores n result }
     {
@@ -38,6 +39,7 @@ impl Accesses {
 
     /// The end of the versions from this one to the next higher store, where there is a version.
     /// One hart's stores may be left aside.
+    #[inline(always)]
     pub fn higher_store(&self, version: Option<u32>, aside: Option<u8>) -> u64
         ensures { (n : ℕ) → version ≡ Some n → IsNearestAbove self.now.stores aside n result }
     {

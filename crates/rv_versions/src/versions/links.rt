@@ -17,6 +17,7 @@ pub(crate) struct Interval {
 
 impl Interval {
     /// This version alone, where there is one.
+    #[inline(always)]
     pub(crate) fn of(version: Option<u32>) -> Self
         ensures { (v : ℕ) → Covers result v ↔ (version ≡ Some v) }
     {
@@ -30,6 +31,7 @@ impl Interval {
     }
 
     /// The versions from one on and below this one, where there is one.
+    #[inline(always)]
     pub(crate) fn below(from: u32, version: Option<u32>) -> Self
         ensures { (v : ℕ) → Covers result v ↔ IsBelow from version v }
     {
@@ -43,6 +45,7 @@ impl Interval {
     }
 
     /// The versions above this one, where there is one, and before the end.
+    #[inline(always)]
     pub(crate) fn above(version: Option<u32>, end: u64) -> Self
         ensures { (v : ℕ) → Covers result v ↔ IsAbove version end v }
     {
@@ -57,6 +60,7 @@ impl Interval {
 }
 
 /// The version that the event wrote, if it stores.
+#[inline(always)]
 pub(crate) fn stored(event: &Event) -> Option<u32>
     ensures { result ≡ stored event.now }
 {
@@ -68,6 +72,7 @@ pub(crate) fn stored(event: &Event) -> Option<u32>
 }
 
 /// The version that the event returned, if it loads.
+#[inline(always)]
 pub(crate) fn returned(event: &Event) -> Option<u32>
     ensures { result ≡ returned event.now }
 {
@@ -79,6 +84,7 @@ pub(crate) fn returned(event: &Event) -> Option<u32>
 }
 
 /// The version that the event's LR returned, if it has one.
+#[inline(always)]
 pub(crate) fn held(reserved: Option<Reservation>) -> Option<u32>
     ensures { result ≡ held reserved }
 {
@@ -93,6 +99,7 @@ pub(crate) fn held(reserved: Option<Reservation>) -> Option<u32>
 ///
 /// # Errors
 /// `NoMemory` where the list could not grow.
+#[inline(always)]
 pub(crate) fn append(
     before: Vec<Link>,
     accesses: &ByVersion,
