@@ -84,8 +84,8 @@ before_release_at model log a b k r e test = at_number model log a b 6 k r e bef
     (before_release_out model log a b) test
 
 -- what the condition of rule 7 says
-pub both_rcsc_out : (model : MemoryModel) (log : List Event) (a b : Event) → Condition model log a b 7 → IsRcsc model a ×
-    IsRcsc model b
+pub both_rcsc_out : (model : MemoryModel) (log : List Event) (a b : Event) → Condition model log a b 7 →
+    IsRcsc model a × IsRcsc model b
 both_rcsc_out model log a b (both_rcsc g h) = (g, h)
 
 -- so it is of rule 7
@@ -104,7 +104,8 @@ pub paired_at : (model : MemoryModel) (log : List Event) (a b : Event) (k : ℕ)
 paired_at model log a b k r e test = at_number model log a b 8 k r e paired (paired_out model log a b) test
 
 -- what the condition of rule 9 says
-pub address_out : (model : MemoryModel) (log : List Event) (a b : Event) → Condition model log a b 9 → DependsOn Addr b a
+pub address_out : (model : MemoryModel) (log : List Event) (a b : Event) → Condition model log a b 9 →
+    DependsOn Addr b a
 address_out model log a b (address h) = h
 
 -- so it is of rule 9
@@ -113,7 +114,8 @@ pub address_at : (model : MemoryModel) (log : List Event) (a b : Event) (k : ℕ
 address_at model log a b k r e test = at_number model log a b 9 k r e address (address_out model log a b) test
 
 -- what the condition of rule 10 says
-pub data_of_out : (model : MemoryModel) (log : List Event) (a b : Event) → Condition model log a b 10 → DependsOn DataOf b a
+pub data_of_out : (model : MemoryModel) (log : List Event) (a b : Event) → Condition model log a b 10 →
+    DependsOn DataOf b a
 data_of_out model log a b (data_of h) = h
 
 -- so it is of rule 10

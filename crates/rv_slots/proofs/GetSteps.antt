@@ -53,7 +53,8 @@ fits_more r q j w f e = let wide = f.long in record {
   long = length-set r.words j (Some w) ∙ f.long;
   words = λ k v h. dite (ℕ_discrete k j)
       (λ d. ⊎_elim
-      (λ low. let s : Some w ≡ Some v = grind (arith, common_steps) in let same : w ≡ v = cc in ap (λ (u : ℕ). get_or q.content u 0) d ∙ (e ∙ same))
+      (λ low. let s : Some w ≡ Some v = grind (arith, common_steps) in let same : w ≡ v = cc in
+      ap (λ (u : ℕ). get_or q.content u 0) d ∙ (e ∙ same))
       (λ high. f.words k v
       (sym (ap (λ (l : List (Option ℕ)). get_or l k None)
       (Rattle.std.proofs.lemmas.List.set_past r.words j (Some w) high)) ∙ h))

@@ -291,7 +291,7 @@ module _ (model : MemoryModel) (log : List Event) (e : Event) (reserved : Option
         edge = subst (λ (i : Id). IsEdge model new e.id l.reason i) (sym same)
             (edge_of model new known' l.reason e w.other (Contains-push log e)
             (in_new log e known sound w.other w.of_log) w.own_memory w.other_memory w.why);
-        of_versions = λ k is_rule. subst (λ (q : Reason). ComesAfter a.own a.lr e reserved a.next a.above a.foreign q o.0)
-            is_rule o.1;
+        of_versions = λ k is_rule.
+            subst (λ (q : Reason). ComesAfter a.own a.lr e reserved a.next a.above a.foreign q o.0) is_rule o.1;
         other = subst (λ (i : Id). i ≢ e.id) (sym same) (is_new log e known sound w.other w.of_log);
       }

@@ -89,7 +89,8 @@ module _ (model : MemoryModel) (log : List Event) (e : Event) (reserved : Option
           let s = at_low h.store (omega arith) in
           elim (same_id_or a.id s.1.store.id) [
             | inl own ↦ inl (linked Coherence s.0 a.id
-                (s.2, (e.wrote, stored_of e h.store, omega (arith, s.3), omega (arith, s.3, s.4))) (s.1.named ∙ sym own))
+                (s.2, (e.wrote, stored_of e h.store, omega (arith, s.3), omega (arith, s.3, s.4)))
+                (s.1.named ∙ sym own))
             | inr other ↦ inr (record { c = s.1.store; of_log = s.1.of_log; splits = grind (arith, common_steps) })
           ]
       | inr over ↦ inl (linked FromRead (load_access a) a.id (

@@ -51,7 +51,8 @@ abbrev pub IsAbove : Option ℕ → ℕ → ℕ → Type 0
 IsAbove version end v = (n : ℕ) × (version ≡ Some n) × (n < v) × (v < end)
 
 -- The accesses that come before the event: of its own word, and of the word of its LR.
-abbrev pub ComesBefore : (own lr : Accesses) → Event → Option Reservation → (low unparted : ℕ) → Reason → Access → Type 0
+abbrev pub ComesBefore : (own lr : Accesses) → Event → Option Reservation → (low unparted : ℕ) → Reason → Access →
+    Type 0
 ComesBefore own lr e reserved low unparted Coherence x = Contains own.stores x × IsBelow low (stored e) x.version
 ComesBefore own lr e reserved low unparted ReadsFrom x =
     Contains own.stores x × (returned e ≡ Some x.version) × (x.hart ≢ e.id.hart)

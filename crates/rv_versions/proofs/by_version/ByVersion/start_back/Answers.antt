@@ -10,4 +10,5 @@ returns-then-from-version-clause-below c =
     let b = c.index.result.now in
     let fits : p < length c.args.self.now = omega (arith, c.requires) in
     low_before c.args.self.now (subst AreByVersion c.self.view_is c.self.invariant) c.args.version p b fits
-    (c.index.ensures ∙ ap (λ (xs : List Access). get_or xs p b) c.self.view_is) (omega (arith, c.if-from-version.true, c.from.ensures))
+    (c.index.ensures ∙ ap (λ (xs : List Access). get_or xs p b) c.self.view_is)
+    (omega (arith, c.if-from-version.true, c.from.ensures))
