@@ -92,7 +92,8 @@ module _ (log : List Event) (e : Event) (reserved : Option Reservation) (known :
 
 -- links go to the nearest versions
 pub nearest : (log : List Event) (e : Event) (reserved : Option Reservation) → Indexed log →
-    (before after : List Link) → AreBefore log e reserved before → AreAfter log e reserved after → IsNearest log e before after
+    (before after : List Link) → AreBefore log e reserved before →
+    AreAfter log e reserved after → IsNearest log e before after
 nearest log e reserved known before after b a = record {
   coherence_before = next_lower log e reserved known before b;
   coherence_after = next_higher log e reserved known after a;
