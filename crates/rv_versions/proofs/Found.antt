@@ -10,6 +10,7 @@ use Rattle.rv_event.proofs.Names.{writer-is}
 use Rattle.rv_event.specs.Log.{writer}
 use Rattle.rv_event.specs.Operations.{is_load, is_store, IsLoad, IsStore}
 use Rattle.rv_event.specs.declared.event.Event.{Event}
+use Rattle.rv_event.specs.declared.event.Id.{Id}
 use Rattle.rv_versions.specs.Accesses.{access, id_of}
 use Rattle.rv_versions.specs.Indexes.{pair_of, IsPair, beside, AreOfWord}
 use Rattle.rv_versions.specs.declared.accesses.Access.{Access}
@@ -161,3 +162,10 @@ module _ (log : List Event) (w : ℕ) (a : Accesses) (of : AreOfWord log w a) wh
       go (Some s) e =
           let is = writer-is log w v s e in
           absurd (none (store_access s) (store_listed s is.of_log is.store (sym is.word)) (sym is.version))
+
+  -- one version, one store
+  pub one_store : (x y : Access) → Contains a.stores x → Contains a.stores y → x.version ≡ y.version → x.hart ≡ y.hart
+  one_store x y cx cy same =
+      let p = writer_found y.version x cx same in
+      let q = writer_found y.version y cy refl in
+      ap (λ (i : Id). i.hart) (same_Some (id_of x) (id_of y) (p ∙ sym q))

@@ -1,10 +1,14 @@
 -- What the look-ups among a word's accesses say of the versions next to one.
-use Rattle.std.proofs.Common.{rules}
+use Rattle.std.proofs.Common.{Contains, ◌≢◌, rules}
 use Rattle.std.proofs.Common.{◌≡◌, ℕ, ◌+◌, ◌<◌, ◌≤◌, List, Option, Some, None, inl, inr, refl}
 use Rattle.std.proofs.Common.{sym, ◌∙◌, arith}
-use Rattle.std.proofs.lemmas.Bool.{cases_eq}
+use Rattle.std.proofs.lemmas.Bool.{cases_lt, cases_eq}
+use Rattle.rv_event.specs.declared.event.Event.{Event}
+use Rattle.rv_versions.specs.Indexes.{AreOfWord}
+use Rattle.rv_versions.specs.declared.accesses.Accesses.{Accesses}
+use Rattle.rv_versions.proofs.Found.{one_store}
 use Rattle.rv_versions.specs.Accesses.{IsLower, IsFirstFrom, IsNearestBelow, IsNearestAbove}
-use Rattle.rv_versions.specs.Lookups.{IsForeignBelow, IsParted}
+use Rattle.rv_versions.specs.Lookups.{IsForeignBelow, IsForeignLower, IsParted}
 use Rattle.rv_versions.specs.declared.accesses.Access.{Access}
 
 module _ (xs : List Access) (v n : ℕ) (same : v ≡ n) where
@@ -35,6 +39,35 @@ module _ (xs : List Access) (v n : ℕ) (same : v ≡ n) where
   -- or there is none
   pub above_none : (aside : Option ℕ) → IsFirstFrom xs (v + 1) aside None → IsNearestAbove xs aside n 0
   above_none aside h = search rules
+
+-- ---- a store of another hart, by the stores below it in turn
+
+module _ (log : List Event) (word : ℕ) (a : Accesses) (of : AreOfWord log word a) (v hart bound : ℕ)
+    (own : (x : Access) → Contains a.stores x → bound ≤ x.version → x.version < v → x.hart ≡ hart) where
+  -- a store of the hart itself is passed
+  pub own_passed : (s : Access) → IsLower a.stores bound (Some s) → s.hart ≡ hart → (x : Access) →
+      Contains a.stores x → s.version ≤ x.version → x.version < v → x.hart ≡ hart
+  own_passed s h mine x c over l = elim (cases_lt x.version bound) [
+    | inl below ↦
+        let upto : x.version ≤ s.version = h.2 x c below in
+        one_store log word a of x s c h.0 (omega arith) ∙ mine
+    | inr above ↦ own x c above l
+  ]
+
+  -- without a lower store all are the hart's
+  pub none_foreign : IsLower a.stores bound None → IsForeignLower a.stores v hart None
+  none_foreign h x c l = own x c (h x c) l
+
+  -- another hart's is the highest
+  pub foreign_found : (s : Access) → IsLower a.stores bound (Some s) → s.hart ≢ hart → bound ≤ v →
+      IsForeignLower a.stores v hart (Some s)
+  foreign_found s h other upto = let low : s.version < bound = h.1 in (
+    (h.0, omega arith, other),
+    λ x c l foreign. elim (cases_lt x.version bound) [
+      | inl below ↦ h.2 x c below
+      | inr above ↦ absurd (foreign (own x c above l))
+    ],
+  )
 
 -- ---- below which version each SC is parted
 

@@ -1,11 +1,11 @@
 //! What is found among the accesses to one word.
-ghost use Rattle.std.specs.Prelude.{ℕ, ◌≡◌, List, Some, IfSome};
+ghost use Rattle.std.specs.Prelude.{ℕ, ◌≡◌, ◌≤◌, List, Some, IfSome};
 ghost use Rattle.std.specs.Option.{option_map};
 ghost use Rattle.rv_event.specs.Log.{writer};
 ghost use Rattle.rv_event.specs.declared.event.Event.{Event};
 ghost use Rattle.rv_versions.specs.Accesses.{IsNearestBelow, IsNearestAbove};
 ghost use Rattle.rv_versions.specs.Indexes.{AreOfWord};
-ghost use Rattle.rv_versions.specs.Lookups.{IsForeignBelow, IsUnparted};
+ghost use Rattle.rv_versions.specs.Lookups.{IsForeignBelow, IsForeignLower, IsUnparted};
 
 use super::{Access, Accesses};
 use rv_event::Id;
@@ -55,7 +55,8 @@ impl Accesses {
     /// A version below which each SC of another hart than this one is parted from the given one: a
     /// store of another hart than the SC's stands between what the SC's LR returned and it.
     pub fn unparted_from(&self, version: Option<u32>, hart: u8) -> u32
-        ensures { (n : ℕ) → version ≡ Some n → IsUnparted self.now hart n result }
+        ensures unparted { (n : ℕ) → version ≡ Some n → IsUnparted self.now hart n result }
+        ensures at_most { (n : ℕ) → version ≡ Some n → result ≤ n }
     {
         let Some(version) = version else {
             return 0;
@@ -77,7 +78,9 @@ impl Accesses {
 
     /// The store of the highest version below this one that another hart wrote.
     fn foreign_lower_store(&self, version: u32, hart: u8) -> Option<Access>
-        ensures { IfSome result (IsForeignBelow self.now.stores version hart) }
+        ensures found { (log : List Event) (word : ℕ) → AreOfWord log word self.now →
+            IsForeignLower self.now.stores version hart result }
+        ensures below { IfSome result (IsForeignBelow self.now.stores version hart) }
     {
         let mut bound = version;
         'stores: while let Some(store) = self.stores.lower(bound) {
