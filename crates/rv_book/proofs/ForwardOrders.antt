@@ -14,7 +14,7 @@ use Rattle.rv_event.specs.declared.reason.Reason.{Reason}
 use Rattle.rv_cert.proofs.Suffice.{lawful_from_edges}
 use Rattle.rv_edges.specs.Kept.{happened, IsKept, IsTied}
 use Rattle.rv_cover.specs.Paths.{Path, one, more}
-use Rattle.rv_edges.proofs.Carrying.{carried_from_IsHistory, indexed_from_IsHistory}
+use Rattle.rv_edges.proofs.CarriedEdges.{carried_from_IsHistory, indexed_from_IsHistory}
 use Rattle.rv_book.specs.Arranged.{Arranged, nobody, at, order_of, IsArranged}
 use Rattle.rv_book.proofs.RankOrders.{order, length-order, at-rank, order-once, place-node}
 

@@ -21,8 +21,8 @@ use Rattle.rv_event.specs.declared.reason.Link.{Link}
 use Rattle.rv_event.specs.declared.reason.Reason.{Reason}
 use Rattle.rv_edges.specs.Kept.{Kept, happened, grown, Joins, IsKept}
 use Rattle.rv_edges.proofs.Listed.{Contains-old}
-use Rattle.rv_edges.proofs.Carrying.{indexed_from_IsHistory, carried_from_IsHistory, happened-push}
-use Rattle.rv_edges.proofs.Carrying.{IsKept-cases, IsHistory-push}
+use Rattle.rv_edges.proofs.CarriedEdges.{indexed_from_IsHistory, carried_from_IsHistory, happened-push}
+use Rattle.rv_edges.proofs.CarriedEdges.{IsKept-cases, IsHistory-push}
 use Rattle.rv_rank.specs.Graph.{Edge, IsOrder, IsGrown}
 use Rattle.rv_book.specs.Adding.{IsFit}
 use Rattle.rv_book.specs.Arranged.{Arranged, nobody, at, IsArranged}

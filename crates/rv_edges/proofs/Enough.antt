@@ -21,7 +21,7 @@ use Rattle.rv_hart.proofs.OfHart.{own_contains, contains_own, rule_from, any_rul
 use Rattle.rv_edges.specs.Kept.{Kept, happened, grown}
 use Rattle.rv_edges.specs.Histories.{IsLinked}
 use Rattle.rv_edges.specs.Indexes.{hart_from}
-use Rattle.rv_edges.proofs.Harting.{known', own-new}
+use Rattle.rv_edges.proofs.HartOfLog.{known', own-new}
 
 -- rules that lead from an event of a hart lead over events of that hart
 reaches_to :

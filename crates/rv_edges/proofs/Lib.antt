@@ -1,9 +1,9 @@
-pub mod Carrying
+pub mod CarriedEdges
 pub mod Enough
-pub mod Harting
-pub mod Indexing
-pub mod Joining
+pub mod HartOfLog
+pub mod IndexFacts
+pub mod JoinedLinks
 pub mod Listed
-pub mod Moving
-pub mod Owning
+pub mod GrownHarts
+pub mod OwnLinkLists
 pub mod Sides

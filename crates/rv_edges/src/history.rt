@@ -4,6 +4,7 @@ ghost use Rattle.std.specs.Prelude.{OnErr, List, ℕ, ◌<◌, ◌≤◌, length
 ghost use Rattle.std.specs.List.{list_any};
 ghost use Rattle.rv_event.specs.Log.{events, named, of_hart, writer};
 ghost use Rattle.rv_event.specs.Preserved.{IsPreserved};
+ghost use Rattle.rv_event.specs.declared.event.Event.{Event};
 ghost use Rattle.rv_event.specs.Faults.{event_fault, first_faults, lowest, is_reserved};
 ghost use Rattle.rv_event.specs.Contexts.{IsContext, is_bad_on};
 ghost use Rattle.rv_event.proofs.Indexed.{Indexed};
@@ -14,7 +15,7 @@ ghost use Rattle.rv_hart.specs.RuleLinks.{AreRuleLinks};
 ghost use Rattle.rv_versions.specs.Reserved.{IsReserved};
 ghost use Rattle.rv_edges.specs.Kept.{Kept, happened, grown, IsTied};
 ghost use Rattle.rv_edges.specs.Histories.{IsLinked, IsCarried, kept_of, with_entry, HasOwnEdge, IsStaleOf};
-ghost use Rattle.rv_edges.specs.Indexes.{hart_of, hart_in, IsHartIn};
+ghost use Rattle.rv_edges.specs.Indexes.{AreHarts, IsHartIn, hart_in};
 ghost use Rattle.std.specs.Option.{option_copied, option_map};
 
 use crate::links::{KeptLinks, Links};
@@ -22,7 +23,7 @@ use rv_event::{
     Context, Dep, Entry, Event, Fault, Id, Link, MemoryModel, NoMemory, find_deps_fault,
     first_fault, is_bad_dependency, lowest_rule,
 };
-use rv_hart::HartOrder;
+use rv_hart::{HartOrder, OwnEvents};
 use rv_versions::{Reservation, VersionLinks, Versions};
 use std::alloc::Global;
 use std::marker::Model;
@@ -214,13 +215,13 @@ impl History {
             self.links.drop_last();
             return Err(NoMemory);
         }
-        let Some(last) = self.versions.entries().last() else {
+        let Some((last, log)) = self.versions.entries().split_last() else {
             unreachable!()
         };
         let Some(hart) = self.harts.get_mut(number as usize) else {
             unreachable!()
         };
-        let joined = hart.push(&last.event, returned, before);
+        let joined = hart.push(log, &last.event, returned, before);
         if let Err(NoMemory) = joined {
             self.versions.pop();
             self.links.drop_last();
@@ -240,7 +241,7 @@ impl History {
         let Some(hart) = self.harts.get_mut(entry.event.id.hart as usize) else {
             unreachable!()
         };
-        hart.pop();
+        hart.pop(self.versions.entries(), &entry.event);
         self.links.drop_last();
         entry
     }
@@ -252,22 +253,23 @@ impl History {
         let own = self.events_of(event.id.hart);
         Context {
             count: own.len() as u32,
-            depends_badly: depends_badly(own, event),
+            depends_badly: depends_badly(&own, event),
             writer: self.writer(event.word, event.wrote),
             reserved: self.is_reserved(event.id.hart),
         }
     }
 
     /// The events of the hart, in program order.
-    fn events_of(&self, number: u8) -> &[Event]
-        ensures value { result.now ≡ of_hart number (happened self.now.kept) }
-        ensures few { length result.now ≤ 4096 }
+    fn events_of(&self, number: u8) -> OwnEvents<'_>
+        ensures value { result ≡ of_hart number (happened self.now.kept) }
+        ensures few { length result ≤ 4096 }
         ensures named { (s : ℕ) →
-            named (happened self.now.kept) (record { hart = number; seq = s }) ≡ slice_get result.now s }
+            named (happened self.now.kept) (record { hart = number; seq = s }) ≡ slice_get result s }
     {
+        let log = self.entries();
         match self.hart(number) {
-            Some(hart) => hart.events(),
-            None => &[],
+            Some(hart) => hart.events(log),
+            None => OwnEvents::new(log, number, &[]),
         }
     }
 
@@ -309,7 +311,8 @@ impl History {
         requires { event_fault (happened self.now.kept) event.now ≡ None }
         ensures { IsReserved (happened self.now.kept) event.now result }
     {
-        let lr = self.hart(event.id.hart)?.partner(event)?;
+        let hart = self.hart(event.id.hart)?;
+        let lr = hart.partner(self.entries(), event)?;
         Some(Reservation {
             word: lr.word,
             version: lr.read,
@@ -322,7 +325,7 @@ impl History {
         ensures { IfOk result (λ links. AreRuleLinks (hart_in self.now event.now.id.hart) event.now links.items) }
     {
         match self.hart(event.id.hart) {
-            Some(hart) => hart.before(event, self.returned(event)),
+            Some(hart) => hart.before(self.entries(), event, self.returned(event)),
             None => Ok(Vec::new(self.alloc)),
         }
     }
@@ -333,19 +336,20 @@ impl History {
         requires { event_fault (happened self.now.kept) event.now ≡ None }
         ensures { IsStaleOf self.now.kept event.now result }
     {
-        self.hart(event.id.hart)?.stale(event)
+        let hart = self.hart(event.id.hart)?;
+        hart.stale(self.entries(), event)
     }
 }
 
 /// Whether a dependency of the event on an event of its hart is bad.
-fn depends_badly(own: &[Event], event: &Event) -> bool
+fn depends_badly(own: &OwnEvents<'_>, event: &Event) -> bool
     ensures { result ≡ list_any (λ d. is_bad_on event.now d (slice_get own.now d.seq)) event.now.deps }
 {
     event.deps.as_slice().iter().any(|d| is_bad(own, event, *d))
 }
 
 /// Whether the event's dependency on an event of its hart is bad.
-fn is_bad(own: &[Event], event: &Event, dep: Dep) -> bool
+fn is_bad(own: &OwnEvents<'_>, event: &Event, dep: Dep) -> bool
     ensures { result ≡ is_bad_on event.now dep (slice_get own.now dep.seq) }
 {
     is_bad_dependency(event, dep, own.get(dep.seq as usize))
@@ -361,7 +365,7 @@ fn open_harts(
     harts: &mut Vec<HartOrder>,
     number: u8,
 ) -> Result<(), NoMemory>
-    ensures same { (h : ℕ) → hart_of model harts.new.items h ≡ hart_of model harts.old.items h }
+    ensures same { (log : List Event) → AreHarts model log harts.old.items → AreHarts model log harts.new.items }
     ensures open { OnOk result (number < length harts.new.items) }
 {
     for next in harts.len()..number as usize + 1 {

@@ -23,10 +23,10 @@ use Rattle.rv_hart.specs.Harts.{Hart, followed, hart_with}
 use Rattle.rv_hart.specs.Linked.{IsLinked, HaveRows, HasOwn}
 use Rattle.rv_hart.specs.Rows.{IsOrderedBy, IsBefore, RowsMean}
 use Rattle.rv_hart.specs.RuleLinks.{AreEnoughLinks}
-use Rattle.rv_hart.proofs.Knowing.{Known, Fits, same_event, old_new}
-use Rattle.rv_hart.proofs.Tying.{LastStep, last_step, Leads, leads-rule, leads-grows, leads-settled}
-use Rattle.rv_hart.proofs.Tying.{rows_closed, rule-old, end_is}
-use Rattle.rv_hart.proofs.Linking.{ordered_of}
+use Rattle.rv_hart.proofs.HartFacts.{Known, Fits, same_event, old_new}
+use Rattle.rv_hart.proofs.RowMeanings.{LastStep, last_step, Leads, leads-rule, leads-grows, leads-settled}
+use Rattle.rv_hart.proofs.RowMeanings.{rows_closed, rule-old, end_is}
+use Rattle.rv_hart.proofs.Listings.{ordered_of}
 
 -- the row has what the old one has and what the links say
 abbrev pub IsJoined : List (List ℕ) → List Link → List ℕ → List ℕ → Type 0

@@ -16,8 +16,8 @@ use Rattle.rv_hart.specs.Rows.{IsOrderedBy}
 use Rattle.rv_hart.specs.Sets.{RowIs}
 use Rattle.rv_hart.specs.declared.parts.Part.{Part}
 use Rattle.rv_hart.specs.declared.parts.Part.TheVariants.{Nothing}
-use Rattle.rv_hart.proofs.Knowing.{Fits, Known, same_event}
-use Rattle.rv_hart.proofs.Ruling.{HasMore, adds, more-both, ordered}
+use Rattle.rv_hart.proofs.HartFacts.{Fits, Known, same_event}
+use Rattle.rv_hart.proofs.RuleConditions.{HasMore, adds, more-both, ordered}
 
 module _ (h : Hart) (e : Event) where
   -- a part under a test has its events where the test passes

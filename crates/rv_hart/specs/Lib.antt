@@ -1,4 +1,5 @@
 pub mod Harts
+pub mod Places
 pub mod Rows
 pub mod Sets
 pub mod Words

@@ -1,55 +1,55 @@
 //! The events of one hart, and what its next event asks for.
-ghost use Rattle.std.specs.Prelude.{◌≡◌, ◌≢◌, ◌++◌, ◌∷◌, [], IfOk, OnOk, OnErr, List};
+ghost use Rattle.std.specs.Prelude.{◌≡◌, ◌<◌, ◌++◌, ◌∷◌, [], IfOk, OnOk, OnErr, List, length};
 ghost use Rattle.std.specs.Option.{option_copied};
 ghost use Rattle.rv_event.specs.Faults.{is_reserved};
+ghost use Rattle.rv_event.specs.Log.{events};
 ghost use Rattle.rv_event.specs.declared.event.Event.{Event};
-ghost use Rattle.rv_hart.specs.Harts.{Hart, Follows, IsHart, IsReturned, followed, hart_with};
-ghost use Rattle.rv_hart.specs.Kept.{IsPartner, IsStaleBy};
+ghost use Rattle.rv_hart.specs.Harts.{Follows, IsHart, IsReturned};
+ghost use Rattle.rv_hart.specs.Kept.{IsHartOf, IsNext, IsPartner, IsStaleBy, hart_at, hart_of_log};
 ghost use Rattle.rv_hart.specs.RuleLinks.{AreRuleLinks, AreEnoughLinks};
 
 use crate::kept::Kept;
-use rv_event::{Event, Id, Link, MemoryModel, NoMemory};
+use crate::next::Next;
+use crate::own_events::OwnEvents;
+use rv_event::{Entry, Event, Id, Link, MemoryModel, NoMemory};
+use rv_rows::Row;
 use std::alloc::Global;
-use std::marker::Model;
 
-/// The events of one hart, with what the rules of preserved program order ask of them at the next
-/// event (manual, section 14.1, "Preserved Program Order").
+/// What the rules of preserved program order ask of one hart's events at its next one (manual,
+/// section 14.1, "Preserved Program Order"), beside the log that has the events.
 ///
-/// Contracts see the memory model, the hart's number and its events. Beside itself an event takes
-/// some 60 bytes, and 8 for each 64 events from the first that leads to it by rules to itself: at
-/// most n / 8 for event n.
+/// Each call takes that log, which has the events of all harts. Contracts see the fields: `IsHartOf`
+/// (in `specs/Kept.antt`) says that they are as the log's events of this hart want them. An event
+/// takes some 30 bytes, and 8 for each 64 events from the first that leads to it by rules to itself:
+/// at most n / 8 for event n.
 #[derive(Drop)]
 pub struct HartOrder {
-    kept: Kept,
-}
-
-impl Model for HartOrder {
-    ghost use Rattle.rv_hart.specs.Harts.{Hart};
-    ghost use Rattle.rv_hart.specs.Kept.{hart_of, IsKept};
-
-    ghost Value = { Hart };
-
-    ghost view = { λ h. hart_of h.kept };
-
-    ghost invariant = { λ h. IsKept h.kept };
+    /// The places of the hart's events in the log.
+    pub places: Vec<u32>,
+    /// What is kept of these events.
+    pub kept: Kept,
 }
 
 impl HartOrder {
     /// A hart without events. It takes no memory; the allocator serves the calls to come.
     pub fn new(alloc: Global, model: MemoryModel, number: u8) -> Self
-        ensures { result ≡ record { model = model; number = number; events = [] } }
+        ensures model { result.kept.model ≡ model }
+        ensures number { result.kept.number ≡ number }
+        ensures none { (log : List Event) → (hart_of_log log result).events ≡ [] → IsHartOf log result }
     {
         HartOrder {
+            places: Vec::new(alloc),
             kept: Kept::new(alloc, model, number),
         }
     }
 
     /// The hart's events, in program order.
-    pub fn events(&self) -> &[Event]
-        ensures value { result.now ≡ self.now.events }
-        ensures hart { IsHart self.now }
+    pub fn events<'a>(&'a self, log: &'a [Entry]) -> OwnEvents<'a>
+        requires { IsHartOf (events log.now) self.now }
+        ensures value { result ≡ (hart_of_log (events log.now) self.now).events }
+        ensures hart { IsHart (hart_of_log (events log.now) self.now) }
     {
-        self.kept.events.as_slice()
+        OwnEvents::new(log, self.kept.number, self.places.as_slice())
     }
 
     /// The links of an event that may follow, from earlier ones, each with the lowest rule of
@@ -66,17 +66,23 @@ impl HartOrder {
     ///
     /// # Errors
     /// `NoMemory` where the list could not be had.
-    pub fn before(&self, event: &Event, returned: Option<u32>) -> Result<Vec<Link>, NoMemory>
-        requires follows { Follows self.now event.now }
-        requires returned { IsReturned self.now event.now returned }
-        ensures { IfOk result (λ links. AreRuleLinks self.now event.now links.items) }
+    pub fn before(
+        &self,
+        log: &[Entry],
+        event: &Event,
+        returned: Option<u32>,
+    ) -> Result<Vec<Link>, NoMemory>
+        requires of_log { IsHartOf (events log.now) self.now }
+        requires follows { Follows (hart_of_log (events log.now) self.now) event.now }
+        requires returned { IsReturned (hart_of_log (events log.now) self.now) event.now returned }
+        ensures { IfOk result (λ links. AreRuleLinks (hart_of_log (events log.now) self.now) event.now links.items) }
     {
-        self.kept.before(event, returned)
+        self.next(log, event, returned).before()
     }
 
-    /// Adds the event. `links` are links into it, those of other harts and of other reasons among
-    /// them; each earlier event that a rule orders before it has one, or stands before another that
-    /// has one.
+    /// Adds the event, which comes next in the log. `links` are links into it, those of other harts
+    /// and of other reasons among them; each earlier event that a rule orders before it has one, or
+    /// stands before another that has one.
     ///
     /// It costs a step for each 64 events from the first to the last that leads to it by rules, for
     /// each link that names a rule, and what `before` costs more where a link of the hart names no
@@ -86,55 +92,88 @@ impl HartOrder {
     /// `NoMemory` where it could not be kept; the hart stays as it is.
     pub fn push(
         &mut self,
+        log: &[Entry],
         event: &Event,
         returned: Option<u32>,
         links: &[Link],
     ) -> Result<(), NoMemory>
-        requires follows { Follows self.old event.now }
-        requires returned { IsReturned self.old event.now returned }
-        requires linked { AreEnoughLinks self.old event.now links.now }
-        ensures pushed { OnOk result (self.new ≡ hart_with self.old event.now) }
-        ensures unchanged { OnErr result (self.new ≡ self.old) }
+        requires of_log { IsHartOf (events log.now) self.old }
+        requires few { length log.now < 4294967296 }
+        requires follows { Follows (hart_of_log (events log.now) self.old) event.now }
+        requires returned { IsReturned (hart_of_log (events log.now) self.old) event.now returned }
+        requires linked { AreEnoughLinks (hart_of_log (events log.now) self.old) event.now links.now }
+        ensures model { self.new.kept.model ≡ self.old.kept.model }
+        ensures number { self.new.kept.number ≡ self.old.kept.number }
+        ensures pushed { OnOk result (IsHartOf (events log.now ++ event.now ∷ []) self.new) }
+        ensures unchanged { OnErr result (IsHartOf (events log.now) self.new) }
     {
-        self.kept.push(event, returned, links)
+        let mut row = Row::new();
+        self.next(log, event, returned).fill_row(links, &mut row);
+        self.places.reserve(1)?;
+        let events = OwnEvents::new(log, self.kept.number, self.places.as_slice());
+        self.kept.push(&events, event, &row)?;
+        self.places.push_reserved(log.len() as u32);
+        Ok(())
     }
 
-    /// Takes the last event off. It takes no memory, and costs a few steps for each event that is
-    /// left.
-    pub fn pop(&mut self)
-        requires { self.old.events ≢ [] }
-        ensures model { self.new.model ≡ self.old.model }
-        ensures number { self.new.number ≡ self.old.number }
-        ensures popped { (front : List Event) (e : Event) → self.old.events ≡ front ++ e ∷ [] →
-            self.new.events ≡ front }
+    /// Takes the last event of the log, which is the hart's, off. `log` is the log without it. It
+    /// takes no memory, and costs a few steps for each event of the hart that is left.
+    pub fn pop(&mut self, log: &[Entry], event: &Event)
+        requires of_log { IsHartOf (events log.now ++ event.now ∷ []) self.old }
+        requires own { event.now.id.hart ≡ self.old.kept.number }
+        ensures model { self.new.kept.model ≡ self.old.kept.model }
+        ensures number { self.new.kept.number ≡ self.old.kept.number }
+        ensures popped { IsHartOf (events log.now) self.new }
     {
-        self.kept.pop();
+        self.places.pop();
+        let events = OwnEvents::new(log, self.kept.number, self.places.as_slice());
+        self.kept.drop_last(&events, event);
     }
 
     /// Whether the hart's last LR, SC or failed SC is an LR, so that an SC may follow. It costs one
     /// step.
     pub fn is_reserved(&self) -> bool
-        ensures { result ≡ is_reserved self.now.events self.now.number }
+        ensures { (log : List Event) → IsHartOf log self.now →
+            result ≡ is_reserved (hart_of_log log self.now).events self.now.kept.number }
     {
-        self.kept.is_reserved()
+        self.kept.sets.reserved.is_some()
     }
 
     /// The LR with which an event that may follow is paired, and None where there is none (manual,
     /// section 14.1, "Memory Model Primitives"). It costs one step.
-    pub fn partner(&self, event: &Event) -> Option<&Event>
-        requires { Follows self.now event.now }
-        ensures { IsPartner self.now event.now (option_copied result) }
+    pub fn partner<'a>(&'a self, log: &'a [Entry], event: &Event) -> Option<&'a Event>
+        requires of_log { IsHartOf (events log.now) self.now }
+        requires follows { Follows (hart_of_log (events log.now) self.now) event.now }
+        ensures { IsPartner (hart_of_log (events log.now) self.now) event.now (option_copied result) }
     {
-        self.kept.partner(event)
+        self.kept.partner(&self.events(log), event)
     }
 
     /// An own earlier store of the event's word, of a higher version than the event, a load,
     /// returned, and None where there is none: the event may follow, but no lawful order has such a
     /// pair (manual, section 14.1, "Load Value Axiom"). It costs one look-up.
-    pub fn stale(&self, event: &Event) -> Option<Id>
-        requires { Follows self.now event.now }
-        ensures { IsStaleBy self.now event.now result }
+    pub fn stale(&self, log: &[Entry], event: &Event) -> Option<Id>
+        requires of_log { IsHartOf (events log.now) self.now }
+        requires follows { Follows (hart_of_log (events log.now) self.now) event.now }
+        ensures { IsStaleBy (hart_of_log (events log.now) self.now) event.now result }
     {
-        self.kept.stale(event)
+        self.kept.stale(&self.events(log), event)
+    }
+
+    /// An event that may follow, beside the hart.
+    fn next<'a>(&'a self, log: &'a [Entry], event: &'a Event, returned: Option<u32>) -> Next<'a>
+        requires of_log { IsHartOf (events log.now) self.now }
+        requires follows { Follows (hart_of_log (events log.now) self.now) event.now }
+        requires returned { IsReturned (hart_of_log (events log.now) self.now) event.now returned }
+        ensures hart { hart_at result ≡ hart_of_log (events log.now) self.now }
+        ensures event { result.event.now ≡ event.now }
+        ensures next { IsNext result }
+    {
+        Next {
+            kept: &self.kept,
+            events: self.events(log),
+            event,
+            returned,
+        }
     }
 }

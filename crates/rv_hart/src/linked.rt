@@ -2,35 +2,34 @@
 //! links, joined.
 ghost use Rattle.std.specs.Prelude.{ℕ, ◌≡◌, ◌↔◌, ◌⊎◌, ◌<◌, All, IsTrue, false};
 ghost use Rattle.rv_rows.specs.Bits.{Has, has_bit};
-ghost use Rattle.rv_hart.specs.Harts.{Follows, IsReturned, hart_with};
-ghost use Rattle.rv_hart.specs.Kept.{hart_of, IsKept};
+ghost use Rattle.rv_hart.specs.Harts.{hart_with};
+ghost use Rattle.rv_hart.specs.Kept.{hart_at, IsNext};
 ghost use Rattle.rv_hart.specs.Linked.{IsLinked, HaveRows, HasOwn};
 ghost use Rattle.rv_hart.specs.Rows.{IsBefore};
 ghost use Rattle.rv_hart.specs.RuleLinks.{AreEnoughLinks};
 
-use crate::kept::Kept;
-use rv_event::{Event, Link, Reason};
+use crate::next::Next;
+use rv_event::{Link, Reason};
 use rv_rows::{Row, Rows};
 
-impl Kept {
+impl Next<'_> {
     /// Puts the row of the hart's next event into an empty one: the event and the events from which
     /// rules lead to it, where it is a memory operation. Where a link of the hart names no rule,
     /// and no other link leads to its event, the candidates are swept.
-    pub fn fill_row(&self, event: &Event, returned: Option<u32>, links: &[Link], row: &mut Row)
-        requires kept { IsKept self.now }
-        requires follows { Follows (hart_of self.now) event.now }
-        requires returned { IsReturned (hart_of self.now) event.now returned }
-        requires linked { AreEnoughLinks (hart_of self.now) event.now links.now }
+    pub fn fill_row(&self, links: &[Link], row: &mut Row)
+        requires next { IsNext self.now }
+        requires linked { AreEnoughLinks (hart_at self.now) self.now.event.now links.now }
         requires empty { (s : ℕ) → has_bit row.old s ≡ false }
-        ensures { (s : ℕ) → Has row.new s ↔ IsBefore (hart_with (hart_of self.now) event.now) s event.now.id.seq }
+        ensures { (s : ℕ) → Has row.new s
+            ↔ IsBefore (hart_with (hart_at self.now) self.now.event.now) s self.now.event.now.id.seq }
     {
-        if !event.is_memory() {
+        if !self.event.is_memory() {
             return;
         }
-        row.insert(event.id.seq as usize);
-        join_linked(row, &self.rows, links);
-        if !has_own_links(row, self.number, links) {
-            self.add_swept(event, returned, row);
+        row.insert(self.event.id.seq as usize);
+        join_linked(row, &self.kept.rows, links);
+        if !has_own_links(row, self.kept.number, links) {
+            self.add_swept(row);
         }
     }
 }

@@ -6,6 +6,7 @@ ghost use Rattle.rv_event.specs.declared.event.Op.TheVariants.{Branch};
 ghost use Rattle.rv_hart.specs.Harts.{Hart, IsHart, Follows, followed, hart_with};
 ghost use Rattle.rv_hart.specs.Sets.{AreSets, IsReservation, NamesMemory};
 
+use crate::own_events::OwnEvents;
 use crate::rows::{insert_if, join_if};
 use rv_event::{DepKind, Event, MemoryModel, Op, does_order, is_acquire, is_rcsc};
 use rv_rows::Row;
@@ -146,12 +147,13 @@ fn reserved_after(reserved: Option<u32>, event: &Event) -> Option<u32>
 }
 
 /// The sets of a hart's events.
-pub fn sets_of(model: MemoryModel, events: &[Event]) -> Sets
+pub fn sets_of(model: MemoryModel, events: &OwnEvents<'_>) -> Sets
     requires { All (λ e. (e.id.seq < 4096) × All (λ d. d.seq < 4096) e.deps) events.now }
     ensures { (h : Hart) → IsHart h → h.model ≡ model → h.events ≡ events.now → AreSets h result }
 {
     let mut sets = Sets::new();
-    for event in events {
+    for number in 0..events.len() {
+        let event = events.at(number);
         sets.absorb(model, event);
     }
     sets

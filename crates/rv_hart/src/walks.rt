@@ -3,58 +3,58 @@
 ghost use Rattle.std.specs.Prelude.{ℕ, ◌≡◌, ◌≢◌, ◌↔◌, IsTrue, false};
 ghost use Rattle.rv_event.specs.Operations.{IsLoad};
 ghost use Rattle.rv_rows.specs.Bits.{has_bit};
-ghost use Rattle.rv_hart.specs.Kept.{hart_of, IsAsked};
+ghost use Rattle.rv_hart.specs.Kept.{hart_at, IsAsked};
 ghost use Rattle.rv_hart.specs.RuleRows.{RuleRowIs, IsOverlapRow};
 
-use crate::kept::Kept;
+use crate::next::Next;
 use crate::rows::insert_if;
 use rv_event::Event;
 use rv_rows::Row;
 
-impl Kept {
+impl Next<'_> {
     /// Rule 1: puts into an empty row, where the event is a store, the operations of its word back
     /// to the last store, which all earlier ones lead to.
-    pub fn fill_overlapping(&self, event: &Event, row: &mut Row)
-        requires asked { IsAsked self.now event.now }
+    pub fn fill_overlapping(&self, row: &mut Row)
+        requires asked { IsAsked self.now }
         requires empty { (s : ℕ) → has_bit row.old s ≡ false }
-        ensures { IsOverlapRow (hart_of self.now) event.now row.new }
+        ensures { IsOverlapRow (hart_at self.now) self.now.event.now row.new }
     {
-        if !event.is_store() {
+        if !self.event.is_store() {
             return;
         }
-        let mut next = self.words.last(event.word);
+        let mut next = self.kept.words.last(self.event.word);
         'met: while let Some(number) = next {
             let number = number as usize;
             row.insert(number);
-            let met = &self.events[number];
+            let met = self.events.at(number);
             if met.is_store() {
                 return;
             }
-            let link = self.words.links[number];
+            let link = self.kept.words.links[number];
             next = link.previous;
         }
     }
 
     /// Rule 2: puts into an empty row, where the event is a load, the loads of its word back to the
     /// last store that returned another version.
-    pub fn fill_different_reads(&self, event: &Event, row: &mut Row)
-        requires asked { IsAsked self.now event.now }
+    pub fn fill_different_reads(&self, row: &mut Row)
+        requires asked { IsAsked self.now }
         requires empty { (s : ℕ) → has_bit row.old s ≡ false }
-        ensures { RuleRowIs (hart_of self.now) event.now 2 row.new }
+        ensures { RuleRowIs (hart_at self.now) self.now.event.now 2 row.new }
     {
-        if !event.is_load() {
+        if !self.event.is_load() {
             return;
         }
-        let mut next = self.words.last(event.word);
+        let mut next = self.kept.words.last(self.event.word);
         'met: while let Some(number) = next {
             let number = number as usize;
-            let met = &self.events[number];
-            insert_if(row, is_other_read(met, event), number);
+            let met = self.events.at(number);
+            insert_if(row, is_other_read(met, self.event), number);
             if met.is_store() {
                 return;
             }
-            let link = self.words.links[number];
-            next = if met.read == event.read {
+            let link = self.kept.words.links[number];
+            next = if met.read == self.event.read {
                 link.before_run
             } else {
                 link.previous

@@ -5,6 +5,7 @@ ghost use Rattle.rv_event.specs.Operations.{IsMemory};
 ghost use Rattle.rv_event.specs.declared.event.Event.{Event};
 ghost use Rattle.rv_hart.specs.Words.{AreNumbered, AreWords, IsWordLink, IsBeforeRun, IsHighestStore};
 
+use crate::own_events::OwnEvents;
 use rv_event::{Event, NoMemory};
 use std::alloc::Global;
 use std::collections::HashMap;
@@ -49,13 +50,13 @@ impl Words {
     }
 
     /// The number of the word's store of the highest version.
-    pub fn highest_store(&self, events: &[Event], word: u32) -> Option<u32>
+    pub fn highest_store(&self, events: &OwnEvents<'_>, word: u32) -> Option<u32>
         requires numbered { AreNumbered events.now }
         requires words { AreWords events.now self.now }
         ensures { IsHighestStore events.now word (length events.now) result }
     {
         let number = self.last(word)?;
-        let last = &events[number as usize];
+        let last = events.at(number as usize);
         let before = self.links[number as usize].highest;
         if !last.is_store() {
             return before;
@@ -63,7 +64,8 @@ impl Words {
         let Some(store) = before else {
             return Some(number);
         };
-        if events[store as usize].wrote < last.wrote {
+        let highest = events.at(store as usize);
+        if highest.wrote < last.wrote {
             Some(number)
         } else {
             Some(store)
@@ -74,7 +76,7 @@ impl Words {
     ///
     /// # Errors
     /// `NoMemory` where it could not be kept; the words stay as they are.
-    pub fn push(&mut self, events: &[Event], event: &Event) -> Result<(), NoMemory>
+    pub fn add(&mut self, events: &OwnEvents<'_>, event: &Event) -> Result<(), NoMemory>
         requires numbered { AreNumbered events.now }
         requires next { event.now.id.seq ≡ length events.now }
         requires words { AreWords events.now self.old }
@@ -91,7 +93,7 @@ impl Words {
     }
 
     /// The link of the hart's next event.
-    fn link_of(&self, events: &[Event], event: &Event) -> WordLink
+    fn link_of(&self, events: &OwnEvents<'_>, event: &Event) -> WordLink
         requires numbered { AreNumbered events.now }
         requires next { event.now.id.seq ≡ length events.now }
         requires words { AreWords events.now self.now }
@@ -111,29 +113,28 @@ impl Words {
 
     /// Where a walk goes on from the hart's next event, where the word's last memory operation has
     /// this number.
-    fn before_run(&self, events: &[Event], event: &Event, number: u32) -> Option<u32>
+    fn before_run(&self, events: &OwnEvents<'_>, event: &Event, number: u32) -> Option<u32>
         requires numbered { AreNumbered events.now }
         requires next { event.now.id.seq ≡ length events.now }
         requires words { AreWords events.now self.now }
         requires last { get nat_eq self.now.lasts event.now.word ≡ Some number }
         ensures { IsBeforeRun events.now event.now result }
     {
-        let last = &events[number as usize];
+        let last = events.at(number as usize);
         if last.is_store() || last.read != event.read {
             return Some(number);
         }
         self.links[number as usize].before_run
     }
 
-    /// Takes the last of the hart's events off. It takes no memory.
-    pub fn pop(&mut self, events: &[Event])
-        requires numbered { AreNumbered events.now }
-        requires words { AreWords events.now self.old }
-        ensures { (front : List Event) (e : Event) → events.now ≡ front ++ e ∷ [] → AreWords front self.new }
+    /// Takes the last event off. `events` are those that are left. It takes no memory.
+    pub fn drop_last(&mut self, events: &OwnEvents<'_>, event: &Event)
+        requires numbered { AreNumbered (events.now ++ event.now ∷ []) }
+        requires words { AreWords (events.now ++ event.now ∷ []) self.old }
+        ensures { AreWords events.now self.new }
     {
-        let Some(event) = events.last() else {
-            return;
-        };
+        // Its contract alone speaks of these.
+        let _ = events;
         let Some(link) = self.links.pop() else {
             return;
         };

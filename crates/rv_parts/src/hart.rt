@@ -4,12 +4,14 @@ ghost use Rattle.rv_event.specs.Log.{events};
 ghost use Rattle.rv_event.specs.declared.reason.Link.{Link};
 ghost use Rattle.rv_event.specs.declared.reason.Reason.TheVariants.{Coherence};
 ghost use Rattle.rv_hart.specs.Harts.{Hart, Follows, IsHart, IsReturned};
+ghost use Rattle.rv_hart.specs.Kept.{IsHartOf, hart_of_log};
+ghost use Rattle.rv_hart.specs.RuleLinks.{AreEnoughLinks};
 
 use rv_event::{
     Dep, DepKind, Deps, Entry, Event, Id, Link, MemoryModel, Op, Reason, Set, find_event_fault,
     find_writer,
 };
-use rv_hart::HartOrder;
+use rv_hart::{HartOrder, OwnEvents};
 use std::alloc::Global;
 use std::process::Abort;
 
@@ -83,13 +85,20 @@ const CONTROL_2: Dep = Dep {
     seq: 2,
 };
 
+/// A log, and what is kept of one of its harts.
+#[derive(Drop)]
+struct Lone {
+    log: Vec<Entry>,
+    hart: HartOrder,
+}
+
 /// The events as entries of one source.
-fn entries_of(rt: &impl Abort, alloc: Global, past: &[Event]) -> Vec<Entry>
+fn entries_of(rt: &impl Abort, alloc: Global, past: &OwnEvents<'_>) -> Vec<Entry>
     ensures { events result.items ≡ past.now }
 {
     let mut entries = Vec::new(alloc);
-    for event in past {
-        let event = event.copy(alloc).expect(rt, "memory");
+    for number in 0..past.len() {
+        let event = past.at(number).copy(alloc).expect(rt, "memory");
         entries
             .push(Entry { source: 0, event })
             .expect(rt, "memory");
@@ -111,26 +120,56 @@ fn own_store(entries: &[Entry], event: &Event) -> Option<u32>
 }
 
 /// The number of the own store that an event without a fault, a load, returns.
-fn returned_by(rt: &impl Abort, alloc: Global, hart: &HartOrder, event: &Event) -> Option<u32>
-    requires { hart.now.number ≡ event.now.id.hart }
-    ensures follows { Follows hart.now event.now }
-    ensures returned { IsReturned hart.now event.now result }
+fn returned_by(rt: &impl Abort, alloc: Global, lone: &Lone, event: &Event) -> Option<u32>
+    requires of_log { IsHartOf (events lone.now.log.items) lone.now.hart }
+    requires own { lone.now.hart.kept.number ≡ event.now.id.hart }
+    ensures follows { Follows (hart_of_log (events lone.now.log.items) lone.now.hart) event.now }
+    ensures returned { IsReturned (hart_of_log (events lone.now.log.items) lone.now.hart) event.now result }
 {
-    let entries = entries_of(rt, alloc, hart.events());
+    let own = lone.hart.events(lone.log.as_slice());
+    let entries = entries_of(rt, alloc, &own);
     assert!(rt; entries.len() < 4096);
     assert!(rt; find_event_fault(&entries, event).is_none());
     own_store(&entries, event)
 }
 
-/// Adds an event that has no fault, and says what its links were.
-fn follow(rt: &impl Abort, alloc: Global, hart: &mut HartOrder, event: &Event) -> Vec<Link>
-    requires { hart.old.number ≡ event.now.id.hart }
-    ensures { hart.new.number ≡ hart.old.number }
+/// Puts the event into the log, and has the hart keep it by these links.
+fn join(
+    rt: &impl Abort,
+    alloc: Global,
+    lone: &mut Lone,
+    event: &Event,
+    returned: Option<u32>,
+    links: &[Link],
+)
+    requires of_log { IsHartOf (events lone.old.log.items) lone.old.hart }
+    requires follows { Follows (hart_of_log (events lone.old.log.items) lone.old.hart) event.now }
+    requires returned { IsReturned (hart_of_log (events lone.old.log.items) lone.old.hart) event.now returned }
+    requires linked { AreEnoughLinks (hart_of_log (events lone.old.log.items) lone.old.hart) event.now links.now }
+    ensures of_log { IsHartOf (events lone.new.log.items) lone.new.hart }
+    ensures number { lone.new.hart.kept.number ≡ lone.old.hart.kept.number }
 {
-    let returned = returned_by(rt, alloc, hart, event);
-    let links = hart.before(event, returned).expect(rt, "memory");
-    hart.push(event, returned, links.as_slice())
+    assert!(rt; lone.log.len() < 4096);
+    lone.hart
+        .push(lone.log.as_slice(), event, returned, links)
         .expect(rt, "memory");
+    let event = event.copy(alloc).expect(rt, "memory");
+    lone.log
+        .push(Entry { source: 0, event })
+        .expect(rt, "memory");
+}
+
+/// Adds an event that has no fault, and says what its links were.
+fn follow(rt: &impl Abort, alloc: Global, lone: &mut Lone, event: &Event) -> Vec<Link>
+    requires of_log { IsHartOf (events lone.old.log.items) lone.old.hart }
+    requires own { lone.old.hart.kept.number ≡ event.now.id.hart }
+    ensures of_log { IsHartOf (events lone.new.log.items) lone.new.hart }
+    ensures number { lone.new.hart.kept.number ≡ lone.old.hart.kept.number }
+{
+    let returned = returned_by(rt, alloc, lone, event);
+    let log = lone.log.as_slice();
+    let links = lone.hart.before(log, event, returned).expect(rt, "memory");
+    join(rt, alloc, lone, event, returned, links.as_slice());
     links
 }
 
@@ -151,15 +190,18 @@ fn without_rules(rt: &impl Abort, alloc: Global, links: &[Link]) -> Vec<Link>
 }
 
 /// Adds an event that has no fault, by links of which none names a rule.
-fn follow_without_rules(rt: &impl Abort, alloc: Global, hart: &mut HartOrder, event: &Event)
-    requires { hart.old.number ≡ event.now.id.hart }
-    ensures { hart.new.number ≡ hart.old.number }
+fn follow_without_rules(rt: &impl Abort, alloc: Global, lone: &mut Lone, event: &Event)
+    requires of_log { IsHartOf (events lone.old.log.items) lone.old.hart }
+    requires own { lone.old.hart.kept.number ≡ event.now.id.hart }
+    ensures of_log { IsHartOf (events lone.new.log.items) lone.new.hart }
+    ensures number { lone.new.hart.kept.number ≡ lone.old.hart.kept.number }
 {
-    let returned = returned_by(rt, alloc, hart, event);
-    let links = hart.before(event, returned).expect(rt, "memory");
-    let links = without_rules(rt, alloc, links.as_slice());
-    hart.push(event, returned, links.as_slice())
-        .expect(rt, "memory");
+    let returned = returned_by(rt, alloc, lone, event);
+    let log = lone.log.as_slice();
+    let by_rules = lone.hart.before(log, event, returned).expect(rt, "memory");
+    let named = by_rules.as_slice();
+    let links = without_rules(rt, alloc, named);
+    join(rt, alloc, lone, event, returned, links.as_slice());
 }
 
 /// Whether these are links from the events with these numbers, by these rules.
@@ -170,36 +212,43 @@ fn are_links(links: &[Link], expected: &[(u32, u8)]) -> bool {
 }
 
 /// The hart after the steps, each of which has the links that it names.
-fn hart_of(rt: &impl Abort, alloc: Global, model: MemoryModel, steps: &[Step]) -> HartOrder
-    ensures { result.number ≡ 0 }
+fn hart_of(rt: &impl Abort, alloc: Global, model: MemoryModel, steps: &[Step]) -> Lone
+    ensures of_log { IsHartOf (events result.log.items) result.hart }
+    ensures number { result.hart.kept.number ≡ 0 }
 {
-    let mut hart = HartOrder::new(alloc, model, 0);
+    let mut lone = Lone {
+        log: Vec::new(alloc),
+        hart: HartOrder::new(alloc, model, 0),
+    };
     for step in steps {
-        let seq = hart.events().len();
+        let seq = lone.log.len();
         assert!(rt; seq < 4096);
         let event = event_of(rt, alloc, seq as u32, step);
-        let links = follow(rt, alloc, &mut hart, &event);
+        let links = follow(rt, alloc, &mut lone, &event);
         assert!(rt; are_links(links.as_slice(), step.links));
     }
-    hart
+    lone
 }
 
 /// Whether the event has no fault over the hart's events.
-fn may_follow(rt: &impl Abort, alloc: Global, hart: &HartOrder, event: &Event) -> bool
-    requires { hart.now.number ≡ event.now.id.hart }
-    ensures { IsTrue result → Follows hart.now event.now }
+fn may_follow(rt: &impl Abort, alloc: Global, lone: &Lone, event: &Event) -> bool
+    requires of_log { IsHartOf (events lone.now.log.items) lone.now.hart }
+    requires own { lone.now.hart.kept.number ≡ event.now.id.hart }
+    ensures { IsTrue result → Follows (hart_of_log (events lone.now.log.items) lone.now.hart) event.now }
 {
-    let entries = entries_of(rt, alloc, hart.events());
+    let own = lone.hart.events(lone.log.as_slice());
+    let entries = entries_of(rt, alloc, &own);
     entries.len() < 4096 && find_event_fault(&entries, event).is_none()
 }
 
 /// The event of a step that may be the second of hart 0.
-fn second_of(rt: &impl Abort, alloc: Global, hart: &HartOrder, step: &Step) -> Event
-    requires { hart.now.number ≡ 0 }
-    ensures { Follows hart.now result }
+fn second_of(rt: &impl Abort, alloc: Global, lone: &Lone, step: &Step) -> Event
+    requires of_log { IsHartOf (events lone.now.log.items) lone.now.hart }
+    requires own { lone.now.hart.kept.number ≡ 0 }
+    ensures { Follows (hart_of_log (events lone.now.log.items) lone.now.hart) result }
 {
     let event = event_of(rt, alloc, 1, step);
-    assert!(rt; may_follow(rt, alloc, hart, &event));
+    assert!(rt; may_follow(rt, alloc, lone, &event));
     event
 }
 
@@ -218,14 +267,14 @@ fn the_last_store_of_three_is_linked_from_the_second(rt: HostRuntime) {
             ..STORE
         },
     ];
-    let hart = hart_of(&rt, rt.alloc(), MemoryModel::Rvwmo, &steps);
-    assert_eq!(rt; hart.events().len(), 3);
+    let lone = hart_of(&rt, rt.alloc(), MemoryModel::Rvwmo, &steps);
+    assert_eq!(rt; count(&lone), 3);
 }
 
 /// The steps are linked as each of them says.
 fn assert_linked(rt: &impl Abort, alloc: Global, steps: &[Step]) {
-    let hart = hart_of(rt, alloc, MemoryModel::Rvwmo, steps);
-    assert!(rt; hart.events().len() == steps.len());
+    let lone = hart_of(rt, alloc, MemoryModel::Rvwmo, steps);
+    assert_eq!(rt; count(&lone), steps.len());
 }
 
 #[test]
@@ -380,9 +429,10 @@ fn a_load_that_spins_is_linked_from_other_versions_alone(rt: HostRuntime) {
 
 /// The second event of a hart is paired with its first.
 fn check_partner(rt: &impl Abort, alloc: Global, first: &Step, second: &Step) {
-    let hart = hart_of(rt, alloc, MemoryModel::Rvwmo, &[*first]);
-    let event = second_of(rt, alloc, &hart, second);
-    assert_eq!(rt; hart.partner(&event).map(|lr| lr.id.seq), Some(0));
+    let lone = hart_of(rt, alloc, MemoryModel::Rvwmo, &[*first]);
+    let event = second_of(rt, alloc, &lone, second);
+    let partner = lone.hart.partner(lone.log.as_slice(), &event);
+    assert_eq!(rt; partner.map(|lr| lr.id.seq), Some(0));
 }
 
 #[test]
@@ -406,29 +456,47 @@ fn links_that_name_no_rule_lose_no_event(rt: HostRuntime) {
         acquire: true,
         ..AMO
     };
-    let mut hart = hart_of(&rt, alloc, MemoryModel::Rvwmo, &[acquire]);
+    let mut lone = hart_of(&rt, alloc, MemoryModel::Rvwmo, &[acquire]);
     let second = event_of(&rt, alloc, 1, &Step { word: 1, ..acquire });
-    follow_without_rules(&rt, alloc, &mut hart, &second);
+    follow_without_rules(&rt, alloc, &mut lone, &second);
     let third = event_of(&rt, alloc, 2, &Step { word: 2, ..LOAD });
-    let links = follow(&rt, alloc, &mut hart, &third);
+    let links = follow(&rt, alloc, &mut lone, &third);
     assert!(rt; are_links(links.as_slice(), &[(1, 5)]));
 }
 
 /// The second event of the hart is stale by this one, where there is one.
-fn check_stale(rt: &impl Abort, alloc: Global, hart: &HartOrder, step: &Step, by: Option<Id>)
-    requires { hart.now.number ≡ 0 }
+fn check_stale(rt: &impl Abort, alloc: Global, lone: &Lone, step: &Step, by: Option<Id>)
+    requires of_log { IsHartOf (events lone.now.log.items) lone.now.hart }
+    requires own { lone.now.hart.kept.number ≡ 0 }
 {
-    let event = second_of(rt, alloc, hart, step);
-    assert_eq!(rt; hart.stale(&event), by);
+    let event = second_of(rt, alloc, lone, step);
+    assert_eq!(rt; lone.hart.stale(lone.log.as_slice(), &event), by);
 }
 
 #[test]
 fn an_older_version_than_an_own_one_is_stale(rt: HostRuntime) {
     let alloc = rt.alloc();
-    let hart = hart_of(&rt, alloc, MemoryModel::Rvwmo, &[STORE]);
+    let lone = hart_of(&rt, alloc, MemoryModel::Rvwmo, &[STORE]);
     let first = Id { hart: 0, seq: 0 };
-    check_stale(&rt, alloc, &hart, &LOAD, Some(first));
-    check_stale(&rt, alloc, &hart, &Step { read: 1, ..LOAD }, None);
+    check_stale(&rt, alloc, &lone, &LOAD, Some(first));
+    check_stale(&rt, alloc, &lone, &Step { read: 1, ..LOAD }, None);
+}
+
+/// Takes the last event off.
+fn pop(rt: &impl Abort, lone: &mut Lone)
+    requires of_log { IsHartOf (events lone.old.log.items) lone.old.hart }
+    ensures of_log { IsHartOf (events lone.new.log.items) lone.new.hart }
+{
+    let entry = lone.log.pop().expect(rt, "an event");
+    assert!(rt; entry.event.id.hart == lone.hart.kept.number);
+    lone.hart.pop(lone.log.as_slice(), &entry.event);
+}
+
+/// How many events the hart has.
+fn count(lone: &Lone) -> usize
+    requires { IsHartOf (events lone.now.log.items) lone.now.hart }
+{
+    lone.hart.events(lone.log.as_slice()).len()
 }
 
 #[test]
@@ -438,10 +506,10 @@ fn what_is_popped_is_forgotten(rt: HostRuntime) {
         links: &[(0, 5)],
         ..STORE
     };
-    let mut hart = hart_of(&rt, rt.alloc(), MemoryModel::Ztso, &[LOAD, store]);
-    assert!(rt; !hart.events().is_empty());
-    hart.pop();
-    assert!(rt; !hart.events().is_empty());
-    hart.pop();
-    assert!(rt; hart.events().is_empty());
+    let mut lone = hart_of(&rt, rt.alloc(), MemoryModel::Ztso, &[LOAD, store]);
+    assert_eq!(rt; count(&lone), 2);
+    pop(&rt, &mut lone);
+    assert_eq!(rt; count(&lone), 1);
+    pop(&rt, &mut lone);
+    assert_eq!(rt; count(&lone), 0);
 }

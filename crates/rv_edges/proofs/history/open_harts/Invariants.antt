@@ -1,7 +1,8 @@
-use Rattle.std.proofs.Common.{◌≡◌, ℕ, length}
-use Rattle.rv_edges.specs.Indexes.{hart_of}
+use Rattle.std.proofs.Common.{◌≡◌, List, length}
+use Rattle.rv_event.specs.declared.event.Event.{Event}
+use Rattle.rv_edges.specs.Indexes.{AreHarts}
 use Rattle.rv_edges.proofs.history.open_harts.Given as goal
 
 abbrev pub invariant-loop-next : goal.invariant-loop-next
 invariant-loop-next l = (length l.harts.items ≡ l.next) ×
-    ((h : ℕ) → hart_of l.model l.harts.items h ≡ hart_of l.model l.initial.harts.items h)
+    ((log : List Event) → AreHarts l.model log l.initial.harts.items → AreHarts l.model log l.harts.items)

@@ -5,7 +5,7 @@ use Rattle.std.proofs.lemmas.Grind.{common_steps}
 use Rattle.rv_event.specs.declared.event.Dep.{Dep}
 use Rattle.rv_event.specs.declared.event.DepKind.TheVariants.{Addr}
 use Rattle.rv_rows.specs.Bits.{has_bit}
-use Rattle.rv_hart.proofs.Depending.{AddsNamed, named-more, named-same}
+use Rattle.rv_hart.proofs.DependencyRows.{AddsNamed, named-more, named-same}
 use Rattle.rv_hart.proofs.sets.add_dependencies.Goals as goal
 use Rattle.rv_hart.proofs.sets.add_dependencies.Goals.{then-eq+then-has_either, else-eq}
 use Rattle.rv_hart.proofs.sets.add_dependencies.Goals.{else-eq-via-then-eq+else-has_either}

@@ -1,5 +1,5 @@
 use Rattle.std.proofs.Common.{take}
-use Rattle.rv_hart.proofs.Depending.{AddsNamed}
+use Rattle.rv_hart.proofs.DependencyRows.{AddsNamed}
 use Rattle.rv_hart.proofs.sets.add_dependencies.Given as goal
 
 abbrev pub invariant-loop-dep : goal.invariant-loop-dep

@@ -1,7 +1,7 @@
 use Rattle.std.proofs.Common.{◌≡◌, rules, tests}
 use Rattle.rv_event.specs.declared.event.Op.TheVariants.{Lr}
-use Rattle.rv_hart.proofs.Knowing.{fits_of}
-use Rattle.rv_hart.proofs.Absorbing.{reservation-kept, reservation-new, reservation-ended}
+use Rattle.rv_hart.proofs.HartFacts.{fits_of}
+use Rattle.rv_hart.proofs.GrownSets.{reservation-kept, reservation-new, reservation-ended}
 use Rattle.rv_hart.proofs.sets.reserved_after.Goals as goal
 
 pub returns-then-not-is_exclusive : goal.returns-then-not-is_exclusive

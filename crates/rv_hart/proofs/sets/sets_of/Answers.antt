@@ -5,19 +5,19 @@ use Rattle.std.proofs.lemmas.Grind.{common_steps}
 use Rattle.rv_event.specs.declared.event.Event.{Event}
 use Rattle.rv_hart.specs.Harts.{IsHart, Follows}
 use Rattle.rv_hart.specs.Sets.{AreSets}
-use Rattle.rv_hart.proofs.Keeping.{hart-take, hart-first}
+use Rattle.rv_hart.proofs.GrownHart.{hart-take, hart-first}
 use Rattle.rv_hart.proofs.sets.sets_of.Goals as goal
 
-pub loop-event-init : goal.loop-event-init
-loop-event-init c = λ h ok model is. c.new-sets.ensures (record h { events = [] }) refl
+pub loop-number-init : goal.loop-number-init
+loop-number-init c = λ h ok model is. c.new-sets.ensures (record h { events = [] }) refl
 
-pub loop-event-preserved : goal.loop-event-preserved
-loop-event-preserved c = λ h ok model is.
+pub loop-number-preserved : goal.loop-number-preserved
+loop-number-preserved c = λ h ok model is.
     let es : List Event = c.args.events.now in
-    let i : ℕ = c.loop-event.event-index in
-    let e : Event = c.event-item.result in
-    let low : i < length h.events = subst (λ (xs : List Event). i < length xs) (sym is) c.loop-event-test.true in
-    let read : e ≡ get_or h.events i e = c.event-item.is ∙ ap (λ (xs : List Event). get_or xs i e) (sym is) in
+    let i : ℕ = c.loop-number.number in
+    let e : Event = c.at-event.result.now in
+    let low : i < length h.events = subst (λ (xs : List Event). i < length xs) (sym is) (omega (arith, c.loop-number-test.true, c.len-number-end.ensures)) in
+    let read : e ≡ get_or h.events i e = c.at-event.ensures ∙ ap (λ (xs : List Event). get_or xs i e) (sym is) in
     let taken : take i h.events ≡ take i es = ap (take i) is in
     let first : IsHart (record h { events = take i es }) =
     subst (λ (xs : List Event). IsHart (record h { events = xs })) taken (hart-first h ok i) in
@@ -25,11 +25,12 @@ loop-event-preserved c = λ h ok model is.
     subst (λ (xs : List Event). Follows (record h { events = xs }) e) taken (hart-take h ok i e low read) in
     let more : take (i + 1) es ≡ take i es ++ e ∷ [] = grind (arith, common_steps) in
     let sets = c.absorb.ensures (record h { events = take i es }) first follows model
-    (c.loop-event.invariant h ok model is) in
+    (c.loop-number.invariant h ok model is) in
     subst (λ (xs : List Event). AreSets (record h { events = xs }) c.absorb.new.self) (sym more) sets
 
 pub returns : goal.returns
 returns c = λ h ok model is.
-    subst (λ (es : List Event). AreSets (record h { events = es }) c.loop-event.sets)
-    (take_all c.loop-event.event-index c.args.events.now c.loop-event-test.false ∙ sym is)
-    (c.loop-event.invariant h ok model is)
+    subst (λ (es : List Event). AreSets (record h { events = es }) c.loop-number.sets)
+    (take_all c.loop-number.number c.args.events.now
+    (omega (arith, c.loop-number-test.false, c.len-number-end.ensures)) ∙ sym is)
+    (c.loop-number.invariant h ok model is)

@@ -3,6 +3,6 @@ use Rattle.rv_hart.specs.Harts.{Hart, IsHart}
 use Rattle.rv_hart.specs.Sets.{AreSets}
 use Rattle.rv_hart.proofs.sets.sets_of.Given as goal
 
-abbrev pub invariant-loop-event : goal.invariant-loop-event
-invariant-loop-event l = (h : Hart) → IsHart h → h.model ≡ l.model → h.events ≡ l.events →
-    AreSets (record h { events = take l.event-index l.events }) l.sets
+abbrev pub invariant-loop-number : goal.invariant-loop-number
+invariant-loop-number l = (h : Hart) → IsHart h → h.model ≡ l.model → h.events ≡ l.events →
+    AreSets (record h { events = take l.number l.events }) l.sets

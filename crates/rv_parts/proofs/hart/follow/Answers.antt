@@ -3,6 +3,9 @@ use Rattle.rv_event.specs.Preserved.{IsPreserved}
 use Rattle.rv_event.specs.declared.event.Event.{Event}
 use Rattle.rv_event.specs.declared.reason.Link.{Link}
 use Rattle.rv_event.specs.declared.reason.Reason.TheVariants.{Preserved}
+use Rattle.rv_event.specs.Log.{events}
+use Rattle.rv_event.specs.declared.event.Entry.{Entry}
+use Rattle.rv_hart.specs.Kept.{hart_of_log}
 use Rattle.rv_hart.specs.Harts.{Hart, followed}
 use Rattle.rv_hart.specs.RuleLinks.{IsRuleLink, AreRuleLinks, AreEnoughLinks}
 use Rattle.rv_parts.proofs.hart.follow.Goals as goal
@@ -20,9 +23,11 @@ links-enough h e links are = record {
   carried = are.carried;
 }
 
-pub push-requires-clause-linked : goal.push-requires-clause-linked
-push-requires-clause-linked g c =
-    let are : AreRuleLinks c.args.hart.now c.args.event.now c.expect-links.result.items =
-    rw c.expect-links.ensures at c.before-2.ensures in
-    subst (λ (links : List Link). AreEnoughLinks c.args.hart.now c.args.event.now links) (sym c.as_slice.ensures.value)
-    (links-enough c.args.hart.now c.args.event.now c.expect-links.result.items are)
+pub join-requires-clause-linked : goal.join-requires-clause-linked
+join-requires-clause-linked g c =
+    let h : Hart = hart_of_log (events c.args.lone.now.log.items) c.args.lone.now.hart in
+    let are : AreRuleLinks h c.args.event.now c.expect-links.result.items =
+    subst (λ (log : List Entry). AreRuleLinks (hart_of_log (events log) c.args.lone.now.hart) c.args.event.now
+    c.expect-links.result.items) c.as_slice-log.ensures.value (rw c.expect-links.ensures at c.before-2.ensures) in
+    subst (λ (links : List Link). AreEnoughLinks h c.args.event.now links) (sym c.as_slice.ensures.value)
+    (links-enough h c.args.event.now c.expect-links.result.items are)

@@ -6,6 +6,9 @@ use Rattle.rv_event.specs.declared.reason.Link.{Link}
 use Rattle.rv_event.specs.declared.reason.Reason.TheVariants.{Coherence, Preserved}
 use Rattle.std.specs.Prelude.{Contains, ℕ}
 use Rattle.rv_cover.specs.Thinned.{Names}
+use Rattle.rv_event.specs.Log.{events}
+use Rattle.rv_event.specs.declared.event.Entry.{Entry}
+use Rattle.rv_hart.specs.Kept.{hart_of_log}
 use Rattle.rv_hart.specs.Harts.{Hart}
 use Rattle.rv_hart.specs.RuleLinks.{AreRuleLinks, AreEnoughLinks}
 use Rattle.rv_parts.proofs.hart.follow_without_rules.Goals as goal
@@ -43,11 +46,13 @@ enough h e links are = record {
   carried = λ k a ca r. elim (are.carried k a ca r) [ inl n ↦ inl (named-still links a.id n) | inr s ↦ inr s ];
 }
 
-pub push-requires-clause-linked : goal.push-requires-clause-linked
-push-requires-clause-linked g c =
-    let are : AreRuleLinks c.args.hart.now c.args.event.now c.expect-links.result.items =
-    rw c.expect-links.ensures at c.before-2.ensures in
-    let is : c.as_slice-2.result.now ≡ without c.expect-links.result.items = c.as_slice-2.ensures.value ∙
-    c.without_rules-links.ensures ∙ ap without c.as_slice.ensures.value in
-    subst (λ (links : List Link). AreEnoughLinks c.args.hart.now c.args.event.now links) (sym is)
-    (enough c.args.hart.now c.args.event.now c.expect-links.result.items are)
+pub join-requires-clause-linked : goal.join-requires-clause-linked
+join-requires-clause-linked g c =
+    let h : Hart = hart_of_log (events c.args.lone.now.log.items) c.args.lone.now.hart in
+    let are : AreRuleLinks h c.args.event.now c.expect-by_rules.result.items =
+    subst (λ (log : List Entry). AreRuleLinks (hart_of_log (events log) c.args.lone.now.hart) c.args.event.now
+    c.expect-by_rules.result.items) c.as_slice-log.ensures.value (rw c.expect-by_rules.ensures at c.before-2.ensures) in
+    let is : c.as_slice.result.now ≡ without c.expect-by_rules.result.items = c.as_slice.ensures.value ∙
+    c.without_rules-links.ensures ∙ ap without c.as_slice-named.ensures.value in
+    subst (λ (links : List Link). AreEnoughLinks h c.args.event.now links) (sym is)
+    (enough h c.args.event.now c.expect-by_rules.result.items are)

@@ -4,7 +4,7 @@ use Rattle.rv_event.proofs.Names.{IsWriterOf, writer-is}
 use Rattle.rv_event.specs.Operations.{IsLoad}
 use Rattle.rv_event.specs.Log.{writer}
 use Rattle.rv_event.specs.declared.event.Event.{Event}
-use Rattle.rv_hart.proofs.Knowing.{known_of}
+use Rattle.rv_hart.proofs.HartFacts.{known_of}
 use Rattle.rv_parts.proofs.hart.own_store.Goals as goal
 
 pub returns-in-Some : goal.returns-in-Some

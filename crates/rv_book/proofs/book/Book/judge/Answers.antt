@@ -14,7 +14,7 @@ use Rattle.rv_book.specs.Tallied.{IsTallied}
 use Rattle.rv_cert.specs.Refusals.{Refusal}
 use Rattle.rv_book.proofs.PushedEntries.{event_sound, source_sound, room_in, room_of, events-push}
 use Rattle.rv_book.proofs.PushedEntries.{booked_push, forbidden_of, taken_of}
-use Rattle.rv_edges.proofs.Moving.{last_pushed}
+use Rattle.rv_edges.proofs.GrownHarts.{last_pushed}
 use Rattle.rv_book.proofs.book.Book.judge.Goals as goal
 
 pub add-requires-clause-sound : goal.add-requires-clause-sound

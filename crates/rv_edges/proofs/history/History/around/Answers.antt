@@ -13,9 +13,9 @@ use Rattle.rv_event.specs.Log.{events}
 use Rattle.rv_edges.specs.Kept.{Kept, Past, kept_from, happened}
 use Rattle.rv_edges.specs.Histories.{IsLinked, IsCarried}
 use Rattle.rv_edges.specs.Indexes.{hart_in}
-use Rattle.rv_edges.proofs.Carrying.{carried_from_IsHistory, covered_with}
-use Rattle.rv_edges.proofs.Indexing.{log-is, past-indexed}
-use Rattle.rv_edges.proofs.Joining.{linked_with, unsplit_is, nearest_is}
+use Rattle.rv_edges.proofs.CarriedEdges.{carried_from_IsHistory, covered_with}
+use Rattle.rv_edges.proofs.IndexFacts.{log-is, past-indexed}
+use Rattle.rv_edges.proofs.JoinedLinks.{linked_with, unsplit_is, nearest_is}
 use Rattle.rv_edges.proofs.history.History.around.Goals as goal
 
 pub around-requires-clause-sound : goal.around-requires-clause-sound

@@ -3,7 +3,7 @@ use Rattle.std.proofs.Common.{rules}
 use Rattle.std.proofs.Common.{◌≤◌, List, length, ap, sym, ◌∙◌, subst}
 use Rattle.rv_event.specs.Log.{events}
 use Rattle.rv_event.specs.declared.event.Entry.{Entry}
-use Rattle.rv_edges.proofs.Indexing.{log-is, past-few, past-indexed}
+use Rattle.rv_edges.proofs.IndexFacts.{log-is, past-few, past-indexed}
 use Rattle.rv_edges.proofs.history.History.entries.Goals as goal
 
 pub returns-clause-events : goal.returns-clause-events

@@ -3,7 +3,7 @@ use Rattle.std.proofs.Common.{subst}
 use Rattle.rv_event.specs.Log.{events}
 use Rattle.rv_edges.specs.Kept.{Past, kept_from}
 use Rattle.rv_edges.specs.Histories.{IsCarried}
-use Rattle.rv_edges.proofs.Carrying.{carried_from_IsHistory}
+use Rattle.rv_edges.proofs.CarriedEdges.{carried_from_IsHistory}
 use Rattle.rv_edges.proofs.history.History.model.Goals as goal
 
 pub returns-clause-carried : goal.returns-clause-carried

@@ -1,11 +1,9 @@
 -- No events and no links are a history, in which no hart has events.
-use Rattle.std.proofs.Common.{List, sym, ap, ◌∙◌, subst}
-use Rattle.rv_event.specs.Log.{events}
+use Rattle.std.proofs.Common.{List, length, sym, ap, subst, arith}
+use Rattle.rv_event.specs.Log.{events, of_hart}
 use Rattle.rv_event.specs.declared.event.Event.{Event}
-use Rattle.rv_hart.specs.Harts.{Hart}
 use Rattle.rv_edges.specs.Histories.{IsHistory}
-use Rattle.rv_edges.specs.Indexes.{hart_of, hart_from}
-use Rattle.rv_edges.proofs.Carrying.{IsHistory-nil}
+use Rattle.rv_edges.proofs.CarriedEdges.{IsHistory-nil}
 use Rattle.rv_edges.proofs.Sides.{no_sides}
 use Rattle.rv_edges.proofs.history.History.new.Goals as goal
 
@@ -15,7 +13,8 @@ invariant_of-result c =
     record {
       lengths = none.0;
       history = subst (IsHistory _) (sym none.1) (IsHistory-nil _);
-      own = λ h.
-          ap (λ (xs : List Hart). hart_of c.args.model xs h) c.new-2.ensures.items ∙
-          sym (ap (λ (es : List Event). hart_from c.args.model es h) (ap events c.new.ensures));
+      own = record {
+        each = λ h x low. absurd (omega (arith, low, ap length c.new-2.ensures.items));
+        none = λ h high. ap (λ (es : List Event). of_hart h es) (ap events c.new.ensures);
+      };
     }

@@ -2,23 +2,23 @@
 use Rattle.std.proofs.Common.{arith}
 use Rattle.std.proofs.lemmas.Grind.{common_steps}
 use Rattle.std.proofs.Common.{rules}
-use Rattle.std.proofs.Common.{◌≡◌, ℕ, List, [], ◌∷◌, ◌++◌, None, refl, sym, ap, ◌∙◌, subst, length}
+use Rattle.std.proofs.Common.{◌≡◌, List, [], ◌∷◌, ◌++◌, ◌≤◌, None, sym, ap, ◌∙◌, subst, length, slice_set}
 use Rattle.rv_event.specs.Faults.{event_fault}
 use Rattle.rv_event.specs.Log.{events}
 use Rattle.rv_event.specs.declared.event.Entry.{Entry}
 use Rattle.rv_event.specs.declared.event.Event.{Event}
-use Rattle.rv_event.specs.declared.reason.Link.{Link}
-use Rattle.rv_hart.specs.Harts.{Hart, Follows, IsReturned, hart_with}
+use Rattle.rv_hart.specs.Harts.{Hart, Follows, IsReturned}
+use Rattle.rv_hart.specs.Kept.{IsHartOf, hart_of_log}
 use Rattle.rv_hart.specs.RuleLinks.{AreEnoughLinks}
 use Rattle.rv_versions.specs.Reserved.{IsReserved}
 use Rattle.rv_edges.specs.Kept.{Past, kept_from, happened}
 use Rattle.rv_edges.specs.Histories.{Joined, IsHistory, kept_of}
-use Rattle.rv_edges.specs.Indexes.{hart_from, hart_in}
+use Rattle.rv_edges.specs.Indexes.{AreHarts, hart_from, hart_in}
 use Rattle.rv_edges.specs.OwnLinks.{OwnLinks}
-use Rattle.rv_edges.proofs.Carrying.{pushed_sides}
+use Rattle.rv_edges.proofs.CarriedEdges.{pushed_sides}
 use Rattle.rv_edges.proofs.Enough.{enough_is}
-use Rattle.rv_edges.proofs.Indexing.{log-is, hart-is, follows, past-indexed}
-use Rattle.rv_edges.proofs.Moving.{events-pop, found-hart, harts-push, harts-set, last_pushed}
+use Rattle.rv_edges.proofs.IndexFacts.{log-is, follows, past-few, past-indexed}
+use Rattle.rv_edges.proofs.GrownHarts.{events-pop, event-is, found-is, found-of_log, harts-grow, harts-stay, log-was}
 use Rattle.rv_edges.proofs.Sides.{kept_one, same_front}
 use Rattle.rv_edges.proofs.history.History.push_entry.Goals as goal
 use Rattle.rv_edges.proofs.history.History.push_entry.Goals.{After-push-arg-1}
@@ -37,66 +37,90 @@ push-kept-requires-clause-reserved c =
     (sym (log c)) c.reserved-reserved.ensures
 
 module _ (c : goal.In-Some-get_mut) where
-  last-is : c.in-Some.last.now ≡ c.args.entry
-  last-is = grind (arith, common_steps)
+  abbrev e : Event
+  e = c.args.entry.event
 
-  same-event : c.in-Some.last.now.event ≡ c.args.entry.event
-  same-event = ap (λ (x : Entry). x.event) last-is
+  both : c.in-Some.log.now ++ c.in-Some.last.now ∷ [] ≡ c.self.inside.versions ++ c.args.entry ∷ []
+  both = sym c.in-Some.ensures.cases.0 ∙ c.entries.ensures.value ∙ c.in_default.ensures.pushed
 
-  here : c.in-Some-get_mut.hart.now ≡ hart_in c.args.self.now c.args.entry.event.id.hart
+  own : AreHarts c.self.inside.model (events c.self.inside.versions) c.open_harts.new.harts.items
+  own = c.in_ok-open_harts.ensures.same (events c.self.inside.versions) c.self.invariant.own
+
+  of_log : IsHartOf (events c.in-Some.log.now) c.in-Some-get_mut.hart.now
+  of_log = found-of_log c.self.inside.model c.self.inside.versions c.in-Some.log.now c.args.entry c.in-Some.last.now
+      c.open_harts.new.harts.items c.in-Some-get_mut.hart.now both own c.in_ok-open_harts.ensures.open
+      c.in-Some-get_mut.ensures.value
+
+  same-event : c.in-Some.last.now.event ≡ e
+  same-event = event-is c.self.inside.model c.self.inside.versions c.in-Some.log.now c.args.entry c.in-Some.last.now
+      c.open_harts.new.harts.items c.in-Some-get_mut.hart.now both own c.in_ok-open_harts.ensures.open
+      c.in-Some-get_mut.ensures.value
+
+  abbrev before_it : Hart
+  before_it = hart_of_log (events c.in-Some.log.now) c.in-Some-get_mut.hart.now
+
+  here : before_it ≡ hart_in c.args.self.now e.id.hart
   here =
-      let n = c.args.entry.event.id.hart in
-      found-hart c.self.inside.model (events c.self.inside.versions) c.open_harts.new.harts.items n
-      c.in-Some-get_mut.hart.now (λ h. c.in_ok-open_harts.ensures.same h ∙ c.self.invariant.own h)
-      c.in_ok-open_harts.ensures.open c.in-Some-get_mut.ensures.value ∙ sym (c.self.invariant.own n)
-      ∙ hart-is c.self.inside.model c.self.inside.versions c.self.inside.harts.items c.self.inside.links
-      c.self.invariant c.args.self.now c.self.view_is n
+      let log : events c.self.inside.versions ≡ happened c.args.self.now.kept = search (log-is, rules) in
+      found-is c.self.inside.model c.self.inside.versions c.in-Some.log.now c.args.entry c.in-Some.last.now
+      c.open_harts.new.harts.items c.in-Some-get_mut.hart.now both own c.in_ok-open_harts.ensures.open
+      c.in-Some-get_mut.ensures.value
+      ∙ ap (λ (l : List Event). hart_from c.self.inside.model l e.id.hart) log
+      ∙ ap (λ (w : Past). hart_from w.model (happened c.args.self.now.kept) e.id.hart) c.self.view_is
+
+pub push-joined-requires-clause-of_log : goal.push-joined-requires-clause-of_log
+push-joined-requires-clause-of_log c = of_log c
+
+pub push-joined-requires-clause-few : goal.push-joined-requires-clause-few
+push-joined-requires-clause-few c =
+    let few : length c.self.inside.versions ≤ 65536 = search (past-few, rules) in
+    let was = log-was c.self.inside.model c.self.inside.versions c.in-Some.log.now c.args.entry c.in-Some.last.now
+    c.open_harts.new.harts.items c.in-Some-get_mut.hart.now (both c) (own c) c.in_ok-open_harts.ensures.open
+    c.in-Some-get_mut.ensures.value in
+    omega (arith, few, ap (λ (l : List Entry). length l) was)
 
 pub push-joined-requires-clause-follows : goal.push-joined-requires-clause-follows
 push-joined-requires-clause-follows c =
-    subst (λ (e : Event). Follows c.in-Some-get_mut.hart.now e) (sym (same-event c))
-    (subst (λ (x : Hart). Follows x c.args.entry.event) (sym (here c))
-    (follows c.args.self.now c.args.entry.event c.requires.sound))
+    subst (Follows (before_it c)) (sym (same-event c))
+    (subst (λ (x : Hart). Follows x (e c)) (sym (here c)) (follows c.args.self.now (e c) c.requires.sound))
 
 pub push-joined-requires-clause-returned : goal.push-joined-requires-clause-returned
 push-joined-requires-clause-returned c =
-    subst (λ (e : Event). IsReturned c.in-Some-get_mut.hart.now e c.returned-returned.result) (sym (same-event c))
-    (subst (λ (x : Hart). IsReturned x c.args.entry.event c.returned-returned.result) (sym (here c))
-    c.returned-returned.ensures)
+    subst (λ (a : Event). IsReturned (before_it c) a c.returned-returned.result) (sym (same-event c))
+    (subst (λ (x : Hart). IsReturned x (e c) c.returned-returned.result) (sym (here c)) c.returned-returned.ensures)
 
 pub push-joined-requires-clause-linked : goal.push-joined-requires-clause-linked
 push-joined-requires-clause-linked c =
-    let e = c.args.entry.event in
     let past : Past = c.args.self.now in
     let known = past-indexed c.self.inside.model c.self.inside.versions c.self.inside.harts.items c.self.inside.links
     c.self.invariant past c.self.view_is in
-    subst (λ (a : Event). AreEnoughLinks c.in-Some-get_mut.hart.now a c.as_slice-before.result.now) (sym (same-event c))
-    (subst (λ (x : Hart). AreEnoughLinks x e c.as_slice-before.result.now) (sym (here c))
-    (subst (λ (ls : List Link). AreEnoughLinks (hart_in past e.id.hart) e ls) (sym c.as_slice-before.ensures)
-    (enough_is past.model past.kept (kept_of e c.args.around.now) known c.requires.sound c.requires.linked)))
+    subst (λ (a : Event). AreEnoughLinks (before_it c) a c.as_slice-before.result.now) (sym (same-event c))
+    (subst (λ (x : Hart). AreEnoughLinks x (e c) c.as_slice-before.result.now) (sym (here c))
+    (subst (AreEnoughLinks (hart_in past (e c).id.hart) (e c)) (sym c.as_slice-before.ensures)
+    (enough_is past.model past.kept (kept_of (e c) c.args.around.now) known c.requires.sound c.requires.linked)))
 
 pub invariant_of-self-in-Err-joined : goal.invariant_of-self-in-Err-joined
 invariant_of-self-in-Err-joined c =
-    let n = c.args.entry.event.id.hart in
     let model = c.self.inside.model in
     let entries : c.pop.new.self ≡ c.self.inside.versions = search (same_front, rules) in
     let links : c.drop_last-in-Err-joined.new.self ≡ c.self.inside.links =
     search (same_front, rules) in
     let log : events c.pop.new.self ≡ events c.self.inside.versions = ap events entries in
-    let own = λ (h : ℕ). c.in_ok-open_harts.ensures.same h ∙ c.self.invariant.own h in
+    let both = sym c.in-Some.ensures.cases.0 ∙ c.entries.ensures.value ∙ c.in_default.ensures.pushed in
+    let own = c.in_ok-open_harts.ensures.same (events c.self.inside.versions) c.self.invariant.own in
+    let stay = harts-stay c.self.inside.model c.self.inside.versions c.in-Some.log.now c.args.entry c.in-Some.last.now
+    c.open_harts.new.harts.items c.in-Some-get_mut.hart.now both own c.in_ok-open_harts.ensures.open
+    c.in-Some-get_mut.ensures.value c.push-joined.new.self c.in-Err-joined.ensures.model
+    c.in-Err-joined.ensures.number c.in-Err-joined.ensures.unchanged in
     record {
       lengths = ap length log ∙ c.self.invariant.lengths ∙ sym (ap length links);
       history =
           subst (λ (ls : List OwnLinks). IsHistory model (kept_from (events c.pop.new.self) ls)) (sym links)
           (subst (λ (es : List Event). IsHistory model (kept_from es c.self.inside.links)) (sym log)
           c.self.invariant.history);
-      own = λ h.
-          harts-set model (events c.self.inside.versions) (events c.self.inside.versions) c.open_harts.new.harts.items n
-          c.push-joined.new.self own c.in_ok-open_harts.ensures.open
-          (c.in-Err-joined.ensures.unchanged
-          ∙ found-hart model (events c.self.inside.versions) c.open_harts.new.harts.items n c.in-Some-get_mut.hart.now
-          own c.in_ok-open_harts.ensures.open c.in-Some-get_mut.ensures.value) (λ k other. refl) h
-          ∙ ap (λ (es : List Event). hart_from model es h) (sym log);
+      own =
+          subst (λ (es : List Event). AreHarts model es (slice_set c.open_harts.new.harts.items
+          c.args.entry.event.id.hart c.push-joined.new.self)) (sym log) stay;
     }
 
 record Pushed (c : goal.In_default-joined) : Type 0 where
@@ -127,18 +151,18 @@ module _ (c : goal.In_default-joined) where
 
 pub invariant_of-self-in_default-joined : goal.invariant_of-self-in_default-joined
 invariant_of-self-in_default-joined c =
-    let last = last_pushed c.entries.result.now c.self.inside.versions c.args.entry c.in-Some.last.now
-    (c.entries.ensures.value ∙ c.in_default.ensures.pushed) (sym c.in-Some.ensures.value) in
+    let joined = c.in_default-joined.ensures in
+    let both = sym c.in-Some.ensures.cases.0 ∙ c.entries.ensures.value ∙ c.in_default.ensures.pushed in
+    let own = c.in_ok-open_harts.ensures.same (events c.self.inside.versions) c.self.invariant.own in
+    let grow = harts-grow c.self.inside.model c.self.inside.versions c.in-Some.log.now c.args.entry c.in-Some.last.now
+    c.open_harts.new.harts.items c.in-Some-get_mut.hart.now both own c.in_ok-open_harts.ensures.open
+    c.in-Some-get_mut.ensures.value c.push-joined.new.self joined.model joined.number joined.pushed in
     record {
       lengths = (pushed c).lengths;
       history = (pushed c).history;
       own =
-          harts-push c.self.inside.model (events c.self.inside.versions) (events c.push-kept.new.self)
-          c.open_harts.new.harts.items c.args.entry.event c.in-Some-get_mut.hart.now c.push-joined.new.self
-          (λ h. c.in_ok-open_harts.ensures.same h ∙ c.self.invariant.own h) c.in_ok-open_harts.ensures.open (more c)
-          c.in-Some-get_mut.ensures.value
-          (c.in_default-joined.ensures.pushed
-          ∙ ap (λ (x : Entry). hart_with c.in-Some-get_mut.hart.now x.event) last);
+          subst (λ (es : List Event). AreHarts c.self.inside.model es (slice_set c.open_harts.new.harts.items
+          c.args.entry.event.id.hart c.push-joined.new.self)) (sym (more c)) grow;
     }
 
 pub returns-clause-pushed : goal.returns-clause-pushed

@@ -1,24 +1,31 @@
 -- The LR is one of the hart's events, and so one of the history's.
 use Rattle.std.proofs.Common.{arith}
 use Rattle.std.proofs.lemmas.Grind.{common_steps}
-use Rattle.std.proofs.Common.{◌≡◌, Some, None, refl, sym, subst}
+use Rattle.std.proofs.Common.{Some, None, refl, sym, subst}
 use Rattle.rv_hart.specs.Harts.{Hart, Follows}
 use Rattle.rv_hart.specs.Kept.{IsPartner}
 use Rattle.rv_versions.specs.Reserved.{IsReserved}
 use Rattle.rv_edges.specs.Kept.{happened}
 use Rattle.rv_edges.specs.Indexes.{hart_in}
-use Rattle.rv_edges.proofs.Indexing.{follows}
-use Rattle.rv_edges.proofs.Harting.{partner_from, partner_to}
+use Rattle.rv_edges.proofs.IndexFacts.{follows, hart-is, of_entries}
+use Rattle.rv_edges.proofs.HartOfLog.{partner_from, partner_to}
 use Rattle.rv_edges.proofs.history.History.reserved.Goals as goal
 
-pub partner-requires : goal.partner-requires
-partner-requires c =
-    let is : c.in_ok-hart.field-0.now ≡ hart_in c.args.self.now c.args.event.now.id.hart = c.in_ok-hart.ensures.hart in
+pub partner-requires-clause-of_log : goal.partner-requires-clause-of_log
+partner-requires-clause-of_log c =
+    of_entries c.args.self.now c.entries.result.now c.args.event.now.id.hart c.in_ok-hart.hart.now
+    c.entries.ensures.events c.in_ok-hart.ensures.hart
+
+pub partner-requires-clause-follows : goal.partner-requires-clause-follows
+partner-requires-clause-follows c =
+    let is = hart-is c.args.self.now c.entries.result.now c.args.event.now.id.hart c.in_ok-hart.hart.now
+    c.entries.ensures.events c.in_ok-hart.ensures.hart in
     subst (λ (h : Hart). Follows h c.args.event.now) (sym is) (follows c.args.self.now c.args.event.now c.requires)
 
 pub returns-in_err-lr : goal.returns-in_err-lr
 returns-in_err-lr c =
-    let is : c.in_ok-hart.field-0.now ≡ hart_in c.args.self.now c.args.event.now.id.hart = c.in_ok-hart.ensures.hart in
+    let is = hart-is c.args.self.now c.entries.result.now c.args.event.now.id.hart c.in_ok-hart.hart.now
+    c.entries.ensures.events c.in_ok-hart.ensures.hart in
     let none : IsPartner (hart_in c.args.self.now c.args.event.now.id.hart) c.args.event.now None =
     subst (λ (h : Hart). IsPartner h c.args.event.now None) is c.in_err-lr.ensures in
     subst (IsReserved (happened c.args.self.now.kept) c.args.event.now) (sym c.from_residual-in_err-lr.ensures)
@@ -30,7 +37,8 @@ returns-in_err-hart c = grind (arith, common_steps)
 
 pub returns : goal.returns
 returns c =
-    let is : c.in_ok-hart.field-0.now ≡ hart_in c.args.self.now c.args.event.now.id.hart = c.in_ok-hart.ensures.hart in
+    let is = hart-is c.args.self.now c.entries.result.now c.args.event.now.id.hart c.in_ok-hart.hart.now
+    c.entries.ensures.events c.in_ok-hart.ensures.hart in
     let some : IsPartner (hart_in c.args.self.now c.args.event.now.id.hart) c.args.event.now (Some c.in_ok-lr.lr.now) =
     subst (λ (h : Hart). IsPartner h c.args.event.now (Some c.in_ok-lr.lr.now)) is c.in_ok-lr.ensures in (
       c.in_ok-lr.lr.now,

@@ -8,8 +8,8 @@ use Rattle.rv_event.specs.declared.event.Event.{Event}
 use Rattle.rv_hart.specs.Harts.{IsReturned}
 use Rattle.rv_edges.specs.Kept.{happened}
 use Rattle.rv_edges.specs.Indexes.{hart_in}
-use Rattle.rv_edges.proofs.Indexing.{log-is, past-indexed}
-use Rattle.rv_edges.proofs.Harting.{returned_none, returned_some, returned_other}
+use Rattle.rv_edges.proofs.IndexFacts.{log-is, past-indexed}
+use Rattle.rv_edges.proofs.HartOfLog.{returned_none, returned_some, returned_other}
 use Rattle.rv_edges.proofs.history.History.returned.Goals as goal
 
 nothing : (o : Option Event) → None ≡ option_map (λ (w : Event). w.id) o → o ≡ None

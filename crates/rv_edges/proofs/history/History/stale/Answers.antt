@@ -1,18 +1,24 @@
 -- What the hart's events say, the history's say.
-use Rattle.std.proofs.Common.{◌≡◌, Option, Some, None, sym, subst}
+use Rattle.std.proofs.Common.{Option, Some, None, sym, subst}
 use Rattle.rv_event.specs.declared.event.Id.{Id}
 use Rattle.rv_hart.specs.Harts.{Hart, Follows}
 use Rattle.rv_hart.specs.Kept.{IsStaleBy}
 use Rattle.rv_edges.specs.Kept.{happened}
 use Rattle.rv_edges.specs.Histories.{IsStaleOf}
 use Rattle.rv_edges.specs.Indexes.{hart_in}
-use Rattle.rv_edges.proofs.Indexing.{follows}
-use Rattle.rv_edges.proofs.Harting.{none_stale_of, stale_is, stale_was}
+use Rattle.rv_edges.proofs.IndexFacts.{follows, hart-is, of_entries}
+use Rattle.rv_edges.proofs.HartOfLog.{none_stale_of, stale_is, stale_was}
 use Rattle.rv_edges.proofs.history.History.stale.Goals as goal
 
-pub stale-requires : goal.stale-requires
-stale-requires c =
-    let is : c.in_ok-hart.field-0.now ≡ hart_in c.args.self.now c.args.event.now.id.hart = c.in_ok-hart.ensures.hart in
+pub stale-requires-clause-of_log : goal.stale-requires-clause-of_log
+stale-requires-clause-of_log c =
+    of_entries c.args.self.now c.entries.result.now c.args.event.now.id.hart c.in_ok-hart.hart.now
+    c.entries.ensures.events c.in_ok-hart.ensures.hart
+
+pub stale-requires-clause-follows : goal.stale-requires-clause-follows
+stale-requires-clause-follows c =
+    let is = hart-is c.args.self.now c.entries.result.now c.args.event.now.id.hart c.in_ok-hart.hart.now
+    c.entries.ensures.events c.in_ok-hart.ensures.hart in
     subst (λ (h : Hart). Follows h c.args.event.now) (sym is) (follows c.args.self.now c.args.event.now c.requires)
 
 pub returns-in_err-hart : goal.returns-in_err-hart
@@ -23,7 +29,8 @@ returns-in_err-hart c =
 
 pub returns : goal.returns
 returns c =
-    let is : c.in_ok-hart.field-0.now ≡ hart_in c.args.self.now c.args.event.now.id.hart = c.in_ok-hart.ensures.hart in
+    let is = hart-is c.args.self.now c.entries.result.now c.args.event.now.id.hart c.in_ok-hart.hart.now
+    c.entries.ensures.events c.in_ok-hart.ensures.hart in
     go c.stale.result (subst (λ (h : Hart). IsStaleBy h c.args.event.now c.stale.result) is c.stale.ensures)
   where
     go : (o : Option Id) → IsStaleBy (hart_in c.args.self.now c.args.event.now.id.hart) c.args.event.now o →

@@ -2,7 +2,7 @@
 use Rattle.std.proofs.Common.{List, option_map, ap, ◌∙◌}
 use Rattle.rv_event.specs.Log.{writer}
 use Rattle.rv_event.specs.declared.event.Event.{Event}
-use Rattle.rv_edges.proofs.Indexing.{log-is}
+use Rattle.rv_edges.proofs.IndexFacts.{log-is}
 use Rattle.rv_edges.proofs.history.History.writer.Goals as goal
 
 pub returns : goal.returns

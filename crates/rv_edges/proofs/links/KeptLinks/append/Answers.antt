@@ -3,7 +3,7 @@ use Rattle.std.proofs.lemmas.Grind.{common_steps}
 use Rattle.std.proofs.Common.{rules}
 use Rattle.std.proofs.Common.{◌≡◌, List, [], ◌∷◌, ◌++◌, arith, length-append}
 use Rattle.rv_event.specs.declared.reason.Link.{Link}
-use Rattle.rv_edges.proofs.Owning.{sides_of, total-push, own_from-push}
+use Rattle.rv_edges.proofs.OwnLinkLists.{sides_of, total-push, own_from-push}
 use Rattle.rv_edges.proofs.links.KeptLinks.append.Goals as goal
 
 module _ (c : goal.After-push_reserved) where

@@ -5,7 +5,7 @@ use Rattle.std.proofs.Common.{◌≡◌, ◌+◌, ◌-◌, List, [], ◌∷◌, 
 use Rattle.rv_event.specs.declared.reason.Link.{Link}
 use Rattle.rv_edges.specs.declared.links.Sides.{Sides}
 use Rattle.rv_edges.specs.OwnLinks.{total}
-use Rattle.rv_edges.proofs.Owning.{total-push, total-front, own_from-pop}
+use Rattle.rv_edges.proofs.OwnLinkLists.{total-push, total-front, own_from-pop}
 use Rattle.rv_edges.proofs.links.KeptLinks.drop_last.Goals as goal
 
 pub overflow_sub-left : goal.overflow_sub-left

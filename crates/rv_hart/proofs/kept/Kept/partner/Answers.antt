@@ -5,39 +5,39 @@ use Rattle.rv_event.specs.declared.event.Op.TheVariants.{Sc}
 use Rattle.rv_hart.specs.Harts.{Hart, followed}
 use Rattle.rv_hart.specs.Kept.{hart_of}
 use Rattle.rv_hart.specs.Sets.{HasEvent, IsReserving, IsReservation}
-use Rattle.rv_hart.proofs.Knowing.{Fits, fits_of, read_is}
-use Rattle.rv_hart.proofs.Ruling.{reserving-paired, paired-reserving}
+use Rattle.rv_hart.proofs.HartFacts.{Fits, fits_of, read_is}
+use Rattle.rv_hart.proofs.RuleConditions.{reserving-paired, paired-reserving}
 use Rattle.rv_hart.proofs.kept.Kept.partner.Goals as goal
 
 pub returns-in_err-lr : goal.returns-in_err-lr
 returns-in_err-lr c =
-    let h : Hart = hart_of c.args.self.now in
+    let h : Hart = hart_of c.args.events.now c.args.self.now in
     let e : Event = c.args.event.now in
     let f : Fits h e = fits_of h e c.requires.kept.hart c.requires.follows in
     let none : (a : Event) → Contains h.events a → IsReserving h.events a → ⊥ =
     subst (IsReservation h.events) c.in_err-lr.was c.requires.kept.sets.reserved in
     rw c.from_residual.ensures (λ lr cl p. none lr cl (paired-reserving h e f lr p))
 
-pub index-requires : goal.index-requires
-index-requires c =
-    let h : Hart = hart_of c.args.self.now in
+pub at-partner-requires : goal.at-partner-requires
+at-partner-requires c =
+    let h : Hart = hart_of c.args.events.now c.args.self.now in
     let e : Event = c.args.event.now in
     let f : Fits h e = fits_of h e c.requires.kept.hart c.requires.follows in
     let lr : HasEvent (IsReserving h.events) h.events c.in_ok-lr.lr =
     subst (IsReservation h.events) c.in_ok-lr.was c.requires.kept.sets.reserved in
     let low : lr.a.id.seq < length h.events = f.known.below lr.a lr.of_list in
     let at : lr.a.id.seq ≡ c.in_ok-lr.lr = lr.at in
-    omega (arith, c.args.self.now.events.ok.0)
+    omega arith
 
 pub returns : goal.returns
 returns c =
-    let h : Hart = hart_of c.args.self.now in
+    let h : Hart = hart_of c.args.events.now c.args.self.now in
     let e : Event = c.args.event.now in
     let f : Fits h e = fits_of h e c.requires.kept.hart c.requires.follows in
     let lr : HasEvent (IsReserving h.events) h.events c.in_ok-lr.lr =
     subst (IsReservation h.events) c.in_ok-lr.was c.requires.kept.sets.reserved in
-    let same : c.index.result.now ≡ lr.a =
-    read_is h f.known lr.a c.index.result.now c.in_ok-lr.lr lr.of_list lr.at c.index.ensures in
+    let same : c.at-partner.result.now ≡ lr.a =
+    read_is h f.known lr.a c.at-partner.result.now c.in_ok-lr.lr lr.of_list lr.at c.at-partner.ensures in
     let sc : e.op ≡ Sc = search (rules, tests) in
     subst (λ (x : Event). Contains h.events x × Paired (followed h e) x e) (sym same)
     (lr.of_list, reserving-paired h e f lr.a lr.of_list lr.holds sc)

@@ -4,8 +4,8 @@ use Rattle.rv_event.specs.Annotations.{IsAcquire, IsRcsc}
 use Rattle.rv_event.specs.declared.event.Event.{Event}
 use Rattle.rv_event.specs.declared.event.Op.TheVariants.{Load, Store}
 use Rattle.rv_event.specs.declared.memory_model.MemoryModel.{MemoryModel}
-use Rattle.rv_hart.proofs.Knowing.{fits_of, Fits}
-use Rattle.rv_hart.proofs.Absorbing.{row-insert, fences-absorbed, controls-absorbed, addresses-absorbed}
+use Rattle.rv_hart.proofs.HartFacts.{fits_of, Fits}
+use Rattle.rv_hart.proofs.GrownSets.{row-insert, fences-absorbed, controls-absorbed, addresses-absorbed}
 use Rattle.rv_hart.proofs.sets.Sets.absorb.Goals as goal
 
 pub returns : goal.returns

@@ -1,13 +1,13 @@
-use Rattle.std.proofs.Common.{◌≡◌, List, ℕ, Some, length, sym, ap, ◌∙◌, subst, arith}
+use Rattle.std.proofs.Common.{◌≡◌, List, ℕ, Some, length, sym, ◌∙◌, subst, arith}
 use Rattle.std.proofs.lemmas.Bool.{false≢true}
 use Rattle.std.proofs.lemmas.Grind.{common_steps}
 use Rattle.std.proofs.Common.{rules}
 use Rattle.rv_event.specs.Operations.{IsStore}
 use Rattle.rv_event.specs.declared.event.Event.{Event}
 use Rattle.rv_hart.specs.Words.{IsLastBelow, IsWordLink, IsHighestStore}
-use Rattle.rv_hart.proofs.Wording.{numbered-below, numbered-read, wrote-same, highest-before}
-use Rattle.rv_hart.proofs.Wording.{highest-first, highest-here, highest-there}
-use Rattle.rv_hart.proofs.Walking.{read_link}
+use Rattle.rv_hart.proofs.WordLinks.{numbered-below, numbered-read, wrote-same, highest-before}
+use Rattle.rv_hart.proofs.WordLinks.{highest-first, highest-here, highest-there}
+use Rattle.rv_hart.proofs.WordWalks.{read_link}
 use Rattle.rv_hart.proofs.words.Words.highest_store.Goals as goal
 
 pub returns-in_err-number : goal.returns-in_err-number
@@ -21,8 +21,8 @@ returns-then-not-is_store c =
     let a : Event = last.names.1.a in
     let ca = last.names.1.of_list in
     let at = last.names.1.at in
-    let same : c.index-events-number.result ≡ a =
-    numbered-read es c.requires.numbered a c.index-events-number.result number ca at c.index-events-number.is in
+    let same : c.at-last.result.now ≡ a =
+    numbered-read es c.requires.numbered a c.at-last.result.now number ca at c.at-last.ensures in
     let link : IsWordLink es a c.index.result.now =
     read_link es c.args.self.now c.requires.words a c.index.result.now number ca last.names.1.holds.0
     (numbered-below es c.requires.numbered a ca) at c.index.ensures in
@@ -37,8 +37,8 @@ returns-in_default c =
     let a : Event = last.names.1.a in
     let ca = last.names.1.of_list in
     let at = last.names.1.at in
-    let same : c.index-events-number.result ≡ a =
-    numbered-read es c.requires.numbered a c.index-events-number.result number ca at c.index-events-number.is in
+    let same : c.at-last.result.now ≡ a =
+    numbered-read es c.requires.numbered a c.at-last.result.now number ca at c.at-last.ensures in
     let link : IsWordLink es a c.index.result.now =
     read_link es c.args.self.now c.requires.words a c.index.result.now number ca last.names.1.holds.0
     (numbered-below es c.requires.numbered a ca) at c.index.ensures in
@@ -46,56 +46,54 @@ returns-in_default c =
     highest-first es c.requires.numbered c.args.word number a ca at last store
     (subst (IsHighestStore es a.word a.id.seq) c.in_default.is link.highest)
 
-pub returns-then-events-store : goal.returns-then-events-store
-returns-then-events-store c =
+pub returns-then-highest-last : goal.returns-then-highest-last
+returns-then-highest-last c =
     let es : List Event = c.args.events.now in
     let number : ℕ = c.in_ok-number.number in
     let last : IsLastBelow es c.args.word (length es) (Some number) = grind (arith, common_steps) in
     let a : Event = last.names.1.a in
     let ca = last.names.1.of_list in
     let at = last.names.1.at in
-    let same : c.index-events-number.result ≡ a =
-    numbered-read es c.requires.numbered a c.index-events-number.result number ca at c.index-events-number.is in
+    let same : c.at-last.result.now ≡ a =
+    numbered-read es c.requires.numbered a c.at-last.result.now number ca at c.at-last.ensures in
     let link : IsWordLink es a c.index.result.now =
     read_link es c.args.self.now c.requires.words a c.index.result.now number ca last.names.1.holds.0
     (numbered-below es c.requires.numbered a ca) at c.index.ensures in
     let store : IsStore a = subst IsStore same (c.is_store.ensures.0 c.if-not-is_store.false) in
     let high : IsHighestStore es a.word a.id.seq (Some c.in-Some.store) =
     subst (IsHighestStore es a.word a.id.seq) c.in-Some.is link.highest in
-    let other : c.index-events-store.result ≡ high.1.a =
+    let other : c.at-highest.result.now ≡ high.1.a =
     search (numbered-read, rules) in
     highest-here es c.requires.numbered c.args.word number a ca at last store c.in-Some.store high
     (omega (
       arith,
-      c.if-events-store.true,
-      wrote-same c.index-events-number.result a same,
-      wrote-same c.index-events-store.result high.1.a other,
-      ap (λ (x : Event). x.wrote) c.index-events-store.is,
+      c.if-highest-last.true,
+      wrote-same c.at-last.result.now a same,
+      wrote-same c.at-highest.result.now high.1.a other,
     ))
 
-pub returns-else-events-store : goal.returns-else-events-store
-returns-else-events-store c =
+pub returns-else-highest-last : goal.returns-else-highest-last
+returns-else-highest-last c =
     let es : List Event = c.args.events.now in
     let number : ℕ = c.in_ok-number.number in
     let last : IsLastBelow es c.args.word (length es) (Some number) = grind (arith, common_steps) in
     let a : Event = last.names.1.a in
     let ca = last.names.1.of_list in
     let at = last.names.1.at in
-    let same : c.index-events-number.result ≡ a =
-    numbered-read es c.requires.numbered a c.index-events-number.result number ca at c.index-events-number.is in
+    let same : c.at-last.result.now ≡ a =
+    numbered-read es c.requires.numbered a c.at-last.result.now number ca at c.at-last.ensures in
     let link : IsWordLink es a c.index.result.now =
     read_link es c.args.self.now c.requires.words a c.index.result.now number ca last.names.1.holds.0
     (numbered-below es c.requires.numbered a ca) at c.index.ensures in
     let store : IsStore a = subst IsStore same (c.is_store.ensures.0 c.if-not-is_store.false) in
     let high : IsHighestStore es a.word a.id.seq (Some c.in-Some.store) =
     subst (IsHighestStore es a.word a.id.seq) c.in-Some.is link.highest in
-    let other : c.index-events-store.result ≡ high.1.a =
+    let other : c.at-highest.result.now ≡ high.1.a =
     search (numbered-read, rules) in
     highest-there es c.requires.numbered c.args.word number a ca at last c.in-Some.store high
     (omega (
       arith,
-      c.if-events-store.false,
-      wrote-same c.index-events-number.result a same,
-      wrote-same c.index-events-store.result high.1.a other,
-      ap (λ (x : Event). x.wrote) c.index-events-store.is,
+      c.if-highest-last.false,
+      wrote-same c.at-last.result.now a same,
+      wrote-same c.at-highest.result.now high.1.a other,
     ))

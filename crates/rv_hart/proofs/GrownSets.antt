@@ -1,0 +1,391 @@
+-- The rows of a hart's sets with one more event.
+use Rattle.std.proofs.Common.{◌≡◌, ℕ, ◌<◌, Bool, true, false, ◌||◌, ◌&&◌, ◌==◌, ◌↔◌, List, Contains}
+use Rattle.std.proofs.Common.{IsTrue, IsFalse, Some, None, Option, ◌⊎◌, inl, inr, sym, refl, ap, ◌∙◌, arith}
+use Rattle.std.proofs.Common.{subst, eqb-true, eq-eqb}
+use Rattle.std.proofs.lemmas.Bool.{or_cases, or_left, or_right, and_parts, and_from, false≢true}
+use Rattle.std.proofs.lemmas.List.Elements.{Contains-push_cases, Contains-push, All-contains}
+use Rattle.std.proofs.lemmas.Grind.{common_steps}
+use Rattle.rv_event.proofs.Growing.{Any-contains, Any-from_contains, All-from_contains}
+use Rattle.rv_event.specs.Operations.{is_load, is_store, is_exclusive, IsLoad, IsStore, IsMemory}
+use Rattle.rv_event.specs.Log.{Earlier}
+use Rattle.rv_event.specs.Relations.{fence_orders, DependsOn}
+use Rattle.rv_event.specs.declared.event.Event.{Event}
+use Rattle.rv_event.specs.declared.event.DepKind.{DepKind}
+use Rattle.rv_event.specs.declared.event.DepKind.TheVariants.{Addr, Ctrl}
+use Rattle.rv_event.specs.declared.event.Op.{Op}
+use Rattle.rv_event.specs.declared.event.Op.TheVariants.{Load, Store, Lr, Branch}
+use Rattle.rv_rows.specs.Bits.{Has, has_bit}
+use Rattle.rv_hart.specs.Harts.{Hart, followed}
+use Rattle.rv_hart.specs.Sets.{HasEvent, RowIs, NamesMemory, IsFencedFor, IsControlling, IsAddressing}
+use Rattle.rv_hart.specs.Sets.{IsReserving, IsReservation}
+use Rattle.rv_hart.proofs.HartFacts.{Known, Fits, follows_all, old_new}
+use Rattle.rv_hart.proofs.DependencyRows.{AddsNamed}
+
+-- what is true of an event of the list may be changed at it
+pub has-map : (P Q : Event → Type 0) (xs ys : List Event) (s : ℕ) →
+    ((a : Event) → Contains xs a → P a → Contains ys a × Q a) → HasEvent P xs s → HasEvent Q ys s
+has-map P Q xs ys s f x = let y = f x.a x.of_list x.holds in record { a = x.a; of_list = y.0; at = x.at; holds = y.1 }
+
+module _ (h : Hart) (e : Event) (f : Fits h e) where
+  -- a row of what is true of an event by itself: the new event joins it where it passes
+  pub row-insert : (P : Event → Type 0) (test : Bool) (row row' : List ℕ) → IsTrue test ↔ P e → RowIs row P h.events →
+      ((s : ℕ) → has_bit row' s ≡ (has_bit row s || (test && (e.id.seq == s)))) → RowIs row' P (followed h e)
+  row-insert P test row row' decides is more s = (to, from)
+    where
+      to : Has row' s → HasEvent P (followed h e) s
+      to x = elim (or_cases (has_bit row s) (test && (e.id.seq == s)) (sym (more s) ∙ x)) [
+        | inl old ↦ has-map P P h.events (followed h e) s (λ a c p. (old_new h e a c, p)) ((is s).0 old)
+        | inr new ↦ (let parts = and_parts test (e.id.seq == s) new in
+            record {
+              a = e;
+              of_list = Contains-push h.events e;
+              at = eqb-true e.id.seq s parts.1;
+              holds = decides.0 parts.0;
+            })
+      ]
+
+      from : HasEvent P (followed h e) s → Has row' s
+      from x = elim (Contains-push_cases h.events e x.a x.of_list) [
+        | inl old ↦ (more s ∙ or_left (has_bit row s) (test && (e.id.seq == s))
+            ((is s).1 (record { a = x.a; of_list = old; at = x.at; holds = x.holds })))
+        | inr new ↦ (more s ∙ or_right (has_bit row s) (test && (e.id.seq == s))
+            (and_from test (e.id.seq == s) (decides.1 (subst P (sym new) x.holds))
+            (eq-eqb e.id.seq s (ap (λ (y : Event). y.id.seq) new ∙ x.at))))
+      ]
+
+  -- a row of old events of which something new is true
+  pub row-join : (P Q More : Event → Type 0) (row row' : List ℕ) → RowIs row P h.events →
+      ((s : ℕ) → Has row' s ↔ (Has row s ⊎ HasEvent More h.events s)) →
+      ((a : Event) → Contains h.events a → Q a ↔ (P a ⊎ More a)) → (Q e → ⊥) → RowIs row' Q (followed h e)
+  row-join P Q More row row' is more says never s = (to, from)
+    where
+      to : Has row' s → HasEvent Q (followed h e) s
+      to x = elim ((more s).0 x) [
+        | inl old ↦ has-map P Q h.events (followed h e) s (λ a c p. (old_new h e a c, (says a c).1 (inl p)))
+            ((is s).0 old)
+        | inr new ↦ has-map More Q h.events (followed h e) s (λ a c p. (old_new h e a c, (says a c).1 (inr p))) new
+      ]
+
+      from : HasEvent Q (followed h e) s → Has row' s
+      from x = elim (Contains-push_cases h.events e x.a x.of_list) [
+        | inl old ↦ elim ((says x.a old).0 x.holds) [
+          | inl p ↦ (more s).1 (inl ((is s).1 (record { a = x.a; of_list = old; at = x.at; holds = p })))
+          | inr p ↦ (more s).1 (inr (record { a = x.a; of_list = old; at = x.at; holds = p }))
+        ]
+        | inr new ↦ absurd (never (subst Q (sym new) x.holds))
+      ]
+
+  irreflexive : (a : Event) → Earlier a a → ⊥
+  irreflexive a e = let s = e.seq in omega arith
+
+  none_after : (b : Event) → Contains (followed h e) b → Earlier e b → ⊥
+  none_after b c earlier = elim (Contains-push_cases h.events e b c) [
+    | inl old ↦ (let l = follows_all h e f b old in let x = l.seq in let y = earlier.seq in omega arith)
+    | inr is ↦ irreflexive e (subst (λ (y : Event). Earlier e y) (sym is) earlier)
+  ]
+
+  -- a fence after an old event is an old one, or the new event
+  pub fenced-more : (op : Op) (a : Event) → Contains h.events a → IsFencedFor op (followed h e) a ↔
+      (IsFencedFor op h.events a ⊎ IsTrue (fence_orders e.op a.op op))
+  fenced-more op a ca = (to, from)
+    where
+      to : IsFencedFor op (followed h e) a → IsFencedFor op h.events a ⊎ IsTrue (fence_orders e.op a.op op)
+      to x =
+          let y = Any-contains (λ f. Earlier a f × IsTrue (fence_orders f.op a.op op)) (followed h e) x in
+          elim (Contains-push_cases h.events e y.0 y.1) [
+            | inl old ↦ inl (Any-from_contains (λ f. Earlier a f × IsTrue (fence_orders f.op a.op op))
+                h.events y.0 old y.2)
+            | inr is ↦ inr (subst (λ (z : Event). IsTrue (fence_orders z.op a.op op)) (sym is) y.2.1)
+          ]
+
+      from : IsFencedFor op h.events a ⊎ IsTrue (fence_orders e.op a.op op) → IsFencedFor op (followed h e) a
+      from (inl x) =
+          grind (arith, common_steps)
+      from (inr x) = Any-from_contains (λ f. Earlier a f × IsTrue (fence_orders f.op a.op op)) (followed h e) e
+          (Contains-push h.events e) (follows_all h e f a ca, x)
+
+  -- no fence orders the new event yet
+  pub fenced-never : (op : Op) → IsFencedFor op (followed h e) e → ⊥
+  fenced-never op x = search (Any-contains, none_after)
+
+by_kind_none : (x y : Bool) → false ≡ ((x && false) || (y && false))
+by_kind_none true true = refl
+by_kind_none true false = refl
+by_kind_none false true = refl
+by_kind_none false false = refl
+
+-- a fence orders by loads and by stores
+pub orders_by_kind : (f a op : Op) → fence_orders f a op ≡ ((is_load a && fence_orders f Load op) ||
+    (is_store a && fence_orders f Store op))
+orders_by_kind f a op = grind (arith, common_steps, by_kind_none)
+
+-- what the loads and the stores say of memory operations
+module _ (events : List Event) (loads stores : List ℕ) (loads_are : RowIs loads IsLoad events)
+    (stores_are : RowIs stores IsStore events) where
+  -- loads and stores together are the memory operations
+  pub memory-row : (s : ℕ) → IsTrue (has_bit loads s || has_bit stores s) ↔ HasEvent IsMemory events s
+  memory-row s = (to, from)
+    where
+      to : IsTrue (has_bit loads s || has_bit stores s) → HasEvent IsMemory events s
+      to x = elim (or_cases (has_bit loads s) (has_bit stores s) x) [
+        | inl l ↦ has-map IsLoad IsMemory events events s (λ a c p. (c, or_left (is_load a.op) (is_store a.op) p))
+            ((loads_are s).0 l)
+        | inr w ↦ has-map IsStore IsMemory events events s (λ a c p. (c, or_right (is_load a.op) (is_store a.op) p))
+            ((stores_are s).0 w)
+      ]
+
+      from : HasEvent IsMemory events s → IsTrue (has_bit loads s || has_bit stores s)
+      from x = elim (or_cases (is_load x.a.op) (is_store x.a.op) x.holds) [
+        | inl l ↦ or_left (has_bit loads s) (has_bit stores s)
+            ((loads_are s).1 (record { a = x.a; of_list = x.of_list; at = x.at; holds = l }))
+        | inr w ↦ or_right (has_bit loads s) (has_bit stores s)
+            ((stores_are s).1 (record { a = x.a; of_list = x.of_list; at = x.at; holds = w }))
+      ]
+
+  -- the two joins at a fence
+  pub fence-joins : (e : Event) (op : Op) (first second : Bool) (row row' row'' : List ℕ) →
+      first ≡ fence_orders e.op Load op → second ≡ fence_orders e.op Store op →
+      ((s : ℕ) → has_bit row' s ≡ (has_bit row s || (first && has_bit loads s))) →
+      ((s : ℕ) → has_bit row'' s ≡ (has_bit row' s || (second && has_bit stores s))) →
+      (s : ℕ) → Has row'' s ↔ (Has row s ⊎ HasEvent (λ a. IsTrue (fence_orders e.op a.op op)) events s)
+  fence-joins e op first second row row' row'' is_first is_second one two s = (to, from)
+    where
+      by_load : (a : Event) → IsTrue first → IsLoad a → IsTrue (fence_orders e.op a.op op)
+      by_load a t l = grind (arith, common_steps)
+
+      by_store : (a : Event) → IsTrue second → IsStore a → IsTrue (fence_orders e.op a.op op)
+      by_store a t w = grind (arith, common_steps)
+
+      at_load : IsTrue (first && has_bit loads s) → HasEvent (λ a. IsTrue (fence_orders e.op a.op op)) events s
+      at_load x = let p = and_parts first (has_bit loads s) x in
+          has-map IsLoad (λ a. IsTrue (fence_orders e.op a.op op)) events events s (λ a c l. (c, by_load a p.0 l))
+          ((loads_are s).0 p.1)
+
+      at_store : IsTrue (second && has_bit stores s) → HasEvent (λ a. IsTrue (fence_orders e.op a.op op)) events s
+      at_store x = let p = and_parts second (has_bit stores s) x in
+          has-map IsStore (λ a. IsTrue (fence_orders e.op a.op op)) events events s (λ a c l. (c, by_store a p.0 l))
+          ((stores_are s).0 p.1)
+
+      to : Has row'' s → Has row s ⊎ HasEvent (λ a. IsTrue (fence_orders e.op a.op op)) events s
+      to x = elim (or_cases (has_bit row' s) (second && has_bit stores s) (sym (two s) ∙ x)) [
+        | inl y ↦ elim (or_cases (has_bit row s) (first && has_bit loads s) (sym (one s) ∙ y))
+            [ inl z ↦ inl z | inr z ↦ inr (at_load z) ]
+        | inr y ↦ inr (at_store y)
+      ]
+
+      loaded : IsTrue (first && has_bit loads s) → Has row'' s
+      loaded y = two s ∙ or_left (has_bit row' s) (second && has_bit stores s)
+          (one s ∙ or_right (has_bit row s) (first && has_bit loads s) y)
+
+      from : Has row s ⊎ HasEvent (λ a. IsTrue (fence_orders e.op a.op op)) events s → Has row'' s
+      from (inl y) = two s ∙ or_left (has_bit row' s) (second && has_bit stores s)
+          (one s ∙ or_left (has_bit row s) (first && has_bit loads s) y)
+      from (inr x) = elim (or_cases (is_load x.a.op && fence_orders e.op Load op)
+          (is_store x.a.op && fence_orders e.op Store op) (sym (orders_by_kind e.op x.a.op op) ∙ x.holds)) [
+            | inl l ↦ (let p = and_parts (is_load x.a.op) (fence_orders e.op Load op) l in
+                loaded (and_from first (has_bit loads s) (is_first ∙ p.1)
+                ((loads_are s).1 (record { a = x.a; of_list = x.of_list; at = x.at; holds = p.0 }))))
+            | inr w ↦ (let p = and_parts (is_store x.a.op) (fence_orders e.op Store op) w in two s ∙
+                or_right (has_bit row' s) (second && has_bit stores s)
+                (and_from second (has_bit stores s) (is_second ∙ p.1)
+                ((stores_are s).1 (record { a = x.a; of_list = x.of_list; at = x.at; holds = p.0 }))))
+          ]
+
+-- what a dependency names is a memory operation on which the event depends
+pub depended : (h : Hart) → Known h → (x : Event) → x.id.hart ≡ h.number →
+    ((d : _) → Contains x.deps d → d.seq < x.id.seq) → (kind : DepKind) (loads stores : List ℕ) →
+    RowIs loads IsLoad h.events → RowIs stores IsStore h.events → (s : ℕ) →
+    NamesMemory kind x.deps loads stores s ↔ HasEvent (λ a. IsMemory a × DependsOn kind x a) h.events s
+depended h known x hart below kind loads stores loads_are stores_are s = (to, from)
+  where
+    to : NamesMemory kind x.deps loads stores s → HasEvent (λ a. IsMemory a × DependsOn kind x a) h.events s
+    to n =
+        let m = (memory-row h.events loads stores loads_are stores_are s).0 n.1 in
+        let low : s < x.id.seq = below (record { kind = kind; seq = s }) n.0 in
+        let at : m.a.id.seq ≡ s = m.at in
+        record {
+          a = m.a;
+          of_list = m.of_list;
+          at = m.at;
+          holds = (
+            m.holds,
+            (
+              record { hart = known.own m.a m.of_list ∙ sym hart; seq = omega arith },
+              subst (λ (k : ℕ). Contains x.deps (record { kind = kind; seq = k })) (sym m.at) n.0,
+            ),
+          );
+        }
+
+    from : HasEvent (λ a. IsMemory a × DependsOn kind x a) h.events s → NamesMemory kind x.deps loads stores s
+    from y = (
+      subst (λ (k : ℕ). Contains x.deps (record { kind = kind; seq = k })) y.at y.holds.1.1,
+      (memory-row h.events loads stores loads_are stores_are s).1
+          (record { a = y.a; of_list = y.of_list; at = y.at; holds = y.holds.0 }),
+    )
+
+-- the event is a branch that depends on a memory operation
+abbrev BranchDepends : Event → Event → Type 0
+BranchDepends e a = IsMemory a × (e.op ≡ Branch) × DependsOn Ctrl e a
+
+-- the event's address depends on a memory operation
+abbrev AddressDepends : Event → Event → Type 0
+AddressDepends e a = IsMemory a × DependsOn Addr e a
+
+module _ (h : Hart) (e : Event) (f : Fits h e) where
+  reserving-settled : (a : Event) → IsReserving (followed h e) a → IsReserving h.events a
+  reserving-settled a r = (
+    r.0,
+    All-from_contains (λ m. Earlier a m → IsFalse (is_exclusive m.op)) h.events
+        (λ m c. All-contains (λ m. Earlier a m → IsFalse (is_exclusive m.op)) (followed h e) m r.1 (old_new h e m c)),
+  )
+
+  -- an event that is no LR, SC or failed SC leaves the reservation
+  pub reservation-kept : is_exclusive e.op ≡ false → (o : Option ℕ) → IsReservation h.events o →
+      IsReservation (followed h e) o
+  reservation-kept free (Some s) x = has-map (IsReserving h.events) (IsReserving (followed h e)) h.events
+      (followed h e) s (λ a c r. (
+        old_new h e a c,
+        (
+          r.0,
+          All-from_contains (λ m. Earlier a m → IsFalse (is_exclusive m.op)) (followed h e)
+              (λ m cm. elim (Contains-push_cases h.events e m cm) [
+                | inl old ↦ All-contains (λ m. Earlier a m → IsFalse (is_exclusive m.op)) h.events m r.1 old
+                | inr is ↦ (λ earlier. subst (λ (y : Event). IsFalse (is_exclusive y.op)) is free)
+              ]),
+        ),
+      )) x
+  reservation-kept free None none = λ a c r. elim (Contains-push_cases h.events e a c) [
+    | inl old ↦ none a old (reserving-settled a r)
+    | inr is ↦ (let lr : e.op ≡ Lr = ap (λ (y : Event). y.op) is ∙ r.0 in false≢true (sym free ∙ ap is_exclusive lr))
+  ]
+
+  -- an LR is one
+  pub reservation-new : e.op ≡ Lr → IsReservation (followed h e) (Some e.id.seq)
+  reservation-new lr = grind (arith, common_steps, Contains-push, All-from_contains, none_after)
+
+  -- an SC or a failed SC ends it
+  pub reservation-ended : is_exclusive e.op ≡ true → (e.op ≡ Lr → ⊥) → IsReservation (followed h e) None
+  reservation-ended exclusive other a c r = elim (Contains-push_cases h.events e a c) [
+    | inl old ↦ false≢true (sym (All-contains (λ m. Earlier a m → IsFalse (is_exclusive m.op)) (followed h e) e r.1
+        (Contains-push h.events e) (follows_all h e f a old)) ∙ exclusive)
+    | inr is ↦ other (ap (λ (y : Event). y.op) is ∙ r.0)
+  ]
+
+  -- the fences of both kinds
+  pub fences-absorbed : (op : Op) (first second : Bool) (loads stores row row' row'' : List ℕ) →
+      RowIs loads IsLoad h.events → RowIs stores IsStore h.events → RowIs row (IsFencedFor op h.events) h.events →
+      first ≡ fence_orders e.op Load op → second ≡ fence_orders e.op Store op →
+      ((s : ℕ) → has_bit row' s ≡ (has_bit row s || (first && has_bit loads s))) →
+      ((s : ℕ) → has_bit row'' s ≡ (has_bit row' s || (second && has_bit stores s))) →
+      RowIs row'' (IsFencedFor op (followed h e)) (followed h e)
+  fences-absorbed op first second loads stores row row' row'' loads_are stores_are is is_first is_second one two =
+      row-join h e f (IsFencedFor op h.events) (IsFencedFor op (followed h e))
+      (λ a. IsTrue (fence_orders e.op a.op op)) row row'' is
+      (fence-joins h.events loads stores loads_are stores_are e op first second row row' row'' is_first
+      is_second one two)
+      (fenced-more h e f op) (fenced-never h e f op)
+
+  -- what a new branch depends on
+  pub controls-absorbed : (loads stores row row' : List ℕ) → RowIs loads IsLoad h.events →
+      RowIs stores IsStore h.events → RowIs row (IsControlling h.events) h.events →
+      ((s : ℕ) → Has row' s ↔ (Has row s ⊎ ((e.op ≡ Branch) × NamesMemory Ctrl e.deps loads stores s))) →
+      RowIs row' (IsControlling (followed h e)) (followed h e)
+  controls-absorbed loads stores row row' loads_are stores_are is more =
+      row-join h e f (IsControlling h.events) (IsControlling (followed h e))
+      (BranchDepends e) row row' is joined says never
+    where
+      named : (s : ℕ) → NamesMemory Ctrl e.deps loads stores s ↔ HasEvent (λ a. IsMemory a × DependsOn Ctrl e a)
+          h.events s
+      named = depended h f.known e f.hart f.deps Ctrl loads stores loads_are stores_are
+
+      joined : (s : ℕ) → Has row' s ↔ (Has row s ⊎ HasEvent (BranchDepends e) h.events s)
+      joined s = (to, from)
+        where
+          to : Has row' s → Has row s ⊎ HasEvent (BranchDepends e) h.events s
+          to x = elim ((more s).0 x) [
+            | inl old ↦ inl old
+            | inr new ↦ inr (has-map (λ a. IsMemory a × DependsOn Ctrl e a) (BranchDepends e) h.events h.events s
+                (λ a c d. (c, (d.0, new.0, d.1))) ((named s).0 new.1))
+          ]
+
+          from : Has row s ⊎ HasEvent (BranchDepends e) h.events s → Has row' s
+          from (inl old) = (more s).1 (inl old)
+          from (inr new) = (more s).1 (inr (
+            new.holds.1,
+            (named s).1
+                (has-map (BranchDepends e) (λ a. IsMemory a × DependsOn Ctrl e a) h.events h.events s
+                (λ a c d. (c, (d.0, d.2))) new),
+          ))
+
+      says : (a : Event) → Contains h.events a → IsControlling (followed h e) a ↔
+          (IsControlling h.events a ⊎ BranchDepends e a)
+      says a ca = (to, from)
+        where
+          to : IsControlling (followed h e) a → IsControlling h.events a ⊎ BranchDepends e a
+          to x =
+              let y = Any-contains (λ m. (m.op ≡ Branch) × DependsOn Ctrl m a) (followed h e) x.1 in
+              elim (Contains-push_cases h.events e y.0 y.1) [
+                | inl old ↦ inl (
+                  x.0,
+                  Any-from_contains (λ m. (m.op ≡ Branch) × DependsOn Ctrl m a)
+                      h.events y.0 old y.2,
+                )
+                | inr new ↦ inr (let z = subst (λ (m : Event). (m.op ≡ Branch) × DependsOn Ctrl m a) (sym new) y.2 in
+                    (x.0, z.0, z.1))
+              ]
+
+          from : IsControlling h.events a ⊎ BranchDepends e a → IsControlling (followed h e) a
+          from (inl x) = let y = Any-contains (λ m. (m.op ≡ Branch) × DependsOn Ctrl m a) h.events x.1 in (
+            x.0,
+            Any-from_contains (λ m. (m.op ≡ Branch) × DependsOn Ctrl m a) (followed h e) y.0
+                (old_new h e y.0 y.1) y.2,
+          )
+          from (inr x) = (
+            x.0,
+            Any-from_contains (λ m. (m.op ≡ Branch) × DependsOn Ctrl m a) (followed h e) e
+                (Contains-push h.events e) (x.1, x.2),
+          )
+
+      never : IsControlling (followed h e) e → ⊥
+      never x = search (Any-contains, none_after)
+
+  -- what a new address depends on
+  pub addresses-absorbed : (loads stores row row' : List ℕ) → RowIs loads IsLoad h.events →
+      RowIs stores IsStore h.events → RowIs row (IsAddressing h.events) h.events →
+      AddsNamed Addr loads stores e.deps row row' →
+      RowIs row' (IsAddressing (followed h e)) (followed h e)
+  addresses-absorbed loads stores row row' loads_are stores_are is more =
+      row-join h e f (IsAddressing h.events) (IsAddressing (followed h e)) (AddressDepends e) row row' is
+      joined says never
+    where
+      named : (s : ℕ) → NamesMemory Addr e.deps loads stores s ↔ HasEvent (AddressDepends e) h.events s
+      named = depended h f.known e f.hart f.deps Addr loads stores loads_are stores_are
+
+      joined : (s : ℕ) → Has row' s ↔ (Has row s ⊎ HasEvent (AddressDepends e) h.events s)
+      joined s = (to, from)
+        where
+          to : Has row' s → Has row s ⊎ HasEvent (AddressDepends e) h.events s
+          to x = elim ((more s).0 x) [ inl old ↦ inl old | inr new ↦ inr ((named s).0 new) ]
+
+          from : Has row s ⊎ HasEvent (AddressDepends e) h.events s → Has row' s
+          from (inl old) = (more s).1 (inl old)
+          from (inr new) = (more s).1 (inr ((named s).1 new))
+
+      says : (a : Event) → Contains h.events a → IsAddressing (followed h e) a ↔
+          (IsAddressing h.events a ⊎ AddressDepends e a)
+      says a ca = (to, from)
+        where
+          to : IsAddressing (followed h e) a → IsAddressing h.events a ⊎ AddressDepends e a
+          to x =
+              let y = Any-contains (λ m. DependsOn Addr m a) (followed h e) x.1 in
+              elim (Contains-push_cases h.events e y.0 y.1) [
+                | inl old ↦ inl (x.0, Any-from_contains (λ m. DependsOn Addr m a) h.events y.0 old y.2)
+                | inr new ↦ inr (x.0, subst (λ (m : Event). DependsOn Addr m a) (sym new) y.2)
+              ]
+
+          from : IsAddressing h.events a ⊎ AddressDepends e a → IsAddressing (followed h e) a
+          from (inl x) = search (Any-contains, Any-from_contains, old_new)
+          from (inr x) = search (Any-from_contains, Contains-push)
+
+      never : IsAddressing (followed h e) e → ⊥
+      never x = let y = Any-contains (λ m. DependsOn Addr m e) (followed h e) x.1 in none_after h e f y.0 y.1 y.2.0

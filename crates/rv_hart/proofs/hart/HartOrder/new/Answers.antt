@@ -1,0 +1,12 @@
+-- A hart without events has no places, and nothing is kept of it.
+use Rattle.std.proofs.Common.{List, sym, ◌∙◌, subst}
+use Rattle.rv_event.specs.declared.event.Event.{Event}
+use Rattle.rv_hart.specs.Kept.{IsKept}
+use Rattle.rv_hart.proofs.Places.{places-none}
+use Rattle.rv_hart.proofs.hart.HartOrder.new.Goals as goal
+
+pub returns-clause-none : goal.returns-clause-none
+returns-clause-none c = λ log none. record {
+  places = c.new.ensures.items ∙ sym (places-none _ log none);
+  kept = subst (λ (es : List Event). IsKept es c.new-2.result) (sym none) c.new-2.ensures.kept;
+}

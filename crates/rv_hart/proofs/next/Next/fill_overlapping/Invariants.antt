@@ -1,0 +1,9 @@
+use Rattle.rv_hart.specs.Kept.{hart_at}
+use Rattle.rv_hart.proofs.WordWalks.{IsOverlapWalk, left}
+use Rattle.rv_hart.proofs.next.Next.fill_overlapping.Given as goal
+
+abbrev pub invariant-met : goal.invariant-met
+invariant-met l = IsOverlapWalk (hart_at l.self) l.self.event.now l.next l.row
+
+abbrev pub decreases-met : goal.decreases-met
+decreases-met l = left l.next

@@ -1,0 +1,7 @@
+use Rattle.std.proofs.Common.{ℕ, ◌<◌}
+use Rattle.rv_hart.specs.Kept.{hart_at}
+use Rattle.rv_hart.specs.Rows.{IsOrderedBy}
+use Rattle.rv_hart.proofs.next.Next.lowest_rule.Given as goal
+
+abbrev pub invariant-loop-rule : goal.invariant-loop-rule
+invariant-loop-rule l = (j : ℕ) → j < l.rule → IsOrderedBy (hart_at l.self) l.self.event.now j l.number → ⊥

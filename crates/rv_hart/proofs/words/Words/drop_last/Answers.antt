@@ -1,0 +1,39 @@
+use Rattle.std.proofs.Common.{◌≡◌, ◌++◌, ◌∷◌, [], List, ℕ, length, nat_eq, Option, refl}
+use Rattle.std.specs.HashMap.{get}
+use Rattle.std.proofs.Common.{arith}
+use Rattle.std.proofs.lemmas.Grind.{common_steps}
+use Rattle.rv_event.specs.Operations.{IsMemory}
+use Rattle.rv_event.specs.declared.event.Event.{Event}
+use Rattle.rv_hart.specs.Words.{AreNumbered, IsLastBelow}
+use Rattle.rv_hart.specs.declared.words.Words.{Words}
+use Rattle.rv_hart.proofs.WordLinks.{words-pop, pop-here, lasts-back, lasts-kept, numbered-front, numbered-last}
+use Rattle.rv_hart.proofs.words.Words.drop_last.Goals as goal
+
+pub returns-then-is_memory : goal.returns-then-is_memory
+returns-then-is_memory c =
+    let front : List Event = c.args.events.now in
+    let e : Event = c.args.event.now in
+    let old : ℕ → Option ℕ = λ w. get nat_eq c.args.self.now.lasts w in
+    let new : ℕ → Option ℕ = λ w. get nat_eq c.step_back.new.self.lasts w in
+    let memory : IsMemory e = c.is_memory.ensures.0 c.if-is_memory.true in
+    let before : AreNumbered front = numbered-front front e c.requires.numbered in
+    let next : e.id.seq ≡ length front = numbered-last front e c.requires.numbered in
+    let popped : c.args.self.now.links.items ≡ c.step_back.new.self.links.items ++ c.in-Some.link ∷ [] =
+    grind (arith, common_steps) in
+    let back : IsLastBelow front e.word (length front) c.in-Some.link.previous =
+    pop-here front e before next c.args.self.now c.step_back.new.self c.in-Some.link c.requires.words popped memory in
+    words-pop front e before next c.args.self.now c.step_back.new.self c.in-Some.link c.requires.words popped
+    (lasts-back front e before next old new c.in-Some.link.previous c.requires.words.lasts back
+    c.step_back.ensures.here c.step_back.ensures.others)
+
+pub returns-else-is_memory : goal.returns-else-is_memory
+returns-else-is_memory c =
+    let front : List Event = c.args.events.now in
+    let e : Event = c.args.event.now in
+    let old : ℕ → Option ℕ = λ w. get nat_eq c.args.self.now.lasts w in
+    let left : Words = record { lasts = c.args.self.now.lasts; links = c.pop.new.self } in
+    let none : IsMemory e → ⊥ = grind (arith, common_steps) in
+    let before : AreNumbered front = numbered-front front e c.requires.numbered in
+    let next : e.id.seq ≡ length front = numbered-last front e c.requires.numbered in
+    words-pop front e before next c.args.self.now left c.in-Some.link c.requires.words c.in-Some.ensures.items
+    (lasts-kept front e before next old old none c.requires.words.lasts (λ w. refl))
