@@ -1,20 +1,8 @@
 -- What a call hands on, at the values that it had.
-use Rattle.std.proofs.Common.{arith}
-use Rattle.std.proofs.lemmas.Grind.{common_steps}
-use Rattle.std.proofs.Common.{rules}
-use Rattle.std.proofs.Common.{◌≡◌, ◌≢◌, ℕ, ◌<◌, List, ◌∷◌, map, length, Contains, All, AllPairs, sym}
-use Rattle.std.proofs.Common.{subst, slice_index_or}
-use Rattle.std.proofs.lemmas.List.Elements.{Contains-get_or}
-use Rattle.rv_event.specs.declared.memory_model.MemoryModel.{MemoryModel}
-use Rattle.rv_event.specs.declared.event.Id.{Id}
-use Rattle.rv_event.specs.declared.event.Event.{Event}
-use Rattle.rv_event.specs.declared.reason.Link.{Link}
-use Rattle.rv_event.specs.declared.reason.Reason.{Reason}
-use Rattle.rv_cert.specs.Certificates.{IsClosedWalk}
-use Rattle.rv_edges.specs.Kept.{Kept, grown}
-use Rattle.rv_rank.specs.Graph.{IsCircle, IsGrown}
-use Rattle.rv_book.specs.Arranged.{at, EachLeads, walked}
-use Rattle.rv_book.specs.Nodes.{AreNodes}
+use Rattle.rv_book.proofs.Common.{arith, common_steps, rules, ◌≡◌, ◌≢◌, ℕ, ◌<◌, List, ◌∷◌, map, length, Contains}
+use Rattle.rv_book.proofs.Common.{All, AllPairs, sym, subst, slice_index_or, Contains-get_or, MemoryModel, Id}
+use Rattle.rv_book.proofs.Common.{Event, Link, Reason, IsClosedWalk, Kept, grown, IsCircle, IsGrown, at}
+use Rattle.rv_book.proofs.Common.{EachLeads, walked, AreNodes}
 
 -- nodes of links are below the count of ranks
 pub nodes_low : (ids : List Id) (links : List Link) (nodes now ranks : List ℕ) → AreNodes ids links nodes →

@@ -1,18 +1,8 @@
 -- A path of kept edges from a successor to a predecessor closes a circle over the new event.
-use Rattle.std.proofs.Common.{◌≡◌, ◌≢◌, ℕ, zero, suc, ◌+◌, ◌-◌, ◌<◌, List, [], ◌∷◌, map, length, get_or, All}
-use Rattle.std.proofs.Common.{AllPairs, ◌⊎◌, inl, inr, sym, ap, ◌∙◌, arith, subst}
-use Rattle.std.proofs.lemmas.Bool.{cases_eq}
-use Rattle.std.proofs.lemmas.List.{length-map, get_or-map, get_or_default}
-use Rattle.rv_event.specs.Edges.{IsEdge}
-use Rattle.rv_event.specs.declared.memory_model.MemoryModel.{MemoryModel}
-use Rattle.rv_event.specs.declared.event.Id.{Id}
-use Rattle.rv_event.specs.declared.event.Event.{Event}
-use Rattle.rv_event.specs.declared.reason.Reason.{Reason}
-use Rattle.rv_edges.specs.Kept.{Kept, grown}
-use Rattle.rv_rank.specs.Graph.{Edge, IsCircle}
-use Rattle.rv_book.specs.Adding.{IsFit}
-use Rattle.rv_book.specs.Arranged.{Arranged, nobody, at, IsArranged, EachLeads}
-use Rattle.rv_book.specs.Nodes.{AreNodes}
+use Rattle.rv_book.proofs.Common.{◌≡◌, ◌≢◌, ℕ, zero, suc, ◌+◌, ◌-◌, ◌<◌, List, [], ◌∷◌, map, length, get_or, All}
+use Rattle.rv_book.proofs.Common.{AllPairs, ◌⊎◌, inl, inr, sym, ap, ◌∙◌, arith, subst, cases_eq, length-map}
+use Rattle.rv_book.proofs.Common.{get_or-map, get_or_default, IsEdge, MemoryModel, Id, Event, Reason, Kept, grown}
+use Rattle.rv_book.proofs.Common.{Edge, IsCircle, IsFit, Arranged, nobody, at, IsArranged, EachLeads, AreNodes}
 use Rattle.rv_book.proofs.CallValues.{ShowsCircle}
 use Rattle.rv_book.proofs.IdWalks.{end_at, end-within, end-past}
 use Rattle.rv_book.proofs.GrownHistories.{grow, old_is_not_new, pred_edge, succ_edge}
@@ -125,8 +115,7 @@ module _ (v : Arranged) (ok : IsArranged v) (k : Kept) (fit : IsFit v k) (preds 
           c.once (a - 1) (b - 1) (omega (arith, l, n)) (omega (arith, m, long, l)) s
 
 -- so the path shows the circle
-pub circle_shown :
-    (v : Arranged) → IsArranged v → (k : Kept) → IsFit v k → (preds succs : List ℕ) →
+pub circle_shown : (v : Arranged) → IsArranged v → (k : Kept) → IsFit v k → (preds succs : List ℕ) →
     AreNodes v.ids k.before preds → AreNodes v.ids k.after succs → (path : List ℕ) →
     IsCircle v.edges preds succs path → ShowsCircle v.model v.history v.ids path k.event
 circle_shown v ok k fit preds succs ins outs path c = record {

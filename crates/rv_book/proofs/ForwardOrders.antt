@@ -1,21 +1,11 @@
 -- The order is lawful: each kept edge goes forward, so each path of kept links does, and so each
 -- edge.
-use Rattle.std.proofs.lemmas.Grind.{common_steps}
-use Rattle.std.proofs.Common.{rules}
-use Rattle.std.proofs.Common.{◌≡◌, ◌≢◌, ℕ, ◌<◌, List, length, get_or, ◌⊎◌, inl, inr}
-use Rattle.std.proofs.Common.{sym, ap, ◌∙◌, arith, subst}
-use Rattle.std.proofs.lemmas.List.{get_or_default}
-use Rattle.rv_event.specs.Orders.{place, IsOperation, IsOrderOf, Lawful}
-use Rattle.rv_event.specs.Edges.{IsEdge}
-use Rattle.rv_event.specs.declared.memory_model.MemoryModel.{MemoryModel}
-use Rattle.rv_event.specs.declared.event.Id.{Id}
-use Rattle.rv_event.specs.declared.event.Event.{Event}
-use Rattle.rv_event.specs.declared.reason.Reason.{Reason}
-use Rattle.rv_cert.proofs.Suffice.{lawful_from_edges}
-use Rattle.rv_edges.specs.Kept.{happened, IsKept, IsTied}
-use Rattle.rv_cover.specs.Paths.{Path, one, more}
-use Rattle.rv_edges.proofs.CarriedEdges.{carried_from_IsHistory, indexed_from_IsHistory}
-use Rattle.rv_book.specs.Arranged.{Arranged, nobody, at, order_of, IsArranged}
+use Rattle.rv_book.proofs.Common.{common_steps, rules, ◌≡◌, ◌≢◌, ℕ, ◌<◌, List, length, get_or, ◌⊎◌, inl, inr, sym}
+use Rattle.rv_book.proofs.Common.{ap, ◌∙◌, arith, subst, get_or_default, place, IsOperation, IsOrderOf, Lawful}
+use Rattle.rv_book.proofs.Common.{IsEdge, MemoryModel, Id, Event, Reason, lawful_from_edges, happened, IsKept}
+use Rattle.rv_book.proofs.Common.{IsTied, Path, more, carried_from_IsHistory, indexed_from_IsHistory, Arranged}
+use Rattle.rv_book.proofs.Common.{nobody, at, order_of, IsArranged}
+use Rattle.rv_cover.specs.Paths.{one}
 use Rattle.rv_book.proofs.RankOrders.{order, length-order, at-rank, order-once, place-node}
 
 -- two ids are one, or not

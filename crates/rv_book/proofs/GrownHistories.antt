@@ -1,32 +1,13 @@
 -- A history with one more event stays arranged.
-use Rattle.std.proofs.lemmas.Grind.{common_steps}
-use Rattle.std.proofs.Common.{rules}
-use Rattle.std.proofs.Common.{◌≡◌, ◌≢◌, ℕ, ◌+◌, ◌<◌, List, [], ◌∷◌, ◌++◌, length, Contains, ◌⊎◌, inl, inr}
-use Rattle.std.proofs.Common.{refl, sym, ap, ◌∙◌, arith, subst, Some}
-use Rattle.std.proofs.lemmas.Bool.{cases_eq}
-use Rattle.std.proofs.lemmas.List.{get_or_push, get_or_append_left, length_push}
-use Rattle.std.proofs.lemmas.List.Elements.{Contains-push_cases, Contains-push}
-use Rattle.rv_event.specs.Operations.{IsMemory}
-use Rattle.rv_event.specs.Log.{named, Earlier, of_hart}
-use Rattle.rv_event.specs.Orders.{IsOperation}
-use Rattle.rv_event.specs.Edges.{IsEdge, IsStale}
-use Rattle.rv_event.proofs.Names.{named-is}
-use Rattle.rv_event.proofs.Indexed.{Indexed, Sound, indexed-push, find-append_some, sound_of}
-use Rattle.rv_event.proofs.Growing.{IsEdge-grows}
-use Rattle.rv_event.proofs.Settled.{grows-push}
-use Rattle.rv_event.specs.declared.event.Id.{Id}
-use Rattle.rv_event.specs.declared.event.Event.{Event}
-use Rattle.rv_event.specs.declared.event.Entry.{Entry}
-use Rattle.rv_event.specs.declared.reason.Link.{Link}
-use Rattle.rv_event.specs.declared.reason.Reason.{Reason}
-use Rattle.rv_edges.specs.Kept.{Kept, happened, grown, Joins, IsKept}
-use Rattle.rv_edges.proofs.Listed.{Contains-old}
-use Rattle.rv_edges.proofs.CarriedEdges.{indexed_from_IsHistory, carried_from_IsHistory, happened-push}
-use Rattle.rv_edges.proofs.CarriedEdges.{IsKept-cases, IsHistory-push}
-use Rattle.rv_rank.specs.Graph.{Edge, IsOrder, IsGrown}
-use Rattle.rv_book.specs.Adding.{IsFit}
-use Rattle.rv_book.specs.Arranged.{Arranged, nobody, at, IsArranged}
-use Rattle.rv_book.specs.Nodes.{HasNode, AreNodes}
+use Rattle.rv_book.proofs.Common.{common_steps, rules, ◌≡◌, ◌≢◌, ℕ, ◌+◌, ◌<◌, List, [], ◌∷◌, ◌++◌, length}
+use Rattle.rv_book.proofs.Common.{Contains, ◌⊎◌, inl, inr, refl, sym, ap, ◌∙◌, arith, subst, Some, cases_eq}
+use Rattle.rv_book.proofs.Common.{get_or_push, get_or_append_left, length_push, Contains-push_cases}
+use Rattle.rv_book.proofs.Common.{Contains-push, IsMemory, named, Earlier, of_hart, IsOperation, IsEdge, IsStale}
+use Rattle.rv_book.proofs.Common.{named-is, Indexed, Sound, indexed-push, find-append_some, sound_of}
+use Rattle.rv_book.proofs.Common.{IsEdge-grows, grows-push, Id, Event, Entry, Link, Reason, Kept, happened, grown}
+use Rattle.rv_book.proofs.Common.{Joins, IsKept, Contains-old, indexed_from_IsHistory, carried_from_IsHistory}
+use Rattle.rv_book.proofs.Common.{happened-push, IsKept-cases, IsHistory-push, Edge, IsOrder, IsGrown, IsFit}
+use Rattle.rv_book.proofs.Common.{Arranged, nobody, at, IsArranged, HasNode, AreNodes}
 use Rattle.rv_book.proofs.ForwardOrders.{from_operation, to_operation, node_of}
 
 module _ (v : Arranged) (ok : IsArranged v) (k : Kept) (fit : IsFit v k) where

@@ -1,16 +1,8 @@
 -- Circles of ids, step by step.
-use Rattle.std.proofs.lemmas.Grind.{common_steps}
-use Rattle.std.proofs.Common.{rules}
-use Rattle.std.proofs.Common.{◌≡◌, ℕ, ◌+◌, ◌<◌, ◌≤◌, true, false, List, [], ◌∷◌, ◌++◌, length, ltb, refl}
-use Rattle.std.proofs.Common.{sym, arith, subst, if◌then◌else◌, nat_lt, take}
-use Rattle.std.proofs.lemmas.List.{map-append, take_more}
-use Rattle.rv_event.specs.Edges.{IsEdge}
-use Rattle.rv_event.specs.declared.memory_model.MemoryModel.{MemoryModel}
-use Rattle.rv_event.specs.declared.event.Id.{Id}
-use Rattle.rv_event.specs.declared.event.Event.{Event}
-use Rattle.rv_event.specs.declared.reason.Reason.{Reason}
-use Rattle.rv_cert.specs.Certificates.{start_of, IsWalk, IsClosedWalk}
-use Rattle.rv_book.specs.Arranged.{at, walked}
+use Rattle.rv_book.proofs.Common.{common_steps, rules, ◌≡◌, ℕ, ◌+◌, ◌<◌, ◌≤◌, true, false, List, [], ◌∷◌, ◌++◌}
+use Rattle.rv_book.proofs.Common.{length, ltb, refl, sym, arith, subst, if◌then◌else◌, nat_lt, take, map-append}
+use Rattle.rv_book.proofs.Common.{take_more, IsEdge, MemoryModel, Id, Event, Reason, start_of, IsWalk}
+use Rattle.rv_book.proofs.Common.{IsClosedWalk, at, walked}
 
 -- the id at place k of a circle of ids, or the first past its end
 abbrev pub end_at : List Id → ℕ → Id

@@ -1,11 +1,6 @@
 -- Nodes found one after another.
-use Rattle.std.proofs.Common.{◌≡◌, ℕ, ◌<◌, List, [], ◌∷◌, ◌++◌, length, inl, inr, sym, ap, ◌∙◌, subst}
-use Rattle.std.proofs.lemmas.List.Elements.{Contains-push_cases}
-use Rattle.rv_event.specs.declared.event.Id.{Id}
-use Rattle.rv_event.specs.declared.reason.Link.{Link}
-use Rattle.rv_edges.proofs.Listed.{Contains-old, Contains-last}
-use Rattle.rv_book.specs.Arranged.{at}
-use Rattle.rv_book.specs.Nodes.{AreNodes}
+use Rattle.rv_book.proofs.Common.{◌≡◌, ℕ, ◌<◌, List, [], ◌∷◌, ◌++◌, length, inl, inr, sym, ap, ◌∙◌, subst}
+use Rattle.rv_book.proofs.Common.{Contains-push_cases, Id, Link, Contains-old, Contains-last, at, AreNodes}
 
 -- one link more has one node more
 pub nodes_more : (ids : List Id) (links : List Link) (nodes new : List ℕ) (l : Link) (p : ℕ) →

@@ -1,26 +1,11 @@
 -- A log with one more entry, and its verdicts.
-use Rattle.std.proofs.lemmas.Grind.{common_steps}
-use Rattle.std.proofs.Common.{rules}
-use Rattle.std.proofs.Common.{◌≡◌, ◌<◌, List, [], ◌∷◌, ◌++◌, length, Option, Some, None, refl, ap, ◌∙◌}
-use Rattle.std.proofs.Common.{subst, arith, Bool}
-use Rattle.std.proofs.lemmas.List.{length-map, length_push}
-use Rattle.rv_event.specs.Log.{events}
-use Rattle.rv_event.specs.Orders.{Lawful}
-use Rattle.rv_event.specs.WellFormed.{WellFormed}
-use Rattle.rv_event.specs.Faults.{fault_of, event_fault, first_faults, source_fault, deps_fault, lowest}
-use Rattle.rv_event.proofs.Indexed.{lowest-none, none-lowest, lowest-append_some, sound_of}
-use Rattle.rv_event.proofs.Pushed.{WellFormed-push}
-use Rattle.rv_event.proofs.Bounded.{length-WellFormed}
-use Rattle.rv_event.specs.declared.memory_model.MemoryModel.{MemoryModel}
-use Rattle.rv_event.specs.declared.event.Entry.{Entry}
-use Rattle.rv_event.specs.declared.fault.Fault.{Fault}
-use Rattle.std.proofs.lemmas.Option.{none-some}
-use Rattle.rv_cert.specs.Certificates.{Certifies}
-use Rattle.rv_cert.specs.Refusals.{Refusal}
-use Rattle.rv_cert.proofs.Forward.{no_certificate}
-use Rattle.rv_edges.specs.Kept.{Kept, happened, grown}
-use Rattle.rv_book.specs.Arranged.{Arranged, IsOwn, order_of}
-use Rattle.rv_book.specs.Booked.{Booked, IsBooked, IsTaken, IsForbiddenOn, booked_of}
+use Rattle.rv_book.proofs.Common.{common_steps, rules, ◌≡◌, ◌<◌, List, [], ◌∷◌, ◌++◌, length, Option, Some, None}
+use Rattle.rv_book.proofs.Common.{refl, ap, ◌∙◌, subst, arith, Bool, length-map, length_push, events, Lawful}
+use Rattle.rv_book.proofs.Common.{WellFormed, fault_of, event_fault, first_faults, source_fault, deps_fault}
+use Rattle.rv_book.proofs.Common.{lowest, lowest-none, none-lowest, lowest-append_some, sound_of, WellFormed-push}
+use Rattle.rv_book.proofs.Common.{length-WellFormed, MemoryModel, Entry, Fault, none-some, Certifies, Refusal}
+use Rattle.rv_book.proofs.Common.{no_certificate, Kept, happened, grown, Arranged, IsOwn, order_of, Booked}
+use Rattle.rv_book.proofs.Common.{IsBooked, IsTaken, IsForbiddenOn, booked_of}
 
 -- an entry without a fault is an event without one
 pub event_sound : (log : List Entry) (x : Entry) → fault_of log x ≡ None → event_fault (events log) x.event ≡ None
@@ -84,8 +69,7 @@ forbidden_of model log h x f none same by is certifies own =
     }
 
 -- a book with one more entry
-pub taken_of :
-    (log new : List Entry) (v w : Arranged) (stopped : Bool) (now : Booked) (x : Entry) →
+pub taken_of : (log new : List Entry) (v w : Arranged) (stopped : Bool) (now : Booked) (x : Entry) →
     booked_of log v stopped ≡ now →
     IsBooked log v → fault_of log x ≡ None → w.model ≡ v.model → happened w.history ≡ grown v.history x.event →
     Lawful w.model (happened w.history) (order_of w.ranks w.ids) → new ≡ log ++ x ∷ [] →

@@ -1,14 +1,9 @@
 -- The order that ranks give.
-use Rattle.std.proofs.Common.{rules}
-use Rattle.std.proofs.Common.{◌≡◌, ◌≢◌, ℕ, zero, suc, ◌<◌, ◌==◌, Bool, true, false, cond, List, [], ◌∷◌, map}
-use Rattle.std.proofs.Common.{length, get_or, AllPairs, inl, inr, refl, sym, ap, ◌∙◌, arith, subst}
-use Rattle.std.proofs.Common.{le_of_suc-le-suc, suc-le-suc, eqb-true, eq-eqb}
-use Rattle.std.proofs.lemmas.Bool.{cases_eq}
-use Rattle.std.proofs.lemmas.List.{length-map, get_or-map, get_or_push, get_or_append_left, length_push, ext_get_or}
-use Rattle.rv_event.specs.Orders.{place}
-use Rattle.rv_event.proofs.Names.{place-at}
-use Rattle.rv_event.specs.declared.event.Id.{Id}
-use Rattle.rv_book.specs.Arranged.{Arranged, nobody, at, index_of, up_to, order_of, IsArranged}
+use Rattle.rv_book.proofs.Common.{rules, ◌≡◌, ◌≢◌, ℕ, zero, suc, ◌<◌, ◌==◌, Bool, true, false, cond, List, []}
+use Rattle.rv_book.proofs.Common.{◌∷◌, map, length, get_or, AllPairs, inl, inr, refl, sym, ap, ◌∙◌, arith, subst}
+use Rattle.rv_book.proofs.Common.{le_of_suc-le-suc, suc-le-suc, eqb-true, eq-eqb, cases_eq, length-map}
+use Rattle.rv_book.proofs.Common.{get_or-map, get_or_push, get_or_append_left, length_push, ext_get_or, place}
+use Rattle.rv_book.proofs.Common.{place-at, Id, Arranged, nobody, at, index_of, up_to, order_of, IsArranged}
 
 length-up_to : (n : ℕ) → length (up_to n) ≡ n
 length-up_to zero = refl
@@ -53,8 +48,7 @@ module _ (v : Arranged) (ok : IsArranged v) where
   length-order = search (length-map, length-up_to, rules)
 
   get-order : (r : ℕ) (d : Id) → r < length v.ranks → get_or order r d ≡ at v.ids (index_of v.ranks r)
-  get-order r d l =
-      get_or-map (λ x. at v.ids (index_of v.ranks x)) (up_to (length v.ranks)) r 0 d
+  get-order r d l = get_or-map (λ x. at v.ids (index_of v.ranks x)) (up_to (length v.ranks)) r 0 d
       (omega (arith, length-up_to (length v.ranks))) ∙ ap (λ x. at v.ids (index_of v.ranks x))
       (get-up_to (length v.ranks) r 0 l)
 
@@ -79,13 +73,11 @@ module _ (v : Arranged) (ok : IsArranged v) where
 
   -- a node stands at its rank
   pub place-node : (a : ℕ) → a < length v.ranks → place order (at v.ids a) ≡ get_or v.ranks a 0
-  place-node a l =
-      subst (λ i. place order i ≡ get_or v.ranks a 0) (at-rank a nobody l)
+  place-node a l = subst (λ i. place order i ≡ get_or v.ranks a 0) (at-rank a nobody l)
       (place-at order order-once (get_or v.ranks a 0) nobody (omega (arith, length-order, ok.ordered.below a l)))
 
   -- the ids of the nodes by rank
-  pub order_is :
-      (nodes : List ℕ) → length nodes ≡ length v.ranks →
+  pub order_is : (nodes : List ℕ) → length nodes ≡ length v.ranks →
       ((r : ℕ) → r < length v.ranks → get_or v.ranks (get_or nodes r 0) 0 ≡ r) →
       ((r : ℕ) → r < length v.ranks → get_or nodes r 0 < length v.ranks) → map (at v.ids) nodes ≡ order
   order_is nodes long ranked low =

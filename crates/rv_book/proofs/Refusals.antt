@@ -1,17 +1,7 @@
 -- A history whose last entry is taken off again, and refusals of it.
-use Rattle.std.proofs.lemmas.Grind.{common_steps}
-use Rattle.std.proofs.Common.{◌≡◌, ℕ, List, [], ◌∷◌, ◌++◌, refl, arith}
-use Rattle.std.proofs.Common.{Result, Ok, Err}
-use Rattle.std.specs.Result.{IfOk, OnErr}
-use Rattle.rv_event.specs.declared.event.Entry.{Entry}
-use Rattle.rv_event.specs.declared.event.Id.{Id}
-use Rattle.rv_edges.specs.Histories.{with_entry}
-use Rattle.rv_edges.specs.Kept.{Kept, Past}
-use Rattle.rv_edges.specs.declared.history.Around.{Around}
-use Rattle.rv_book.specs.Adding.{IsAdded, IsRefused}
-use Rattle.rv_book.specs.Arranged.{Arranged}
-use Rattle.rv_book.specs.declared.arrangement.Added.{Added}
-use Rattle.rv_book.specs.declared.arrangement.Added.TheVariants.{Taken, Refused}
+use Rattle.rv_book.proofs.Common.{common_steps, ◌≡◌, ℕ, List, [], ◌∷◌, ◌++◌, refl, arith, Result, Ok, Err, IfOk}
+use Rattle.rv_book.proofs.Common.{OnErr, Entry, Id, with_entry, Kept, Past, Around, IsAdded, IsRefused, Arranged}
+use Rattle.rv_book.proofs.Common.{Added, Taken, Refused}
 
 -- the history is as it was, and the entry that was taken off is the one that was added
 pub record IsBack (was now : Past) (x y : Entry) : Type 0 where

@@ -1,21 +1,11 @@
 -- Chunks of a list, offered in whatever order, give the log the beginning of that list.
-use Rattle.std.proofs.lemmas.Grind.{common_steps}
-use Rattle.std.proofs.Common.{rules}
-use Rattle.std.proofs.Common.{◌≡◌, ℕ, Bool, ◌≤◌, ◌+◌, ◌-◌, cond, List, [], ◌∷◌, ◌++◌, length, take}
-use Rattle.std.proofs.Common.{drop, sym, ap, ◌∙◌, subst, arith, refl, eq-eqb, append_assoc}
-use Rattle.std.proofs.Common.{take-append-drop}
-use Rattle.std.proofs.Math.Seq.{drop-append_seam, drop-append-add}
-use Rattle.std.proofs.lemmas.List.{drop-append-le}
-use Rattle.rv_event.specs.Log.{events}
-use Rattle.rv_event.specs.Merges.{from_source}
-use Rattle.rv_chunk.specs.Packing.{Content}
-use Rattle.rv_event.specs.declared.event.Event.{Event}
-use Rattle.rv_event.specs.declared.event.Entry.{Entry}
-use Rattle.rv_book.specs.Booked.{Booked}
-use Rattle.rv_book.specs.Chunked.{given_by, count_of_source, entries_of, HasTaken, IsTurn, first_of, rest_of}
-use Rattle.rv_book.specs.Chunked.{IsPrefix, IsChunkOf, IsApplied, IsContinued, IsChunkOffered}
-use Rattle.rv_book.specs.declared.book.ChunkOffer.{ChunkOffer}
-use Rattle.rv_book.specs.declared.book.ChunkOffer.TheVariants.{Applied, NotYet, Already, Halted, Stopped, NoMemory}
+use Rattle.rv_book.proofs.Common.{common_steps, rules, ◌≡◌, ℕ, Bool, ◌≤◌, ◌+◌, ◌-◌, cond, List, [], ◌∷◌, ◌++◌}
+use Rattle.rv_book.proofs.Common.{length, take, drop, sym, ap, ◌∙◌, subst, arith, refl, eq-eqb, append_assoc}
+use Rattle.rv_book.proofs.Common.{take-append-drop, drop-append_seam, drop-append-add, drop-append-le, events}
+use Rattle.rv_book.proofs.Common.{from_source, Content, Event, Entry, Booked, given_by, count_of_source}
+use Rattle.rv_book.proofs.Common.{entries_of, HasTaken, IsTurn, first_of, rest_of, IsPrefix, IsChunkOf, IsApplied}
+use Rattle.rv_book.proofs.Common.{IsContinued, IsChunkOffered, ChunkOffer, Applied, NotYet, Already, Halted}
+use Rattle.rv_book.proofs.Common.{Stopped, NoMemory}
 
 -- what the entries made of a source's events give
 given-entries : (source : ℕ) (es : List Event) → given_by source (entries_of source es) ≡ es
@@ -64,8 +54,7 @@ module _ (old new : Booked) (chunk : Content) (all : List Event) (of : IsChunkOf
   abbrev count : ℕ
   count = count_of_source old.log chunk.source
 
-  grows :
-      (answer : ChunkOffer) (n : ℕ) → IsTurn count chunk → n ≤ length (rest_of count chunk) →
+  grows : (answer : ChunkOffer) (n : ℕ) → IsTurn count chunk → n ≤ length (rest_of count chunk) →
       HasTaken old new chunk.source (rest_of count chunk) n → IsApplied answer n →
       IsContinued old new chunk all answer
   grows answer n turn within taken applied =

@@ -1,18 +1,9 @@
 -- A book that has taken the first of some events.
-use Rattle.std.proofs.lemmas.Grind.{common_steps}
-use Rattle.std.proofs.Common.{rules}
-use Rattle.std.proofs.Common.{◌≡◌, ℕ, ◌<◌, ◌+◌, ◌-◌, List, [], ◌∷◌, ◌++◌, length, sym}
-use Rattle.std.proofs.Common.{arith, refl}
-use Rattle.std.proofs.Math.Seq.{take-append_seam, take-append-add}
-use Rattle.std.specs.Prelude.{◌==◌, count_by}
-use Rattle.std.proofs.lemmas.List.Sums.{length-filter}
-use Rattle.std.proofs.lemmas.List.{length-map, append-nil}
-use Rattle.std.proofs.lemmas.List.{length-append, length-drop}
-use Rattle.rv_event.specs.declared.event.Event.{Event}
-use Rattle.rv_event.specs.declared.event.Entry.{Entry}
-use Rattle.rv_book.specs.Booked.{Booked, IsTaken}
-use Rattle.rv_chunk.specs.Packing.{Content}
-use Rattle.rv_book.specs.Chunked.{count_of_source, entries_of, HasTaken, StopsAt, IsTurn, rest_of, first_of}
+use Rattle.rv_book.proofs.Common.{common_steps, rules, ◌≡◌, ℕ, ◌<◌, ◌+◌, ◌-◌, List, [], ◌∷◌, ◌++◌, length, sym}
+use Rattle.rv_book.proofs.Common.{arith, refl, take-append_seam, take-append-add, ◌==◌, count_by, length-filter}
+use Rattle.rv_book.proofs.Common.{length-map, append-nil, length-append, length-drop, Event, Entry, Booked}
+use Rattle.rv_book.proofs.Common.{IsTaken, Content, count_of_source, entries_of, HasTaken, StopsAt, IsTurn}
+use Rattle.rv_book.proofs.Common.{rest_of, first_of}
 
 -- a book with the events of the first list, where the second is still to come
 pub record IsWithin (old new : Booked) (source : ℕ) (done rest events : List Event) (left : ℕ) : Type 0 where
@@ -43,15 +34,13 @@ within-stops old mid new source done rest more events e left w front model log =
     search (take-append_seam, take-append-add, length-append, rules)
 
 -- all events were taken
-pub within-end :
-    (old new : Booked) (source : ℕ) (done rest events : List Event) (left count : ℕ) →
+pub within-end : (old new : Booked) (source : ℕ) (done rest events : List Event) (left count : ℕ) →
     IsWithin old new source done rest events left → left ≡ 0 → count ≡ length events →
     HasTaken old new source events count
 within-end old new source done rest events left count w none long = grind (arith, common_steps)
 
 -- nothing was taken yet, and something is to come
-pub stops-first :
-    (old : Booked) (source : ℕ) (events : List Event) → 0 < length events →
+pub stops-first : (old : Booked) (source : ℕ) (events : List Event) → 0 < length events →
     (count : ℕ) × (next : Event) × StopsAt old old source events count next
 stops-first old source [] low = absurd (omega (arith, low))
 stops-first old source (e ∷ rest) low = (

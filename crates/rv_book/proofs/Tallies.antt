@@ -1,23 +1,12 @@
 -- A tally of a log with one entry more.
-use Rattle.std.proofs.lemmas.Grind.{common_steps}
-use Rattle.std.proofs.Common.{rules}
-use Rattle.std.proofs.Common.{◌≡◌, ◌≢◌, ℕ, ◌+◌, ◌%◌, ◌<◌, Bool, true, false, not, ◌&&◌, ◌==◌, cond, List}
-use Rattle.std.proofs.Common.{[], ◌∷◌, ◌++◌, length, Contains, Option, Some, None, ◌⊎◌, inl, inr, sym}
-use Rattle.std.proofs.Common.{ap, ◌∙◌, arith, count_by, slice_index_or, slice_set, get_or, replicate}
-use Rattle.std.proofs.Common.{eq-eqb, eqb-true}
-use Rattle.std.specs.List.{list_any}
-use Rattle.std.proofs.lemmas.Bool.{and_parts, and_from, cases_eq, ne_eqb, false≢true}
-use Rattle.std.proofs.lemmas.Option.{none-some, same_Some}
-use Rattle.std.proofs.lemmas.List.{get_or-set_same, get_or-set_other}
-use Rattle.std.proofs.lemmas.List.Sums.{sum_by_push}
-use Rattle.std.proofs.lemmas.List.Folds.{Any-from_list_any, list_any-from_Any}
-use Rattle.std.proofs.lemmas.List.Elements.{Contains-append_left}
-use Rattle.rv_event.proofs.Growing.{Any-contains, Any-from_contains}
-use Rattle.rv_event.specs.Faults.{source_fault, fault_if}
-use Rattle.rv_event.specs.declared.event.Entry.{Entry}
-use Rattle.rv_event.specs.declared.fault.Fault.TheVariants.{OtherSource}
-use Rattle.rv_edges.proofs.Listed.{Contains-last}
-use Rattle.rv_book.specs.Tallied.{IsTallied}
+use Rattle.rv_book.proofs.Common.{common_steps, rules, ◌≡◌, ◌≢◌, ℕ, ◌+◌, ◌%◌, ◌<◌, Bool, true, false, not, ◌&&◌}
+use Rattle.rv_book.proofs.Common.{◌==◌, cond, List, [], ◌∷◌, ◌++◌, length, Contains, Option, Some, None, ◌⊎◌, inl}
+use Rattle.rv_book.proofs.Common.{inr, sym, ap, ◌∙◌, arith, count_by, slice_index_or, slice_set, get_or}
+use Rattle.rv_book.proofs.Common.{replicate, eq-eqb, eqb-true, list_any, and_parts, and_from, cases_eq, ne_eqb}
+use Rattle.rv_book.proofs.Common.{false≢true, none-some, same_Some, get_or-set_same, get_or-set_other}
+use Rattle.rv_book.proofs.Common.{sum_by_push, Any-from_list_any, list_any-from_Any, Contains-append_left}
+use Rattle.rv_book.proofs.Common.{Any-contains, Any-from_contains, source_fault, fault_if, Entry, OtherSource}
+use Rattle.rv_book.proofs.Common.{Contains-last, IsTallied}
 
 -- a list of one value has it wherever it is read
 pub even : {X : Type 0} (n : ℕ) (x : X) (k : ℕ) → get_or (replicate n x) k x ≡ x
@@ -105,8 +94,7 @@ module _ (log : List Entry) (sources : List (Option ℕ)) (counts : List ℕ) (k
             ∙ ap (λ (n : ℕ). slice_index_or counts n 0 + 1) (sym same) ∙ ap (λ (n : ℕ). n + 1) (known.counted s low)
             ∙ sym (count-push s ∙ ap (λ (b : Bool). count_by (λ y. s == y.source) log + cond b 1 0)
             (eq-eqb s x.source same))
-        go (inr other) =
-            get_or-set_other counts x.source s count 0 other ∙ known.counted s low
+        go (inr other) = get_or-set_other counts x.source s count 0 other ∙ known.counted s low
             ∙ sym (count-push s ∙ ap (λ (b : Bool). count_by (λ y. s == y.source) log + cond b 1 0)
             (ne_eqb s x.source other) ∙ omega arith)
 

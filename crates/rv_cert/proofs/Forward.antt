@@ -11,8 +11,8 @@ use Rattle.rv_event.proofs.Names.{place-same, named-is}
 use Rattle.rv_event.specs.declared.event.Id.{Id}
 use Rattle.rv_event.specs.declared.event.Event.{Event}
 use Rattle.rv_event.specs.declared.reason.Reason.{Reason}
-use Rattle.rv_event.specs.declared.reason.Reason.TheVariants.{Preserved, Coherence, ReadsFrom, FromRead}
-use Rattle.rv_event.specs.declared.reason.Reason.TheVariants.{AtomicIn, AtomicOut}
+use Rattle.rv_event.specs.declared.reason.Reason.TheVariants.{Preserved, Coherence, ReadsFrom, FromRead, AtomicIn}
+use Rattle.rv_event.specs.declared.reason.Reason.TheVariants.{AtomicOut}
 use Rattle.rv_cert.specs.Certificates.{start_of, IsWalk, IsClosedWalk, Certifies}
 use Rattle.rv_cert.specs.declared.certificate.Certificate.{Certificate}
 use Rattle.rv_cert.specs.declared.certificate.Certificate.TheVariants.{Circle, Stale}

@@ -12,8 +12,8 @@ use Rattle.rv_event.proofs.Indexed.{Indexed}
 use Rattle.rv_event.specs.declared.event.Id.{Id}
 use Rattle.rv_event.specs.declared.event.Event.{Event}
 use Rattle.rv_event.specs.declared.reason.Reason.{Reason}
-use Rattle.rv_event.specs.declared.reason.Reason.TheVariants.{Preserved, Coherence, ReadsFrom, FromRead}
-use Rattle.rv_event.specs.declared.reason.Reason.TheVariants.{AtomicIn, AtomicOut}
+use Rattle.rv_event.specs.declared.reason.Reason.TheVariants.{Preserved, Coherence, ReadsFrom, FromRead, AtomicIn}
+use Rattle.rv_event.specs.declared.reason.Reason.TheVariants.{AtomicOut}
 use Rattle.rv_cert.specs.Laws.{EdgesGoForward}
 
 load_is_memory : (e : Event) → IsLoad e → IsMemory e

@@ -1,6 +1,6 @@
 -- What a chunk text says is what it was written from.
-use Rattle.std.proofs.Common.{◌≡◌, ℕ, zero, suc, ◌+◌, ◌-◌, ◌*◌, ◌^◌, ◌<◌, ◌≤◌, Bool, true, false, ◌==◌, List}
-use Rattle.std.proofs.Common.{[], ◌∷◌, ◌++◌, length, map, replicate, sym, refl, ap, ◌∙◌, arith}
+use Rattle.std.proofs.Common.{◌≡◌, ℕ, zero, suc, ◌+◌, ◌-◌, ◌*◌, ◌^◌, ◌<◌, ◌≤◌, Bool, true, false, ◌==◌, List, []}
+use Rattle.std.proofs.Common.{◌∷◌, ◌++◌, length, map, replicate, sym, refl, ap, ◌∙◌, arith}
 use Rattle.std.specs.Prelude.{slice_index, All}
 use Rattle.std.specs.List.{flat_map}
 use Rattle.std.proofs.lemmas.List.Elements.{All-head, All-tail}
@@ -11,10 +11,10 @@ use Rattle.rv_event.specs.declared.event.Op.TheVariants.{Load, Store, Lr, Sc, Sc
 use Rattle.rv_event.specs.declared.event.Set.{Set}
 use Rattle.rv_event.specs.declared.event.Dep.{Dep}
 use Rattle.rv_event.specs.declared.event.DepKind.{DepKind}
-use Rattle.rv_chunk.specs.Chunks.{set_code, op_code, pred_code, succ_code, kind_code, flag_code, two}
-use Rattle.rv_chunk.specs.Chunks.{head_word, dep_code, dep_at, event_words, chunk_text, IsPackable, IsTyped}
-use Rattle.rv_chunk.specs.Chunks.{IsInRange, bits, set_of, op_of, kind_of, dep_of, deps_of, halves, head_op}
-use Rattle.rv_chunk.specs.Chunks.{event_of, events_from, source_of, number_of, count_of, events_of, rewritten}
+use Rattle.rv_chunk.specs.Chunks.{set_code, op_code, pred_code, succ_code, kind_code, flag_code, two, head_word}
+use Rattle.rv_chunk.specs.Chunks.{dep_code, dep_at, event_words, chunk_text, IsPackable, IsTyped, IsInRange, bits}
+use Rattle.rv_chunk.specs.Chunks.{set_of, op_of, kind_of, dep_of, deps_of, halves, head_op, event_of, events_from}
+use Rattle.rv_chunk.specs.Chunks.{source_of, number_of, count_of, events_of, rewritten}
 
 -- ---- two halves
 pub two_low : (a b : ℕ) → a < 2 ^ 32 → bits (two a b) 0 32 ≡ a
@@ -189,8 +189,7 @@ flag_of n b e = rw e (flag_back b)
 -- an event is read back
 pub event_back : (e : Event) (rest : List ℕ) → IsPackable e → IsTyped e → event_of (event_words e ++ rest) ≡ e
 event_back e rest p t = let h = head_back e t.hart in
-    same_event (event_of (event_words e ++ rest)) e
-    h.hart (two_low e.id.seq e.word t.seq)
+    same_event (event_of (event_words e ++ rest)) e h.hart (two_low e.id.seq e.word t.seq)
     (head_op_back (head_word e.id.hart e.op e.acquire e.release) e.op h.op h.pred h.succ)
     (two_high e.id.seq e.word t.seq t.word) (two_low e.read e.wrote t.read) (two_high e.read e.wrote t.read t.wrote)
     (flag_of _ e.acquire h.acquire) (flag_of _ e.release h.release) (deps_back_words e.deps p.few p.small)

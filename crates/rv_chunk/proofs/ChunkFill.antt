@@ -26,8 +26,7 @@ pub put : (a b : ℕ) (xs block : List ℕ) (k : ℕ) → k < 8 → length xs �
 put a b xs block k h e =
     let zs : List ℕ = replicate (56 - 7 * k) 0 in
     let f = front a b xs zs (2 + 7 * k) (omega arith) in
-    let g = back a b xs zs (9 + 7 * k) (omega arith) ∙
-    (drop-replicate 7 (56 - 7 * k) 0 ∙
+    let g = back a b xs zs (9 + 7 * k) (omega arith) ∙ (drop-replicate 7 (56 - 7 * k) 0 ∙
     ap (λ (n : ℕ). replicate n 0) (let q : 56 - 7 * k - 7 ≡ 56 - 7 * (k + 1) = omega arith in q)) in
     rw (f, g) refl
 
@@ -55,8 +54,7 @@ read_more (suc k) ws =
 -- a block is written: the text has one event more
 pub fill_step : (a b : ℕ) (es : List Event) (e : Event) (k : ℕ) (new old block : List ℕ) → k < 8 → length es ≡ k →
     old ≡ filled a b (flat_map event_words es) k → block ≡ event_words e → new ≡ take (2 + 7 * k) old ++ block ++
-    drop (9 + 7 * k) old →
-    new ≡ filled a b (flat_map event_words (es ++ e ∷ [])) (k + 1)
+    drop (9 + 7 * k) old → new ≡ filled a b (flat_map event_words (es ++ e ∷ [])) (k + 1)
 fill_step a b es e k new old block h n o w is =
     let long : length (flat_map event_words es) ≡ 7 * k = length_words es ∙ ap (λ (m : ℕ). 7 * m) n in
     is ∙ (rw (o, w) (put a b (flat_map event_words es) (event_words e) k h long) ∙

@@ -9,9 +9,9 @@ use Rattle.std.proofs.lemmas.List.Elements.{All-nil, All-cons}
 use Rattle.std.proofs.lemmas.Grind.{common_steps}
 use Rattle.rv_event.specs.declared.event.Event.{Event}
 use Rattle.rv_event.specs.declared.event.Dep.{Dep}
-use Rattle.rv_chunk.specs.Chunks.{chunk_text, IsPackable, IsTyped, IsInRange, IsChunkText, bits, dep_of}
-use Rattle.rv_chunk.specs.Chunks.{deps_of, halves, event_of, events_from, source_of, number_of, count_of}
-use Rattle.rv_chunk.specs.Chunks.{events_of, rewritten, is_chunk_text}
+use Rattle.rv_chunk.specs.Chunks.{chunk_text, IsPackable, IsTyped, IsInRange, IsChunkText, bits, dep_of, deps_of}
+use Rattle.rv_chunk.specs.Chunks.{halves, event_of, events_from, source_of, number_of, count_of, events_of}
+use Rattle.rv_chunk.specs.Chunks.{rewritten, is_chunk_text}
 use Rattle.rv_chunk.specs.Packing.{content_of}
 use Rattle.rv_chunk.proofs.ChunkBack.{rewritten_back, count_back, source_back, number_back, text_back}
 

@@ -1,28 +1,13 @@
 -- What the entry of an option holds, where the arguments with its id keep the rules of one.
-use Rattle.std.proofs.lemmas.Grind.{common_steps}
-use Rattle.std.proofs.Common.{rules}
-use Rattle.std.proofs.Common.{◌≡◌, ◌∙◌, ◌<◌, ◌≤◌, zero, suc, ℕ, Bool, true, false, List, [], ◌∷◌, length}
-use Rattle.std.proofs.Common.{Some, None, refl, sym, ap, subst, inl, inr, arith}
-use Rattle.std.specs.Prelude.{find, option_map, slice_get}
-use Rattle.std.specs.Borrow.{Bor}
-use Rattle.std.specs.List.{All, slice_index_or}
-use Rattle.std.specs.Str.{bytes_eq}
-use Rattle.std.proofs.lemmas.List.Elements.{All-get_or}
-use Rattle.std.proofs.lemmas.Slice.Eq.{bytes_eq-Decides}
-use Rattle.clap.specs.Built.{SameRules}
-use Rattle.clap.specs.Facts.{Entry, EntryPasses, HasId, HasIn, HasReading, PassesArg, ValuesPass, args_of, groups_of}
-use Rattle.clap.specs.Facts.{least_values}
+use Rattle.rv_cli.proofs.Common.{common_steps, rules, ◌≡◌, ◌∙◌, ◌<◌, ◌≤◌, zero, suc, ℕ, Bool, true, false, List}
+use Rattle.rv_cli.proofs.Common.{[], ◌∷◌, length, Some, None, refl, sym, ap, subst, inl, inr, arith, find}
+use Rattle.rv_cli.proofs.Common.{option_map, slice_get, Bor, All, slice_index_or, bytes_eq, All-get_or}
+use Rattle.rv_cli.proofs.Common.{bytes_eq-Decides, SameRules, Entry, EntryPasses, HasId, HasIn, HasReading}
+use Rattle.rv_cli.proofs.Common.{PassesArg, ValuesPass, args_of, groups_of, least_values, Accepts, read_as}
+use Rattle.rv_cli.proofs.Common.{reading_of, Count, Set, Arg, Command, Reading, ValueParser, Found, MatchedArg}
+use Rattle.rv_cli.proofs.Common.{entry_by_id}
 use Rattle.clap.specs.Matches.{first_value, matched_of, one_text}
-use Rattle.clap.specs.Values.{Accepts, read_as, reading_of}
 use Rattle.clap.specs.Walk.{Text}
-use Rattle.clap.specs.declared.builder.action.ArgAction.TheVariants.{Count, Set}
-use Rattle.clap.specs.declared.builder.arg.Arg.{Arg}
-use Rattle.clap.specs.declared.builder.command.Command.{Command}
-use Rattle.clap.specs.declared.builder.value_parser.Reading.{Reading}
-use Rattle.clap.specs.declared.builder.value_parser.ValueParser.{ValueParser}
-use Rattle.clap.specs.declared.parser.matches.Found.{Found}
-use Rattle.clap.specs.declared.parser.matches.MatchedArg.{MatchedArg}
-use Rattle.clap.proofs.CallerLemmas.{entry_by_id}
 
 abbrev has_id : Text → Entry → Bool
 has_id id e = bytes_eq e.0.now id

@@ -1,19 +1,10 @@
 -- What the getters read, in the words of the matches.
-use Rattle.std.proofs.Common.{rules}
-use Rattle.std.proofs.Common.{◌≡◌, ◌∙◌, ◌≤◌, ◌<◌, ◌^◌, ap, sym, ℕ, List, [], true, false, Option, Some, Result, Ok}
-use Rattle.std.proofs.Common.{codes, subst}
-use Rattle.std.specs.Prelude.{option_map, unwrap_or}
-use Rattle.std.specs.Str.{bytes_eq}
-use Rattle.std.specs.Str.Parse.{ParsesUnsigned}
-use Rattle.std.proofs.lemmas.Slice.Eq.{bytes_eq-Decides}
-use Rattle.clap.specs.Words.{ReadsOne, Text, first_of, first_value, matched_of, one_of, one_text, raw_values, rows_of}
-use Rattle.clap.specs.Words.{without_minus}
-use Rattle.clap.specs.declared.parser.matches.Found.{Found}
-use Rattle.clap.proofs.CallerReads.{signed_reads}
-use Rattle.clap.proofs.WalkLemmas.{first_value-rows, one_text-rows, raw_values-rows}
-use Rattle.rv_event.specs.declared.memory_model.MemoryModel.TheVariants.{Rvwmo, Ztso}
-use Rattle.rv_cli.specs.Asked.{SaysModel, SaysNumber, files_in}
-use Rattle.rv_cli.specs.Parsed.{HoldsModel, HoldsNumber}
+use Rattle.rv_cli.proofs.Common.{rules, ◌≡◌, ◌∙◌, ◌≤◌, ◌<◌, ◌^◌, ap, sym, ℕ, List, [], true, false, Option, Some}
+use Rattle.rv_cli.proofs.Common.{Result, Ok, codes, subst, option_map, unwrap_or, bytes_eq, ParsesUnsigned}
+use Rattle.rv_cli.proofs.Common.{bytes_eq-Decides, ReadsOne, first_of, one_of, raw_values, rows_of, without_minus}
+use Rattle.rv_cli.proofs.Common.{Found, signed_reads, first_value-rows, one_text-rows, raw_values-rows, Rvwmo}
+use Rattle.rv_cli.proofs.Common.{Ztso, SaysModel, SaysNumber, files_in, HoldsModel, HoldsNumber}
+use Rattle.clap.specs.Words.{Text, first_value, matched_of, one_text}
 
 module _ {E : Type 0} (G : Text → Result ℕ E → Type 0)
     (only : (u : Text) (x : Result ℕ E) → G u x → ParsesUnsigned 8 10 u x) where

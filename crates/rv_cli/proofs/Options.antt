@@ -1,24 +1,12 @@
 -- After a parse, an option with a default has a text that its parser takes.
-use Rattle.std.proofs.lemmas.Grind.{common_steps}
-use Rattle.std.proofs.Common.{rules}
-use Rattle.std.proofs.Common.{◌≡◌, ◌⊎◌, ◌∙◌, ◌<◌, ◌≤◌, ℕ, true, List, [], ◌∷◌, length, map, Option, Some, None}
-use Rattle.std.proofs.Common.{sym, ap, subst, inl, inr, arith, codes}
-use Rattle.std.specs.List.{slice_index_or}
-use Rattle.std.specs.Str.{bytes_eq}
-use Rattle.std.proofs.lemmas.List.{get_or-map, length-map}
-use Rattle.clap.specs.Built.{IsAuto, IsParsedFrom, NamesNoGroup}
-use Rattle.clap.specs.Facts.{args_of, least_values, unwrap_or_range}
+use Rattle.rv_cli.proofs.Common.{common_steps, rules, ◌≡◌, ◌⊎◌, ◌∙◌, ◌<◌, ◌≤◌, ℕ, true, List, [], ◌∷◌, length}
+use Rattle.rv_cli.proofs.Common.{map, Option, Some, None, sym, ap, subst, inl, inr, arith, codes, slice_index_or}
+use Rattle.rv_cli.proofs.Common.{bytes_eq, get_or-map, length-map, IsAuto, IsParsedFrom, NamesNoGroup, args_of}
+use Rattle.rv_cli.proofs.Common.{least_values, unwrap_or_range, IsSimple, items_of, Rule, rule_of, rules_of, Set}
+use Rattle.rv_cli.proofs.Common.{Arg, Command, ValueRange, ValueParser, ArgMatches, default_present}
+use Rattle.rv_cli.proofs.Common.{same_rules_by_id}
 use Rattle.clap.specs.Matches.{found_of}
-use Rattle.clap.specs.Simple.{IsSimple}
-use Rattle.clap.specs.Texts.{items_of}
-use Rattle.clap.specs.Walk.{Rule, Text, rule_of, rules_of}
-use Rattle.clap.specs.declared.builder.action.ArgAction.TheVariants.{Set}
-use Rattle.clap.specs.declared.builder.arg.Arg.{Arg}
-use Rattle.clap.specs.declared.builder.command.Command.{Command}
-use Rattle.clap.specs.declared.builder.range.ValueRange.{ValueRange}
-use Rattle.clap.specs.declared.builder.value_parser.ValueParser.{ValueParser}
-use Rattle.clap.specs.declared.parser.matches.ArgMatches.{ArgMatches}
-use Rattle.clap.proofs.CallerLemmas.{default_present, same_rules_by_id}
+use Rattle.clap.specs.Walk.{Text}
 use Rattle.rv_cli.proofs.Entries.{HoldsText, Kept, found_holds}
 use Rattle.rv_cli.proofs.Places.{has_one, rule_at, sole_place}
 

@@ -1,14 +1,8 @@
 -- Ids and rules at the places of a command's arguments.
-use Rattle.std.proofs.lemmas.Grind.{common_steps}
-use Rattle.std.proofs.Common.{rules}
-use Rattle.std.proofs.Common.{◌≡◌, ◌<◌, ◌&&◌, zero, suc, ℕ, Bool, true, false, not, List, [], ◌∷◌, length}
-use Rattle.std.proofs.Common.{refl, ap, arith}
-use Rattle.std.specs.List.{slice_index_or}
-use Rattle.std.specs.Str.{bytes_eq}
-use Rattle.clap.specs.Facts.{args_of}
-use Rattle.clap.specs.Walk.{Rule, Text, rule_of, rules_of}
-use Rattle.clap.specs.declared.builder.arg.Arg.{Arg}
-use Rattle.clap.specs.declared.builder.command.Command.{Command}
+use Rattle.rv_cli.proofs.Common.{common_steps, rules, ◌≡◌, ◌<◌, ◌&&◌, zero, suc, ℕ, Bool, true, false, not, List}
+use Rattle.rv_cli.proofs.Common.{[], ◌∷◌, length, refl, ap, arith, slice_index_or, bytes_eq, args_of, Rule}
+use Rattle.rv_cli.proofs.Common.{rule_of, rules_of, Arg, Command}
+use Rattle.clap.specs.Walk.{Text}
 
 -- no id of the list is this one
 unfoldable pub has_none : Text → List Text → Bool

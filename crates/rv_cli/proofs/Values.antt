@@ -1,30 +1,17 @@
 -- What a parse of the program's command gives.
-use Rattle.std.proofs.lemmas.Grind.{common_steps}
-use Rattle.std.proofs.Common.{rules}
-use Rattle.std.proofs.Common.{◌≡◌, ◌⊎◌, ◌∙◌, ◌||◌, true, false, List, [], ◌∷◌, Some, Result, Ok, Err}
-use Rattle.std.proofs.Common.{refl, ap, inl, inr, arith, codes}
-use Rattle.std.specs.Prelude.{pos, IfOk, IsErrAnd}
-use Rattle.std.specs.Borrow.{Bor}
-use Rattle.std.specs.List.{list_all, list_any}
-use Rattle.std.specs.Str.{bytes_eq}
-use Rattle.std.proofs.lemmas.Slice.Eq.{bytes_eq-Decides}
-use Rattle.clap.specs.Built.{IsParsedFrom}
-use Rattle.clap.specs.Faults.{fault_of, is_simple_and_free}
-use Rattle.clap.specs.Kinds.{FailsBy}
+use Rattle.rv_cli.proofs.Common.{common_steps, rules, ◌≡◌, ◌⊎◌, ◌∙◌, ◌||◌, true, false, List, [], ◌∷◌, Some}
+use Rattle.rv_cli.proofs.Common.{Result, Ok, Err, refl, ap, inl, inr, arith, codes, pos, IfOk, IsErrAnd, Bor}
+use Rattle.rv_cli.proofs.Common.{list_all, list_any, bytes_eq, bytes_eq-Decides, IsParsedFrom, fault_of}
+use Rattle.rv_cli.proofs.Common.{is_simple_and_free, FailsBy, App, HasMatchesOf, IsSimple, is_simple, kind_of}
+use Rattle.rv_cli.proofs.Common.{rules_of, texts, Command, Error, OutOfMemory, ArgMatches, ready_simple}
+use Rattle.rv_cli.proofs.Common.{simple_groups, IsCommand, ListsModels, Names, app_over, model_rule, slots_rule}
+use Rattle.rv_cli.proofs.Common.{workers_rule, HoldsValues, ParsesBy, ParsesTo}
 use Rattle.clap.specs.Matches.{found_of}
-use Rattle.clap.specs.Simple.{App, HasMatchesOf, IsSimple, app_of, is_simple}
-use Rattle.clap.specs.Values.{kind_of}
-use Rattle.clap.specs.Walk.{Text, rules_of, texts}
-use Rattle.clap.specs.declared.builder.command.Command.{Command}
-use Rattle.clap.specs.declared.builder.value_parser.ValueParser.TheVariants as parser
-use Rattle.clap.specs.declared.error.Error.{Error}
-use Rattle.clap.specs.declared.error.kind.ErrorKind.TheVariants.{OutOfMemory}
-use Rattle.clap.specs.declared.parser.matches.ArgMatches.{ArgMatches}
-use Rattle.clap.proofs.SimpleLemmas.{ready_simple, simple_groups}
-use Rattle.rv_cli.specs.Command.{IsCommand, ListsModels, Names, app_over, model_rule, slots_rule, workers_rule}
-use Rattle.rv_cli.specs.Parsed.{HoldsValues, ParsesBy, ParsesTo}
+use Rattle.clap.specs.Simple.{app_of}
+use Rattle.clap.specs.Walk.{Text}
 use Rattle.rv_cli.proofs.Options.{IsOption, option_holds}
 use Rattle.rv_cli.proofs.Places.{has_none, has_one}
+use Rattle.clap.specs.declared.builder.value_parser.ValueParser.TheVariants as parser
 
 -- ---- the options of the command
 

@@ -1,6 +1,6 @@
 -- Kept links and the links listed for a new event carry every edge.
-use Rattle.std.proofs.Common.{◌≡◌, ℕ, zero, suc, ◌+◌, ◌≤◌, List, [], ◌∷◌, ◌++◌, Contains, ◌⊎◌}
-use Rattle.std.proofs.Common.{inl, inr, sym, ap, ◌∙◌, ◌≢◌, arith, subst}
+use Rattle.std.proofs.Common.{◌≡◌, ℕ, zero, suc, ◌+◌, ◌≤◌, List, [], ◌∷◌, ◌++◌, Contains, ◌⊎◌, inl, inr, sym, ap}
+use Rattle.std.proofs.Common.{◌∙◌, ◌≢◌, arith, subst}
 use Rattle.std.proofs.lemmas.List.Elements.{Contains-push_cases}
 use Rattle.std.proofs.lemmas.Option.{same_Some}
 use Rattle.std.proofs.lemmas.Grind.{common_steps}
@@ -15,8 +15,8 @@ use Rattle.rv_event.specs.declared.event.Id.{Id}
 use Rattle.rv_event.specs.declared.event.Event.{Event}
 use Rattle.rv_event.specs.declared.memory_model.MemoryModel.{MemoryModel}
 use Rattle.rv_event.specs.declared.reason.Reason.{Reason}
-use Rattle.rv_event.specs.declared.reason.Reason.TheVariants.{Preserved, Coherence, ReadsFrom, FromRead}
-use Rattle.rv_event.specs.declared.reason.Reason.TheVariants.{AtomicIn, AtomicOut}
+use Rattle.rv_event.specs.declared.reason.Reason.TheVariants.{Preserved, Coherence, ReadsFrom, FromRead, AtomicIn}
+use Rattle.rv_event.specs.declared.reason.Reason.TheVariants.{AtomicOut}
 use Rattle.rv_cover.specs.Paths.{Path, one, more, Reaches, Covers}
 use Rattle.rv_cover.specs.Carries.{IsSplit, Carries}
 use Rattle.rv_cover.specs.Laws.{Either}
@@ -177,8 +177,7 @@ module _ (model : MemoryModel) (log : List Event) (e : Event) (Kept Listed : Id 
     where
       go : Listed a.id e.id ⊎ IsSplit model log new FromRead a e → Path Id Both a.id e.id
       go (inl l) = listed a.id e.id l
-      go (inr s) =
-          join a.id s.c.id e.id
+      go (inr s) = join a.id s.c.id e.id
           (old_edge FromRead a s.c ca s.of_log (load-memory a s.splits.0.load) (store-memory s.c s.splits.0.store)
           s.splits.0.other s.splits.0)
           (coherence_into e.wrote s.c s.of_log (omega arith) s.splits.1)

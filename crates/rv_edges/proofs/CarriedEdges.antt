@@ -1,24 +1,11 @@
 -- In a history kept links are edges, and cover every edge.
-use Rattle.std.proofs.lemmas.Grind.{common_steps}
+use Rattle.rv_edges.proofs.Common.{common_steps, ◌≡◌, List, [], ◌∷◌, ◌++◌, length, ◌⊎◌, inl, inr, refl, sym, ap}
+use Rattle.rv_edges.proofs.Common.{◌∙◌, arith, subst, append_assoc, append-nil, length-append, map-append}
+use Rattle.rv_edges.proofs.Common.{Indexed, AllSound, indexed-all, indexed-nil, indexed-push, sound_of}
+use Rattle.rv_edges.proofs.Common.{split_push, Any-from_contains, IsEdge-grows, grows-push, IsEdge, Id, Event}
+use Rattle.rv_edges.proofs.Common.{MemoryModel, Reason, Covers, OwnLinks, Kept, kept_from, happened, grown, Joins}
+use Rattle.rv_edges.proofs.Common.{IsKept, Ties, IsTied, Either, Joined, IsHistory, IsCarried, covered, path-map}
 use Rattle.std.proofs.Common.{rules}
-use Rattle.std.proofs.Common.{◌≡◌, List, [], ◌∷◌, ◌++◌, length, ◌⊎◌, inl, inr, refl, sym, ap, ◌∙◌, arith}
-use Rattle.std.proofs.Common.{subst, append_assoc, append-nil, length-append}
-use Rattle.std.proofs.lemmas.List.{map-append}
-use Rattle.rv_event.proofs.Indexed.{Indexed, AllSound, indexed-all, indexed-nil, indexed-push, sound_of}
-use Rattle.rv_event.proofs.Pushed.{split_push}
-use Rattle.rv_event.proofs.Growing.{Any-from_contains, IsEdge-grows}
-use Rattle.rv_event.proofs.Settled.{grows-push}
-use Rattle.rv_event.specs.Edges.{IsEdge}
-use Rattle.rv_event.specs.declared.event.Id.{Id}
-use Rattle.rv_event.specs.declared.event.Event.{Event}
-use Rattle.rv_event.specs.declared.memory_model.MemoryModel.{MemoryModel}
-use Rattle.rv_event.specs.declared.reason.Reason.{Reason}
-use Rattle.rv_cover.specs.Paths.{Covers}
-use Rattle.rv_edges.specs.OwnLinks.{OwnLinks}
-use Rattle.rv_edges.specs.Kept.{Kept, kept_from, happened, grown, Joins, IsKept, Ties, IsTied}
-use Rattle.rv_cover.specs.Laws.{Either}
-use Rattle.rv_edges.specs.Histories.{Joined, IsHistory, IsCarried}
-use Rattle.rv_cover.proofs.Covering.{covered, path-map}
 use Rattle.rv_edges.proofs.Listed.{Contains-last}
 use Rattle.rv_edges.proofs.Sides.{kept_one, kept_from-push}
 

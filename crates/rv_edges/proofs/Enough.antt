@@ -1,33 +1,17 @@
 -- The links that join a history tell the event's hart enough.
-use Rattle.std.proofs.lemmas.Grind.{common_steps}
+use Rattle.rv_edges.proofs.Common.{common_steps, ◌≡◌, ℕ, ◌<◌, List, None, inl, inr, refl, sym, ap, ◌∙◌, subst}
+use Rattle.rv_edges.proofs.Common.{arith, of_hart, Rule, IsPreserved, IsEdge, event_fault, Indexed, named-is, Id}
+use Rattle.rv_edges.proofs.Common.{Event, MemoryModel, Reason, Preserved, AnyRule, Reaches, IsSplit, Hart}
+use Rattle.rv_edges.proofs.Common.{followed, AreEnoughLinks, own_contains, contains_own, rule_from, any_rule_to}
+use Rattle.rv_edges.proofs.Common.{preserved_to, Kept, happened, grown, IsLinked, hart_from}
 use Rattle.std.proofs.Common.{rules}
-use Rattle.std.proofs.Common.{◌≡◌, ℕ, ◌<◌, List, None, inl, inr, refl, sym, ap, ◌∙◌, subst, arith}
-use Rattle.rv_event.specs.Log.{of_hart}
-use Rattle.rv_event.specs.Preserved.{Rule, IsPreserved}
-use Rattle.rv_event.specs.Edges.{IsEdge}
-use Rattle.rv_event.specs.Faults.{event_fault}
-use Rattle.rv_event.proofs.Indexed.{Indexed}
-use Rattle.rv_event.proofs.Names.{named-is}
-use Rattle.rv_event.specs.declared.event.Id.{Id}
-use Rattle.rv_event.specs.declared.event.Event.{Event}
-use Rattle.rv_event.specs.declared.memory_model.MemoryModel.{MemoryModel}
-use Rattle.rv_event.specs.declared.reason.Reason.{Reason}
-use Rattle.rv_event.specs.declared.reason.Reason.TheVariants.{Preserved}
-use Rattle.rv_cover.specs.Paths.{AnyRule, Reaches, one, more}
-use Rattle.rv_cover.specs.Carries.{IsSplit}
-use Rattle.rv_hart.specs.Harts.{Hart, followed}
-use Rattle.rv_hart.specs.RuleLinks.{AreEnoughLinks}
-use Rattle.rv_hart.proofs.OfHart.{own_contains, contains_own, rule_from, any_rule_to, preserved_to}
-use Rattle.rv_edges.specs.Kept.{Kept, happened, grown}
-use Rattle.rv_edges.specs.Histories.{IsLinked}
-use Rattle.rv_edges.specs.Indexes.{hart_from}
+use Rattle.rv_cover.specs.Paths.{one, more}
 use Rattle.rv_edges.proofs.HartOfLog.{known', own-new}
 
 -- rules that lead from an event of a hart lead over events of that hart
 reaches_to :
     (model : MemoryModel) (log : List Event) (h : ℕ) → Indexed log → (a b : Event) → a.id.hart ≡ h →
-    Reaches model log a b →
-    Reaches model (of_hart h log) a b
+    Reaches model log a b → Reaches model (of_hart h log) a b
 reaches_to model log h known a b at (one s) = one (any_rule_to model log h known a b at s)
 reaches_to model log h known a b at (more {j = j} s p) =
     more (any_rule_to model log h known a j at s) (reaches_to model log h known j b (sym s.1.earlier.hart ∙ at) p)

@@ -1,22 +1,10 @@
 -- The harts of a history when an event comes or goes.
-use Rattle.std.proofs.lemmas.Grind.{common_steps}
-use Rattle.std.proofs.Common.{◌≡◌, ◌≢◌, ℕ, ◌<◌, ◌≤◌, List, [], ◌∷◌, ◌++◌}
-use Rattle.std.proofs.Common.{length, ◌⊎◌, inl, inr, refl, sym, ap, ◌∙◌, arith, slice_set, subst}
-use Rattle.std.proofs.Common.{slice_index_or, slice_get, Some, ◌-◌, length-append, get_or}
-use Rattle.std.proofs.lemmas.Bool.{cases_lt, cases_eq}
-use Rattle.std.proofs.lemmas.Option.{get_or_from_slice_get}
-use Rattle.std.proofs.lemmas.List.{map-append, get_or_append_left, length_push}
-use Rattle.std.proofs.Math.Seq.{get_or-append_seam}
-use Rattle.rv_event.specs.Log.{events, of_hart}
-use Rattle.rv_event.specs.declared.event.Event.{Event}
-use Rattle.rv_event.specs.declared.event.Entry.{Entry}
-use Rattle.rv_event.specs.declared.memory_model.MemoryModel.{MemoryModel}
-use Rattle.rv_hart.specs.Harts.{Hart}
-use Rattle.rv_hart.specs.Kept.{IsHartOf, hart_of_log}
-use Rattle.rv_hart.specs.declared.hart.HartOrder.{HartOrder}
-use Rattle.rv_hart.proofs.OfHart.{own-push}
-use Rattle.rv_hart.proofs.Places.{hart-other, hart-back, own-other}
-use Rattle.rv_edges.specs.Indexes.{AreHarts, IsHartAt, hart_from}
+use Rattle.rv_edges.proofs.Common.{common_steps, ◌≡◌, ◌≢◌, ℕ, ◌<◌, ◌≤◌, List, [], ◌∷◌, ◌++◌, length, ◌⊎◌, inl}
+use Rattle.rv_edges.proofs.Common.{inr, refl, sym, ap, ◌∙◌, arith, slice_set, subst, slice_index_or, slice_get}
+use Rattle.rv_edges.proofs.Common.{Some, ◌-◌, length-append, get_or, cases_lt, cases_eq, get_or_from_slice_get}
+use Rattle.rv_edges.proofs.Common.{map-append, get_or_append_left, length_push, get_or-append_seam, events}
+use Rattle.rv_edges.proofs.Common.{of_hart, Event, Entry, MemoryModel, Hart, IsHartOf, hart_of_log, HartOrder}
+use Rattle.rv_edges.proofs.Common.{own-push, hart-other, hart-back, own-other, AreHarts, IsHartAt, hart_from}
 use Rattle.rv_edges.proofs.Sides.{same_front}
 
 -- a hart of the list, by its place
@@ -122,8 +110,10 @@ harts-opened model log harts x own opens is_model is_number = record { each = ea
         go (inl old) = own.each h y old (at ∙ get_or_append_left harts (x ∷ []) y h old)
         go (inr high) =
             let last : h ≡ length harts = omega (arith, length_push harts x) in
-            let same : y ≡ x = at ∙ ap (λ (n : ℕ). get_or (harts ++ x ∷ []) n y) last ∙ get_or-append_seam harts x [] y in
-            subst (λ (n : ℕ). IsHartAt model log n y) (sym last) (subst (IsHartAt model log (length harts)) (sym same) here)
+            let same : y ≡ x = at ∙ ap (λ (n : ℕ). get_or (harts ++ x ∷ []) n y) last
+            ∙ get_or-append_seam harts x [] y in
+            subst (λ (n : ℕ). IsHartAt model log n y) (sym last)
+            (subst (IsHartAt model log (length harts)) (sym same) here)
 
     none : (h : ℕ) → length (harts ++ x ∷ []) ≤ h → of_hart h log ≡ []
     none h high = own.none h (omega (arith, length_push harts x))
@@ -219,8 +209,8 @@ module _ (model : MemoryModel) (log front : List Entry) (entry : Entry) (harts :
         AreHarts model (events front) (slice_set harts entry.event.id.hart x')
     harts-shrink x' same_model same_number of_log =
         harts-pop model (events front) harts entry.event x' own' last-within
-        (at-changed model (events front ++ entry.event ∷ []) (events front) entry.event.id.hart x x' last-hart same_model
-        same_number of_log)
+        (at-changed model (events front ++ entry.event ∷ []) (events front) entry.event.id.hart x x' last-hart
+        same_model same_number of_log)
 
 -- the last entry of a log is the one that was added last
 pub last_pushed : {X : Type 0} (xs front : List X) (x y : X) → xs ≡ front ++ x ∷ [] →

@@ -1,25 +1,12 @@
 -- What a hart says of a new event, over the log.
-use Rattle.std.proofs.lemmas.Grind.{common_steps}
+use Rattle.rv_edges.proofs.Common.{common_steps, ◌≡◌, ◌≢◌, ◌<◌, List, [], ◌∷◌, ◌++◌, Contains, None, Some, sym}
+use Rattle.rv_edges.proofs.Common.{ap, ◌∙◌, subst, arith, none-some, IsLoad, of_hart, writer, Paired, IsStale}
+use Rattle.rv_edges.proofs.Common.{event_fault, Indexed, indexed-push, sound_of, named-is, writer-is, Id, Event}
+use Rattle.rv_edges.proofs.Common.{MemoryModel, Link, Hart, followed, IsReturned, AreRuleLinks, own_contains}
+use Rattle.rv_edges.proofs.Common.{contains_own, own-push, paired_to, paired_from, stale_to, stale_from}
+use Rattle.rv_edges.proofs.Common.{hart_from}
 use Rattle.std.proofs.Common.{rules}
-use Rattle.std.proofs.Common.{◌≡◌, ◌≢◌, ◌<◌, List, [], ◌∷◌, ◌++◌, Contains, None, Some, sym, ap}
-use Rattle.std.proofs.Common.{◌∙◌, subst, arith}
-use Rattle.std.proofs.lemmas.Option.{none-some}
-use Rattle.rv_event.specs.Operations.{IsLoad}
-use Rattle.rv_event.specs.Log.{of_hart, writer}
-use Rattle.rv_event.specs.Relations.{Paired}
-use Rattle.rv_event.specs.Edges.{IsStale}
-use Rattle.rv_event.specs.Faults.{event_fault}
-use Rattle.rv_event.proofs.Indexed.{Indexed, indexed-push, sound_of}
-use Rattle.rv_event.proofs.Names.{named-is, writer-is}
-use Rattle.rv_event.specs.declared.event.Id.{Id}
-use Rattle.rv_event.specs.declared.event.Event.{Event}
-use Rattle.rv_event.specs.declared.memory_model.MemoryModel.{MemoryModel}
-use Rattle.rv_event.specs.declared.reason.Link.{Link}
-use Rattle.rv_hart.specs.Harts.{Hart, followed, IsReturned}
-use Rattle.rv_hart.specs.RuleLinks.{AreRuleLinks}
-use Rattle.rv_hart.proofs.OfHart.{own_contains, contains_own, own-push, paired_to, paired_from, stale_to, stale_from}
 use Rattle.rv_versions.specs.Reserved.{IsPartner}
-use Rattle.rv_edges.specs.Indexes.{hart_from}
 
 module _ (model : MemoryModel) (log : List Event) (e : Event) (known : Indexed log)
     (sound : event_fault log e ≡ None) where

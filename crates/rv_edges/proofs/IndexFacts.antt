@@ -1,20 +1,8 @@
 -- What the indexes of a history say of its events.
-use Rattle.std.proofs.Common.{◌≡◌, ℕ, ◌≤◌, List, length, None, Some, subst, sym, ap, ◌∙◌, arith}
-use Rattle.std.proofs.lemmas.List.{length-map}
-use Rattle.rv_event.specs.Log.{events}
-use Rattle.rv_event.specs.Faults.{event_fault}
-use Rattle.rv_event.proofs.Indexed.{Indexed}
-use Rattle.rv_event.proofs.Bounded.{length-Indexed}
-use Rattle.rv_event.specs.declared.event.Event.{Event}
-use Rattle.rv_event.specs.declared.event.Entry.{Entry}
-use Rattle.rv_event.specs.declared.memory_model.MemoryModel.{MemoryModel}
-use Rattle.rv_hart.specs.Harts.{Follows}
-use Rattle.rv_hart.specs.Kept.{IsHartOf, hart_of_log}
-use Rattle.rv_hart.specs.declared.hart.HartOrder.{HartOrder}
-use Rattle.rv_hart.proofs.OfHart.{fault_own}
-use Rattle.rv_edges.specs.OwnLinks.{OwnLinks}
-use Rattle.rv_edges.specs.Kept.{Past, kept_from, happened}
-use Rattle.rv_edges.specs.Indexes.{AreHarts, AreIndexes, IsHartIn, hart_in}
+use Rattle.rv_edges.proofs.Common.{◌≡◌, ℕ, ◌≤◌, List, length, None, Some, subst, sym, ap, ◌∙◌, arith, length-map}
+use Rattle.rv_edges.proofs.Common.{events, event_fault, Indexed, length-Indexed, Event, Entry, MemoryModel}
+use Rattle.rv_edges.proofs.Common.{Follows, IsHartOf, hart_of_log, HartOrder, fault_own, OwnLinks, Past}
+use Rattle.rv_edges.proofs.Common.{kept_from, happened, AreHarts, AreIndexes, IsHartIn, hart_in}
 use Rattle.rv_edges.proofs.CarriedEdges.{indexed_from_IsHistory}
 use Rattle.rv_edges.proofs.Sides.{happened-kept_from}
 

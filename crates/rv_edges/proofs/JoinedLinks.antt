@@ -1,36 +1,15 @@
 -- The links by rules and those by versions are together as a history wants them.
+use Rattle.rv_edges.proofs.Common.{common_steps, ◌≡◌, ◌≢◌, ℕ, ◌<◌, Bool, true, false, List, [], ◌∷◌, ◌++◌}
+use Rattle.rv_edges.proofs.Common.{Contains, None, length, ◌⊎◌, inl, inr, refl, sym, ap, ◌∙◌, subst, arith}
+use Rattle.rv_edges.proofs.Common.{false≢true, Contains-append_left, Contains-append_right, Contains-append_cases}
+use Rattle.rv_edges.proofs.Common.{IsMemory, of_hart, Rule, IsPreserved, IsEdge, IsLowest, HasReason, event_fault}
+use Rattle.rv_edges.proofs.Common.{Indexed, sound_of, named-is, edge-push, Id, Event, MemoryModel, Link, Reason}
+use Rattle.rv_edges.proofs.Common.{Preserved, Coherence, ReadsFrom, FromRead, AtomicIn, AtomicOut, AnyRule}
+use Rattle.rv_edges.proofs.Common.{IsSplit, Names, Lists, IsUnsplit, IsNearest, Hart, followed, AreRuleLinks}
+use Rattle.rv_edges.proofs.Common.{own_contains, contains_own, rule_to, any_rule_to, any_rule_from, reaches_from}
+use Rattle.rv_edges.proofs.Common.{preserved_from, lowest_from, IsOfVersions, AreVersionLinks, Kept, happened}
+use Rattle.rv_edges.proofs.Common.{grown, IsLinked, hart_from}
 use Rattle.std.proofs.Common.{rules}
-use Rattle.std.proofs.lemmas.Grind.{common_steps}
-use Rattle.std.proofs.Common.{◌≡◌, ◌≢◌, ℕ, ◌<◌, Bool, true, false, List, [], ◌∷◌, ◌++◌, Contains, None}
-use Rattle.std.proofs.Common.{length, ◌⊎◌, inl, inr, refl, sym, ap, ◌∙◌, subst, arith}
-use Rattle.std.proofs.lemmas.Bool.{false≢true}
-use Rattle.std.proofs.lemmas.List.Elements.{Contains-append_left, Contains-append_right, Contains-append_cases}
-use Rattle.rv_event.specs.Operations.{IsMemory}
-use Rattle.rv_event.specs.Log.{of_hart}
-use Rattle.rv_event.specs.Preserved.{Rule, IsPreserved}
-use Rattle.rv_event.specs.Edges.{IsEdge, IsLowest, HasReason}
-use Rattle.rv_event.specs.Faults.{event_fault}
-use Rattle.rv_event.proofs.Indexed.{Indexed, sound_of}
-use Rattle.rv_event.proofs.Names.{named-is}
-use Rattle.rv_event.proofs.Settled.{edge-push}
-use Rattle.rv_event.specs.declared.event.Id.{Id}
-use Rattle.rv_event.specs.declared.event.Event.{Event}
-use Rattle.rv_event.specs.declared.memory_model.MemoryModel.{MemoryModel}
-use Rattle.rv_event.specs.declared.reason.Link.{Link}
-use Rattle.rv_event.specs.declared.reason.Reason.{Reason}
-use Rattle.rv_event.specs.declared.reason.Reason.TheVariants.{Preserved, Coherence, ReadsFrom, FromRead}
-use Rattle.rv_event.specs.declared.reason.Reason.TheVariants.{AtomicIn, AtomicOut}
-use Rattle.rv_cover.specs.Paths.{AnyRule}
-use Rattle.rv_cover.specs.Carries.{IsSplit}
-use Rattle.rv_cover.specs.Thinned.{Names, Lists, IsUnsplit, IsNearest}
-use Rattle.rv_hart.specs.Harts.{Hart, followed}
-use Rattle.rv_hart.specs.RuleLinks.{AreRuleLinks}
-use Rattle.rv_hart.proofs.OfHart.{own_contains, contains_own, rule_to, any_rule_to, any_rule_from}
-use Rattle.rv_hart.proofs.OfHart.{reaches_from, preserved_from, lowest_from}
-use Rattle.rv_versions.specs.VersionLinks.{IsOfVersions, AreVersionLinks}
-use Rattle.rv_edges.specs.Kept.{Kept, happened, grown}
-use Rattle.rv_edges.specs.Histories.{IsLinked}
-use Rattle.rv_edges.specs.Indexes.{hart_from}
 use Rattle.rv_edges.proofs.HartOfLog.{known', own-new}
 
 -- whether a reason is a rule

@@ -1,3 +1,4 @@
+pub mod Common
 pub mod CarriedEdges
 pub mod Enough
 pub mod HartOfLog

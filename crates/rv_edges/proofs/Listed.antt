@@ -1,7 +1,6 @@
 -- Lists with one more at the end.
-use Rattle.std.proofs.lemmas.Grind.{common_steps}
-use Rattle.std.proofs.Common.{List, [], ◌∷◌, ◌++◌, Contains, refl, arith}
-use Rattle.rv_event.proofs.Names.{Contains-here, Contains-there}
+use Rattle.rv_edges.proofs.Common.{common_steps, List, [], ◌∷◌, ◌++◌, Contains, refl, arith, Contains-here}
+use Rattle.rv_edges.proofs.Common.{Contains-there}
 
 -- what a list contains it still contains
 pub Contains-old : {X : Type 0} (xs : List X) (y x : X) → Contains xs x → Contains (xs ++ y ∷ []) x

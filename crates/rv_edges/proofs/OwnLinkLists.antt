@@ -1,11 +1,7 @@
 -- Links of events, in one list, when one event more comes or the last one goes.
-use Rattle.std.proofs.lemmas.Grind.{common_steps}
-use Rattle.std.proofs.Common.{◌≡◌, ℕ, ◌+◌, ◌-◌, ◌≤◌, List, [], ◌∷◌, ◌++◌, length, take, drop, sym, ap, ◌∙◌, arith}
-use Rattle.std.proofs.lemmas.List.{length-drop, length-take-le}
-use Rattle.std.proofs.Math.Seq.{take-append_seam, drop-append_seam, take-length}
-use Rattle.rv_event.specs.declared.reason.Link.{Link}
-use Rattle.rv_edges.specs.declared.links.Sides.{Sides}
-use Rattle.rv_edges.specs.OwnLinks.{OwnLinks, total, own_from}
+use Rattle.rv_edges.proofs.Common.{common_steps, ◌≡◌, ℕ, ◌+◌, ◌-◌, ◌≤◌, List, [], ◌∷◌, ◌++◌, length, take, drop}
+use Rattle.rv_edges.proofs.Common.{sym, ap, ◌∙◌, arith, length-drop, length-take-le, take-append_seam}
+use Rattle.rv_edges.proofs.Common.{drop-append_seam, take-length, Link, Sides, OwnLinks, total, own_from}
 
 -- one event's links more
 pub total-push : (sides : List Sides) (s : Sides) → total (sides ++ s ∷ []) ≡ total sides + (s.before + s.after)

@@ -1,11 +1,7 @@
 -- Entries and links side by side.
+use Rattle.rv_edges.proofs.Common.{common_steps, ◌≡◌, List, [], ◌∷◌, ◌++◌, length, refl, sym, ap, ◌∙◌, arith}
+use Rattle.rv_edges.proofs.Common.{length-append, Event, OwnLinks, Kept, kept_from, happened}
 use Rattle.std.proofs.Common.{rules}
-use Rattle.std.proofs.lemmas.Grind.{common_steps}
-use Rattle.std.proofs.Common.{◌≡◌, List, [], ◌∷◌, ◌++◌, length}
-use Rattle.std.proofs.Common.{refl, sym, ap, ◌∙◌, arith, length-append}
-use Rattle.rv_event.specs.declared.event.Event.{Event}
-use Rattle.rv_edges.specs.OwnLinks.{OwnLinks}
-use Rattle.rv_edges.specs.Kept.{Kept, kept_from, happened}
 
 -- an entry with its links
 abbrev pub kept_one : Event → OwnLinks → Kept

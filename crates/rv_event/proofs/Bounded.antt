@@ -1,15 +1,9 @@
 -- A well formed log has at most sixteen full harts of events.
-use Rattle.std.proofs.lemmas.Grind.{common_steps}
-use Rattle.std.proofs.Common.{◌≡◌, ℕ, zero, suc, ◌+◌, ◌*◌, ◌<◌, ◌≤◌, Bool, ◌==◌, cond, List, []}
-use Rattle.std.proofs.Common.{◌∷◌, length, Contains, ◌⊎◌, inl, inr, refl, sym, ap, ◌∙◌, arith, eq-eqb}
-use Rattle.std.proofs.lemmas.Bool.{cases_eq, ne_eqb}
-use Rattle.std.proofs.lemmas.List.{length-map}
+use Rattle.rv_event.proofs.Common.{common_steps, ◌≡◌, ℕ, zero, suc, ◌+◌, ◌*◌, ◌<◌, ◌≤◌, Bool, ◌==◌, cond, List}
+use Rattle.rv_event.proofs.Common.{[], ◌∷◌, length, Contains, ◌⊎◌, inl, inr, refl, sym, ap, ◌∙◌, arith, eq-eqb}
+use Rattle.rv_event.proofs.Common.{cases_eq, ne_eqb, length-map, of_hart, events, WellFormed, Event, Entry}
 use Rattle.rv_event.proofs.Names.{Contains-here, Contains-there}
 use Rattle.rv_event.proofs.Indexed.{Indexed, indexed_from_WellFormed}
-use Rattle.rv_event.specs.Log.{of_hart, events}
-use Rattle.rv_event.specs.WellFormed.{WellFormed}
-use Rattle.rv_event.specs.declared.event.Event.{Event}
-use Rattle.rv_event.specs.declared.event.Entry.{Entry}
 
 -- the events of the harts below n
 count_below : ℕ → List Event → ℕ

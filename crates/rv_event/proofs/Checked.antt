@@ -1,15 +1,8 @@
 -- Whether a log is well formed, entry by entry.
-use Rattle.std.proofs.Common.{rules}
-use Rattle.std.proofs.Common.{◌≡◌, ℕ, suc, ◌+◌, ◌<◌, true, false, List, ◌∷◌, ◌++◌, length, take, drop}
-use Rattle.std.proofs.Common.{get_or, Option, Some, None, IsTrue, is_some, ◌↔◌, sym, ◌∙◌}
-use Rattle.std.proofs.Common.{take-append-drop, drop-cons}
-use Rattle.std.proofs.lemmas.Bool.{false≢true}
-use Rattle.std.proofs.lemmas.Option.{none-some}
-use Rattle.std.proofs.lemmas.List.{take_more}
-use Rattle.rv_event.specs.Faults.{fault_of}
-use Rattle.rv_event.specs.WellFormed.{WellFormed}
-use Rattle.rv_event.specs.declared.event.Entry.{Entry}
-use Rattle.rv_event.specs.declared.fault.Fault.{Fault}
+use Rattle.rv_event.proofs.Common.{rules, ◌≡◌, ℕ, suc, ◌+◌, ◌<◌, true, false, List, ◌∷◌, ◌++◌, length, take, drop}
+use Rattle.rv_event.proofs.Common.{get_or, Option, Some, None, IsTrue, is_some, ◌↔◌, sym, ◌∙◌, take-append-drop}
+use Rattle.rv_event.proofs.Common.{drop-cons, false≢true, none-some, take_more, fault_of, WellFormed, Entry}
+use Rattle.rv_event.proofs.Common.{Fault}
 use Rattle.rv_event.proofs.Pushed.{WellFormed-push}
 
 module _ (log : List Entry) (k : ℕ) (x : Entry) (low : k < length log) (is : x ≡ get_or log k x) where

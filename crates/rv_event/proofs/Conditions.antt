@@ -1,17 +1,11 @@
 -- What the condition of a rule says, at its number.
-use Rattle.std.proofs.lemmas.Grind.{common_steps}
-use Rattle.rv_event.specs.declared.memory_model.MemoryModel.{MemoryModel}
-use Rattle.std.proofs.Common.{◌<◌, arith, ◌≡◌, ℕ, Bool, List, IsTrue, ◌↔◌}
-use Rattle.rv_event.specs.Operations.{IsStore}
-use Rattle.rv_event.specs.Relations.{Paired, Fenced, DependsOn, ControlDependsOn}
-use Rattle.rv_event.specs.Annotations.{IsAcquire, IsRelease, IsRcsc}
-use Rattle.rv_event.specs.Preserved.{Condition, overlapping_store, different_reads, reads_atomic_write}
-use Rattle.rv_event.specs.Preserved.{fenced, after_acquire, before_release, both_rcsc, paired, address}
-use Rattle.rv_event.specs.Preserved.{data_of, control, reads_dependent_write, after_dependent_address}
-use Rattle.rv_event.specs.Preserved.{OverlappingStore, DifferentReads, ReadsAtomicWrite, ReadsDependentWrite}
-use Rattle.rv_event.specs.Preserved.{AfterDependentAddress}
-use Rattle.rv_event.specs.declared.event.Event.{Event}
-use Rattle.rv_event.specs.declared.event.DepKind.TheVariants.{Addr, DataOf}
+use Rattle.rv_event.proofs.Common.{common_steps, MemoryModel, ◌<◌, arith, ◌≡◌, ℕ, Bool, List, IsTrue, ◌↔◌}
+use Rattle.rv_event.proofs.Common.{IsStore, Paired, Fenced, DependsOn, ControlDependsOn, IsAcquire, IsRelease}
+use Rattle.rv_event.proofs.Common.{IsRcsc, Condition, overlapping_store, different_reads, reads_atomic_write}
+use Rattle.rv_event.proofs.Common.{fenced, after_acquire, before_release, both_rcsc, paired, address, data_of}
+use Rattle.rv_event.proofs.Common.{control, reads_dependent_write, after_dependent_address, OverlappingStore}
+use Rattle.rv_event.proofs.Common.{DifferentReads, ReadsAtomicWrite, ReadsDependentWrite, AfterDependentAddress}
+use Rattle.rv_event.proofs.Common.{Event, Addr, DataOf}
 
 -- a test of what a rule says is a test of the rule's condition, at its number
 at_number : {C : Type 0} (model : MemoryModel) (log : List Event) (a b : Event) (n k : ℕ) (r : Bool) → k ≡ n →

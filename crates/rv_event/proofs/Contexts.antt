@@ -1,12 +1,7 @@
 -- The faults by a context are those over a log that tells it.
-use Rattle.std.proofs.Common.{arith}
-use Rattle.std.proofs.lemmas.Grind.{common_steps}
-use Rattle.std.proofs.Common.{◌≡◌, List, Option, None, Some, option_map, refl}
-use Rattle.rv_event.specs.Faults.{first_faults, taken_fault}
-use Rattle.rv_event.specs.Contexts.{IsContext, faults_in, taken_in}
-use Rattle.rv_event.specs.declared.context.Context.{Context}
-use Rattle.rv_event.specs.declared.event.Event.{Event}
-use Rattle.rv_event.specs.declared.fault.Fault.TheVariants.{VersionTaken}
+use Rattle.rv_event.proofs.Common.{arith, common_steps, ◌≡◌, List, Option, None, Some, option_map, refl}
+use Rattle.rv_event.proofs.Common.{first_faults, taken_fault, IsContext, faults_in, taken_in, Context, Event}
+use Rattle.rv_event.proofs.Common.{VersionTaken}
 
 named_twice : (o : Option Event) → option_map VersionTaken (option_map (λ (w : Event). w.id) o) ≡ option_map
     (λ (w : Event). VersionTaken w.id) o

@@ -1,29 +1,16 @@
 -- What stays when a log grows: names, what stands between two old events, writers, rules and edges.
-use Rattle.std.proofs.Common.{rules}
-use Rattle.rv_event.specs.declared.memory_model.MemoryModel.{MemoryModel}
-use Rattle.std.proofs.Common.{◌≡◌, ℕ, ◌<◌, Bool, true, false, ◌==◌, cond, List, [], ◌∷◌, ◌++◌, map, length}
-use Rattle.std.proofs.Common.{filter, Contains, All, Any, find, Some, refl, sym, ap, ◌∙◌, arith, subst}
-use Rattle.std.proofs.Common.{slice_index_or, IsFalse, IsTrue, ◌≢◌}
-use Rattle.std.proofs.lemmas.Bool.{and_parts, false≢true}
-use Rattle.std.proofs.lemmas.Option.{same_Some}
-use Rattle.std.proofs.lemmas.List.{map-append}
-use Rattle.std.proofs.lemmas.List.Elements.{All-contains, Contains-get_or}
+use Rattle.rv_event.proofs.Common.{rules, MemoryModel, ◌≡◌, ℕ, ◌<◌, Bool, true, false, ◌==◌, cond, List, [], ◌∷◌}
+use Rattle.rv_event.proofs.Common.{◌++◌, map, length, filter, Contains, All, Any, find, Some, refl, sym, ap, ◌∙◌}
+use Rattle.rv_event.proofs.Common.{arith, subst, slice_index_or, IsFalse, IsTrue, ◌≢◌, and_parts, false≢true}
+use Rattle.rv_event.proofs.Common.{same_Some, map-append, All-contains, Contains-get_or, IsStore, is_exclusive}
+use Rattle.rv_event.proofs.Common.{same_id, named, of_hart, writer, events, Earlier, Between, Paired}
+use Rattle.rv_event.proofs.Common.{fence_orders, Condition, overlapping_store, different_reads}
+use Rattle.rv_event.proofs.Common.{reads_atomic_write, fenced, after_acquire, before_release, both_rcsc, paired}
+use Rattle.rv_event.proofs.Common.{address, data_of, control, reads_dependent_write, after_dependent_address}
+use Rattle.rv_event.proofs.Common.{Rule, HasReason, IsEdge, IsStale, entries_of, Continues, Id, Event, Entry}
+use Rattle.rv_event.proofs.Common.{Reason, Preserved, Coherence, ReadsFrom, FromRead, AtomicIn, AtomicOut}
 use Rattle.rv_event.proofs.Names.{named-is, writer-is}
 use Rattle.rv_event.proofs.Indexed.{Indexed, find-append_some}
-use Rattle.rv_event.specs.Operations.{IsStore, is_exclusive}
-use Rattle.rv_event.specs.Log.{same_id, named, of_hart, writer, events, Earlier, Between}
-use Rattle.rv_event.specs.Relations.{Paired, fence_orders}
-use Rattle.rv_event.specs.Preserved.{Condition, overlapping_store, different_reads, reads_atomic_write}
-use Rattle.rv_event.specs.Preserved.{fenced, after_acquire, before_release, both_rcsc, paired, address}
-use Rattle.rv_event.specs.Preserved.{data_of, control, reads_dependent_write, after_dependent_address, Rule}
-use Rattle.rv_event.specs.Edges.{HasReason, IsEdge, IsStale}
-use Rattle.rv_event.specs.WellFormed.{entries_of, Continues}
-use Rattle.rv_event.specs.declared.event.Id.{Id}
-use Rattle.rv_event.specs.declared.event.Event.{Event}
-use Rattle.rv_event.specs.declared.event.Entry.{Entry}
-use Rattle.rv_event.specs.declared.reason.Reason.{Reason}
-use Rattle.rv_event.specs.declared.reason.Reason.TheVariants.{Preserved, Coherence, ReadsFrom, FromRead}
-use Rattle.rv_event.specs.declared.reason.Reason.TheVariants.{AtomicIn, AtomicOut}
 
 -- a search looks only where its test can pass
 pub find-filter : {X : Type 0} (p q : X → Bool) → ((x : X) → p x ≡ true → q x ≡ true) → (xs : List X) →
@@ -120,8 +107,7 @@ module _ (model : MemoryModel) (old new : List Event) (grows : Grows old new) (k
   -- what holds of each old event between two old ones holds of each new one
   All-grows : (a b : Event) → Contains old b → (P : Event → Type 0) → All (λ m. Between a m b → P m) old →
       All (λ m. Between a m b → P m) new
-  All-grows a b cb P all =
-      All-from_contains (λ m. Between a m b → P m) new
+  All-grows a b cb P all = All-from_contains (λ m. Between a m b → P m) new
       (λ m cm between. All-contains (λ m. Between a m b → P m) old m all
       (earlier_old m b cb cm between.before) between)
 

@@ -1,26 +1,13 @@
 -- In a well formed log each event is the one that its id names, a hart's numbers have no gap, and
 -- each store is the writer of its version.
-use Rattle.std.proofs.lemmas.Grind.{common_steps}
-use Rattle.std.proofs.Common.{rules}
-use Rattle.std.proofs.Common.{◌≡◌, ℕ, ◌+◌, ◌<◌, ◌≤◌, Bool, true, false, ◌&&◌, ◌==◌, cond, List}
-use Rattle.std.proofs.Common.{[], ◌∷◌, ◌++◌, length, filter, Contains, find, Option, Some, None, ◌⊎◌, inl}
-use Rattle.std.proofs.Common.{inr, refl, sym, ◌∙◌, arith, eq-eqb, append_assoc}
-use Rattle.std.proofs.Common.{append-nil, subst}
-use Rattle.std.proofs.lemmas.Bool.{and_from, cases_eq}
-use Rattle.std.proofs.lemmas.Option.{none-some}
-use Rattle.std.proofs.lemmas.List.Elements.{Contains-push_cases}
-use Rattle.std.proofs.lemmas.List.Folds.{find-append}
+use Rattle.rv_event.proofs.Common.{common_steps, rules, ◌≡◌, ℕ, ◌+◌, ◌<◌, ◌≤◌, Bool, true, false, ◌&&◌, ◌==◌}
+use Rattle.rv_event.proofs.Common.{cond, List, [], ◌∷◌, ◌++◌, length, filter, Contains, find, Option, Some, None}
+use Rattle.rv_event.proofs.Common.{◌⊎◌, inl, inr, refl, sym, ◌∙◌, arith, eq-eqb, append_assoc, append-nil, subst}
+use Rattle.rv_event.proofs.Common.{and_from, cases_eq, none-some, Contains-push_cases, find-append, is_store}
+use Rattle.rv_event.proofs.Common.{IsStore, same_id, named, of_hart, writer, events, fault_if, lowest, expected}
+use Rattle.rv_event.proofs.Common.{first_faults, source_fault, deps_fault, taken_fault, event_fault, WellFormed}
+use Rattle.rv_event.proofs.Common.{Id, Event, Entry, Fault, map-append}
 use Rattle.rv_event.proofs.Names.{same_id-refl, named-is}
-use Rattle.rv_event.specs.Operations.{is_store, IsStore}
-use Rattle.rv_event.specs.Log.{same_id, named, of_hart, writer, events}
-use Rattle.rv_event.specs.Faults.{fault_if, lowest, expected, first_faults, source_fault, deps_fault}
-use Rattle.rv_event.specs.Faults.{taken_fault, event_fault}
-use Rattle.rv_event.specs.WellFormed.{WellFormed}
-use Rattle.rv_event.specs.declared.event.Id.{Id}
-use Rattle.rv_event.specs.declared.event.Event.{Event}
-use Rattle.rv_event.specs.declared.event.Entry.{Entry}
-use Rattle.rv_event.specs.declared.fault.Fault.{Fault}
-use Rattle.std.proofs.lemmas.List.{map-append}
 
 -- what the laws use of an event without a fault
 pub record Sound (log : List Event) (e : Event) : Type 0 where

@@ -1,17 +1,11 @@
 -- An order is lawful for every merge of the same runs, or for none.
-use Rattle.std.proofs.Common.{rules}
-use Rattle.rv_event.specs.declared.memory_model.MemoryModel.{MemoryModel}
-use Rattle.std.proofs.Common.{◌≡◌, ℕ, List, [], Contains, Some, sym, ◌∙◌, append-nil}
+use Rattle.rv_event.proofs.Common.{rules, MemoryModel, ◌≡◌, ℕ, List, [], Contains, Some, sym, ◌∙◌, append-nil}
+use Rattle.rv_event.proofs.Common.{events, writer, IsOperation, Candidate, Lawful, WellFormed, Continues}
+use Rattle.rv_event.proofs.Common.{entries_of, Id, Event, Entry}
 use Rattle.rv_event.proofs.Indexed.{Indexed, indexed_from_WellFormed}
 use Rattle.rv_event.proofs.Growing.{Grows, grows_from_Continues, named-grows, Contains-grows, Rule-grows}
 use Rattle.rv_event.proofs.Growing.{writer-grows, Paired-grows}
 use Rattle.rv_event.proofs.Merged.{SameHarts}
-use Rattle.rv_event.specs.Log.{events, writer}
-use Rattle.rv_event.specs.Orders.{IsOperation, Candidate, Lawful}
-use Rattle.rv_event.specs.WellFormed.{WellFormed, Continues, entries_of}
-use Rattle.rv_event.specs.declared.event.Id.{Id}
-use Rattle.rv_event.specs.declared.event.Event.{Event}
-use Rattle.rv_event.specs.declared.event.Entry.{Entry}
 
 Continues-same : (one other : List Entry) → SameHarts one other → Continues one other
 Continues-same one other same hart = ([], sym (same hart) ∙ sym (append-nil (entries_of hart one)))

@@ -1,3 +1,4 @@
+pub mod Common
 pub mod Bounded
 pub mod Checked
 pub mod Conditions

@@ -1,27 +1,15 @@
 -- A log is well formed whatever the order in which the harts' entries were merged.
-use Rattle.std.proofs.lemmas.Grind.{common_steps}
-use Rattle.std.proofs.Common.{rules}
-use Rattle.std.proofs.Common.{◌≡◌, ℕ, Bool, true, false, not, ltb, leb, ◌&&◌, ◌==◌, cond, List, [], ◌∷◌}
-use Rattle.std.proofs.Common.{◌++◌, length, filter, reverse, Contains, find, Some, None, unwrap_or}
-use Rattle.std.proofs.Common.{option_map, ◌⊎◌, inl, inr, ⊎_elim, refl, sym, ap, ◌∙◌, arith, subst}
-use Rattle.std.proofs.Common.{eq-eqb, eqb-true}
-use Rattle.std.proofs.lemmas.List.{map-append}
-use Rattle.std.specs.List.{list_any}
-use Rattle.std.proofs.lemmas.Bool.{false≢true, and_parts}
-use Rattle.std.proofs.lemmas.List.Elements.{filter-append, Contains-append_right}
-use Rattle.std.proofs.lemmas.Map.Views.{any-filter_same}
+use Rattle.rv_event.proofs.Common.{common_steps, rules, ◌≡◌, ℕ, Bool, true, false, not, ltb, leb, ◌&&◌, ◌==◌}
+use Rattle.rv_event.proofs.Common.{cond, List, [], ◌∷◌, ◌++◌, length, filter, reverse, Contains, find, Some, None}
+use Rattle.rv_event.proofs.Common.{unwrap_or, option_map, ◌⊎◌, inl, inr, ⊎_elim, refl, sym, ap, ◌∙◌, arith, subst}
+use Rattle.rv_event.proofs.Common.{eq-eqb, eqb-true, map-append, list_any, false≢true, and_parts, filter-append}
+use Rattle.rv_event.proofs.Common.{Contains-append_right, any-filter_same, IsStore, of_hart, writer, events}
+use Rattle.rv_event.proofs.Common.{expected, dependency_fault, taken_fault, reservation_fault, source_fault}
+use Rattle.rv_event.proofs.Common.{deps_fault, fault_of, WellFormed, entries_of, Event, Entry}
 use Rattle.rv_event.proofs.Names.{writer-is, Contains-cons, Contains-here, Contains-there}
 use Rattle.rv_event.proofs.Indexed.{indexed_from_WellFormed, sound_from_none, lowest-none, none-lowest}
 use Rattle.rv_event.proofs.Growing.{filter-map, named-of_hart}
 use Rattle.rv_event.proofs.Pushed.{WellFormed-front}
-use Rattle.rv_event.specs.Operations.{IsStore}
-use Rattle.rv_event.specs.Log.{of_hart, writer, events}
-use Rattle.rv_event.specs.Faults.{expected}
-use Rattle.rv_event.specs.Faults.{dependency_fault, taken_fault, reservation_fault, source_fault, deps_fault}
-use Rattle.rv_event.specs.Faults.{fault_of}
-use Rattle.rv_event.specs.WellFormed.{WellFormed, entries_of}
-use Rattle.rv_event.specs.declared.event.Event.{Event}
-use Rattle.rv_event.specs.declared.event.Entry.{Entry}
 
 -- where a filtered list is cut, the list itself can be cut
 record IsCut {X : Type 0} (p : X → Bool) (xs ys : List X) (x : X) : Type 0 where
@@ -87,8 +75,7 @@ module _ (one other : List Entry) (x : Entry)
   unfolding other_source
   in_hart log =
       any-filter_same other_source (λ (y : Entry). x.event.id.hart == y.event.id.hart) true
-      (λ y t. eq-eqb x.event.id.hart y.event.id.hart
-      (sym (eqb-true y.event.id.hart x.event.id.hart
+      (λ y t. eq-eqb x.event.id.hart y.event.id.hart (sym (eqb-true y.event.id.hart x.event.id.hart
       (and_parts (y.event.id.hart == x.event.id.hart) (not (y.source == x.source)) t).0))) log
 
   same_source : source_fault one x ≡ source_fault other x

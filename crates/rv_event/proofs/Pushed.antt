@@ -1,11 +1,6 @@
 -- A well formed log with one more entry.
-use Rattle.std.proofs.lemmas.Grind.{common_steps}
-use Rattle.std.proofs.Common.{rules}
-use Rattle.std.proofs.Common.{◌≡◌, List, [], ◌∷◌, ◌++◌, length, ◌⊎◌, inl, inr, refl, ap, arith}
-use Rattle.std.proofs.Common.{None, length-append}
-use Rattle.rv_event.specs.Faults.{fault_of}
-use Rattle.rv_event.specs.WellFormed.{WellFormed}
-use Rattle.rv_event.specs.declared.event.Entry.{Entry}
+use Rattle.rv_event.proofs.Common.{common_steps, rules, ◌≡◌, List, [], ◌∷◌, ◌++◌, length, ◌⊎◌, inl, inr, refl, ap}
+use Rattle.rv_event.proofs.Common.{arith, None, length-append, fault_of, WellFormed, Entry}
 
 -- a list with one more at its end is cut at that one, or before it
 pub split_push : {X : Type 0} (xs : List X) (x : X) (before after : List X) (y : X) → xs ++ x ∷ [] ≡ before ++ y ∷

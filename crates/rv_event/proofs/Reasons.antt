@@ -1,13 +1,6 @@
 -- No reason is left.
-use Rattle.std.proofs.Common.{ℕ, List}
-use Rattle.rv_event.specs.Edges.{IsEdge}
-use Rattle.rv_event.specs.Preserved.{IsPreserved}
-use Rattle.rv_event.specs.declared.event.Id.{Id}
-use Rattle.rv_event.specs.declared.event.Event.{Event}
-use Rattle.rv_event.specs.declared.memory_model.MemoryModel.{MemoryModel}
-use Rattle.rv_event.specs.declared.reason.Reason.{Reason}
-use Rattle.rv_event.specs.declared.reason.Reason.TheVariants.{Preserved, Coherence, ReadsFrom, FromRead}
-use Rattle.rv_event.specs.declared.reason.Reason.TheVariants.{AtomicIn, AtomicOut}
+use Rattle.rv_event.proofs.Common.{ℕ, List, IsEdge, IsPreserved, Id, Event, MemoryModel, Reason, Preserved}
+use Rattle.rv_event.proofs.Common.{Coherence, ReadsFrom, FromRead, AtomicIn, AtomicOut}
 
 -- no rule and no other reason: no edge
 pub no_reason : (model : MemoryModel) (log : List Event) (i j : Id) → ((k : ℕ) → IsPreserved model log k i j → ⊥) →

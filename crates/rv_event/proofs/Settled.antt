@@ -1,31 +1,18 @@
 -- An edge between two events of a log is decided for good: no later event adds one or takes one
 -- away.
-use Rattle.std.proofs.Common.{arith}
-use Rattle.std.proofs.lemmas.Grind.{common_steps}
-use Rattle.std.proofs.Common.{rules}
-use Rattle.rv_event.specs.declared.memory_model.MemoryModel.{MemoryModel}
-use Rattle.std.proofs.Common.{◌≡◌, ℕ, List, [], ◌∷◌, ◌++◌, Contains, All, Any, Some, ◌⊎◌, inl, inr, sym, ap}
-use Rattle.std.proofs.Common.{◌∙◌, IsFalse, IsTrue, ◌≢◌, ◌==◌}
-use Rattle.std.proofs.lemmas.List.Elements.{All-contains, filter-append, Contains-push_cases}
+use Rattle.rv_event.proofs.Common.{arith, common_steps, rules, MemoryModel, ◌≡◌, ℕ, List, [], ◌∷◌, ◌++◌, Contains}
+use Rattle.rv_event.proofs.Common.{All, Any, Some, ◌⊎◌, inl, inr, sym, ap, ◌∙◌, IsFalse, IsTrue, ◌≢◌, ◌==◌}
+use Rattle.rv_event.proofs.Common.{All-contains, filter-append, Contains-push_cases, IsStore, is_exclusive}
+use Rattle.rv_event.proofs.Common.{of_hart, writer, Earlier, Between, Paired, DependsOn, fence_orders, Condition}
+use Rattle.rv_event.proofs.Common.{overlapping_store, different_reads, reads_atomic_write, fenced, after_acquire}
+use Rattle.rv_event.proofs.Common.{before_release, both_rcsc, paired, address, data_of, control}
+use Rattle.rv_event.proofs.Common.{reads_dependent_write, after_dependent_address, IsDependentWrite, HasReason}
+use Rattle.rv_event.proofs.Common.{IsEdge, Branch, Addr, Ctrl, Id, Event, Reason, Preserved, Coherence, ReadsFrom}
+use Rattle.rv_event.proofs.Common.{FromRead, AtomicIn, AtomicOut}
 use Rattle.rv_event.proofs.Names.{named-is, writer-is}
 use Rattle.rv_event.proofs.Indexed.{Indexed, Sound, indexed-push}
 use Rattle.rv_event.proofs.Growing.{Grows, Any-contains, Any-from_contains, All-from_contains, Contains-grows}
 use Rattle.rv_event.proofs.Growing.{earlier_old}
-use Rattle.rv_event.specs.Operations.{IsStore, is_exclusive}
-use Rattle.rv_event.specs.Log.{of_hart, writer, Earlier, Between}
-use Rattle.rv_event.specs.Relations.{Paired, DependsOn, fence_orders}
-use Rattle.rv_event.specs.Preserved.{Condition, overlapping_store, different_reads, reads_atomic_write}
-use Rattle.rv_event.specs.Preserved.{fenced, after_acquire, before_release, both_rcsc, paired, address}
-use Rattle.rv_event.specs.Preserved.{data_of, control, reads_dependent_write, after_dependent_address}
-use Rattle.rv_event.specs.Preserved.{IsDependentWrite}
-use Rattle.rv_event.specs.Edges.{HasReason, IsEdge}
-use Rattle.rv_event.specs.declared.event.Op.TheVariants.{Branch}
-use Rattle.rv_event.specs.declared.event.DepKind.TheVariants.{Addr, Ctrl}
-use Rattle.rv_event.specs.declared.event.Id.{Id}
-use Rattle.rv_event.specs.declared.event.Event.{Event}
-use Rattle.rv_event.specs.declared.reason.Reason.{Reason}
-use Rattle.rv_event.specs.declared.reason.Reason.TheVariants.{Preserved, Coherence, ReadsFrom, FromRead}
-use Rattle.rv_event.specs.declared.reason.Reason.TheVariants.{AtomicIn, AtomicOut}
 
 module _ (model : MemoryModel) (old new : List Event) (grows : Grows old new) (known : Indexed old)
     (known' : Indexed new) where

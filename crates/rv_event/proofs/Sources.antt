@@ -1,20 +1,13 @@
 -- A log is well formed whatever the order in which its sources were merged.
-use Rattle.std.proofs.Common.{rules}
-use Rattle.std.proofs.lemmas.Grind.{common_steps}
-use Rattle.std.proofs.Common.{◌≡◌, ℕ, Bool, true, false, not, ◌&&◌, ◌==◌, cond, List, [], ◌∷◌, ◌++◌, filter}
-use Rattle.std.proofs.Common.{Contains, None, ◌⊎◌, inl, inr, refl, sym, ap, ◌∙◌, arith, subst, eq-eqb}
-use Rattle.std.proofs.Common.{eqb-true, append_assoc, append-nil}
-use Rattle.std.specs.List.{list_any}
-use Rattle.std.proofs.lemmas.Bool.{false≢true, not-false}
-use Rattle.std.proofs.lemmas.List.Elements.{Contains-push_cases, All-contains, filter_passes}
+use Rattle.rv_event.proofs.Common.{rules, common_steps, ◌≡◌, ℕ, Bool, true, false, not, ◌&&◌, ◌==◌, cond, List}
+use Rattle.rv_event.proofs.Common.{[], ◌∷◌, ◌++◌, filter, Contains, None, ◌⊎◌, inl, inr, refl, sym, ap, ◌∙◌}
+use Rattle.rv_event.proofs.Common.{arith, subst, eq-eqb, eqb-true, append_assoc, append-nil, list_any, false≢true}
+use Rattle.rv_event.proofs.Common.{not-false, Contains-push_cases, All-contains, filter_passes, events}
+use Rattle.rv_event.proofs.Common.{first_faults, source_fault, deps_fault, fault_of, WellFormed, entries_of}
+use Rattle.rv_event.proofs.Common.{SameSources, Entry}
 use Rattle.rv_event.proofs.Names.{Contains-here, Contains-there}
 use Rattle.rv_event.proofs.Indexed.{NoneOf, lowest-none}
 use Rattle.rv_event.proofs.Merged.{SameHarts, Contains-filter, Contains-unfilter, WellFormed-merge}
-use Rattle.rv_event.specs.Log.{events}
-use Rattle.rv_event.specs.Faults.{first_faults, source_fault, deps_fault, fault_of}
-use Rattle.rv_event.specs.WellFormed.{WellFormed, entries_of}
-use Rattle.rv_event.specs.Merges.{SameSources}
-use Rattle.rv_event.specs.declared.event.Entry.{Entry}
 
 none_passes : {X : Type 0} (p : X → Bool) (xs : List X) (x : X) → list_any p xs ≡ false → Contains xs x → p x ≡ false
 none_passes p xs x h l = grind (arith, common_steps)
@@ -23,8 +16,7 @@ none_passes p xs x h l = grind (arith, common_steps)
 filter-through : {X : Type 0} (p q : X → Bool) (xs : List X) → ((x : X) → Contains xs x → p x ≡ true → q x ≡ true) →
     filter p xs ≡ filter p (filter q xs)
 filter-through p q [] only = refl
-filter-through {X} p q (x ∷ xs) only =
-    go (p x) refl (q x) refl (only x (Contains-here x xs x refl))
+filter-through {X} p q (x ∷ xs) only = go (p x) refl (q x) refl (only x (Contains-here x xs x refl))
     (filter-through p q xs (λ y c. only y (Contains-there x xs y c)))
   where
     go : (b : Bool) → p x ≡ b → (d : Bool) → q x ≡ d → (p x ≡ true → q x ≡ true) →

@@ -1,17 +1,8 @@
 -- The candidates, to which each rule has added what it orders, are enough.
-use Rattle.std.proofs.Common.{◌≡◌, ℕ, ◌+◌, ◌<◌, ◌≤◌, List, length, Contains}
-use Rattle.std.proofs.Common.{◌⊎◌, inl, inr, refl, arith, subst}
-use Rattle.std.proofs.lemmas.Bool.{cases_lt, cases_eq}
-use Rattle.std.proofs.lemmas.Grind.{common_steps}
-use Rattle.std.proofs.Common.{rules}
-use Rattle.rv_event.proofs.Conditions.{Condition-number, Condition-above}
-use Rattle.rv_event.specs.Preserved.{Rule}
-use Rattle.rv_event.specs.declared.event.Event.{Event}
-use Rattle.rv_rows.specs.Bits.{Has}
-use Rattle.rv_rows.specs.Closure.{RowHas}
-use Rattle.rv_hart.specs.Harts.{Hart, followed}
-use Rattle.rv_hart.specs.Rows.{IsOrderedBy, IsCandidate, IsGenerated, IsEnough, RowsMean}
-use Rattle.rv_hart.specs.RuleRows.{IsOverlapRow, Adds}
+use Rattle.rv_hart.proofs.Common.{◌≡◌, ℕ, ◌+◌, ◌<◌, ◌≤◌, List, length, Contains, ◌⊎◌, inl, inr, refl, arith}
+use Rattle.rv_hart.proofs.Common.{subst, cases_lt, cases_eq, common_steps, rules, Condition-number}
+use Rattle.rv_hart.proofs.Common.{Condition-above, Rule, Event, Has, RowHas, Hart, followed, IsOrderedBy}
+use Rattle.rv_hart.proofs.Common.{IsCandidate, IsGenerated, IsEnough, RowsMean, IsOverlapRow, Adds}
 use Rattle.rv_hart.proofs.HartFacts.{Fits}
 use Rattle.rv_hart.proofs.RowMeanings.{row_own, rule-old}
 
@@ -35,9 +26,9 @@ added-more h e k first row row' so more = record {
 }
 
 -- all rules
-pub enough-added : (h : Hart) (e : Event) (f : Fits h e) (first row : List ℕ) → IsOverlapRow h e first →
+pub enough-added : {h : Hart} {e : Event} (f : Fits h e) (first row : List ℕ) → IsOverlapRow h e first →
     AreAdded h e 13 first row → IsEnough h e row
-enough-added h e f first row overlaps added = record { sound = sound; enough = enough }
+enough-added {h} {e} f first row overlaps added = record { sound = sound; enough = enough }
   where
     sound : (s : ℕ) → Has row s → IsCandidate h e s
     sound s x = elim (added.sound s x) [ inl y ↦ (1, overlaps.sound s y) | inr y ↦ y ]
@@ -55,7 +46,7 @@ enough-added h e f first row overlaps added = record { sound = sound; enough = e
         below = Condition-number h.model (followed h e) a e k r.condition
 
         ca : Contains h.events a
-        ca = rule-old h e f k a r
+        ca = rule-old f k a r
 
         go : (k ≡ 1) ⊎ (k ≡ 1 → ⊥) → IsGenerated h row a
         go (inl one) = overlap a (overlaps.enough a (subst (λ (j : ℕ). Rule h.model (followed h e) j a e) one r))
@@ -68,9 +59,9 @@ enough-added h e f first row overlaps added = record { sound = sound; enough = e
         }
 
 -- a candidate has a row, and stands in it
-pub candidates-own : (h : Hart) (e : Event) (f : Fits h e) (rows : List (List ℕ)) (all : List ℕ) → RowsMean h rows →
+pub candidates-own : {h : Hart} {e : Event} (f : Fits h e) (rows : List (List ℕ)) (all : List ℕ) → RowsMean h rows →
     length rows ≡ length h.events → IsEnough h e all → (b : ℕ) → Has all b → (b < length rows) × RowHas rows b b
-candidates-own h e f rows all mean count enough b x =
+candidates-own {h} {e} f rows all mean count enough b x =
     let o = (enough.sound b x).1 in
     let low = f.known.below o.a o.of_hart in
     let at = o.at in

@@ -1,13 +1,8 @@
 -- The row of the events on which an event depends, as it grows.
-use Rattle.std.proofs.Common.{◌≡◌, ℕ, ◌+◌, ◌<◌, ◌||◌, ◌==◌, ◌↔◌, List, [], ◌∷◌, ◌++◌, length, get_or, take}
-use Rattle.std.proofs.Common.{Contains, IsTrue, ◌⊎◌, inl, inr, sym, ap, ◌∙◌, subst, eqb-true, eq-eqb}
-use Rattle.std.proofs.lemmas.Bool.{or_cases, or_left, or_right}
-use Rattle.std.proofs.lemmas.List.{take_more}
-use Rattle.std.proofs.lemmas.List.Elements.{Contains-push_cases, Contains-push, Contains-append_left}
-use Rattle.rv_event.specs.declared.event.Dep.{Dep}
-use Rattle.rv_event.specs.declared.event.DepKind.{DepKind}
-use Rattle.rv_rows.specs.Bits.{Has, has_bit}
-use Rattle.rv_hart.specs.Sets.{NamesMemory}
+use Rattle.rv_hart.proofs.Common.{◌≡◌, ℕ, ◌+◌, ◌<◌, ◌||◌, ◌==◌, ◌↔◌, List, [], ◌∷◌, ◌++◌, length, get_or, take}
+use Rattle.rv_hart.proofs.Common.{Contains, IsTrue, ◌⊎◌, inl, inr, sym, ap, ◌∙◌, subst, eqb-true, eq-eqb}
+use Rattle.rv_hart.proofs.Common.{or_cases, or_left, or_right, take_more, Contains-push_cases, Contains-push}
+use Rattle.rv_hart.proofs.Common.{Contains-append_left, Dep, DepKind, Has, has_bit, NamesMemory}
 
 -- the row has what it had and the memory operations that a dependency of this kind names
 abbrev pub AddsNamed : DepKind → List ℕ → List ℕ → List Dep → List ℕ → List ℕ → Type 0

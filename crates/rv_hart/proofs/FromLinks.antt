@@ -1,28 +1,11 @@
 -- The row of a new event from the links into it.
-use Rattle.std.proofs.Common.{◌≡◌, ℕ, ◌+◌, ◌<◌, ◌||◌, ◌↔◌, List, [], ◌∷◌, ◌++◌, length, get_or, take}
-use Rattle.std.proofs.Common.{Contains, ◌⊎◌, inl, inr, sym, refl, ap, ◌∙◌, arith, subst}
-use Rattle.std.proofs.Common.{◌==◌, ◌≤◌, false, zero, suc, All}
-use Rattle.std.proofs.lemmas.Bool.{or_cases, or_left, or_right}
-use Rattle.std.proofs.lemmas.List.{take_more}
-use Rattle.std.proofs.lemmas.List.Elements.{Contains-push_cases, Contains-push, All-contains}
-use Rattle.std.proofs.lemmas.Grind.{common_steps}
-use Rattle.std.proofs.Common.{rules}
-use Rattle.rv_event.specs.Operations.{IsMemory}
-use Rattle.rv_event.specs.Preserved.{Rule}
-use Rattle.rv_event.specs.declared.event.Id.{Id}
-use Rattle.rv_event.specs.declared.event.Event.{Event}
-use Rattle.rv_event.specs.declared.reason.Link.{Link}
-use Rattle.rv_event.specs.declared.reason.Reason.TheVariants.{Preserved}
-use Rattle.rv_rows.specs.Bits.{Has, has_bit}
-use Rattle.rv_rows.specs.Closure.{RowHas}
-use Rattle.rv_cover.specs.Paths.{Reaches}
-use Rattle.rv_cover.specs.Carries.{IsSplit}
-use Rattle.rv_cover.specs.Thinned.{Names}
-use Rattle.rv_cover.proofs.Covering.{reaches-earlier}
-use Rattle.rv_hart.specs.Harts.{Hart, followed, hart_with}
-use Rattle.rv_hart.specs.Linked.{IsLinked, HaveRows, HasOwn}
-use Rattle.rv_hart.specs.Rows.{IsOrderedBy, IsBefore, RowsMean}
-use Rattle.rv_hart.specs.RuleLinks.{AreEnoughLinks}
+use Rattle.rv_hart.proofs.Common.{◌≡◌, ℕ, ◌+◌, ◌<◌, ◌||◌, ◌↔◌, List, [], ◌∷◌, ◌++◌, length, get_or, take}
+use Rattle.rv_hart.proofs.Common.{Contains, ◌⊎◌, inl, inr, sym, refl, ap, ◌∙◌, arith, subst, ◌==◌, ◌≤◌, false}
+use Rattle.rv_hart.proofs.Common.{zero, suc, All, or_cases, or_left, or_right, take_more, Contains-push_cases}
+use Rattle.rv_hart.proofs.Common.{Contains-push, All-contains, common_steps, rules, IsMemory, Rule, Id, Event}
+use Rattle.rv_hart.proofs.Common.{Link, Preserved, Has, has_bit, RowHas, Reaches, IsSplit, Names, reaches-earlier}
+use Rattle.rv_hart.proofs.Common.{Hart, followed, hart_with, IsLinked, HaveRows, HasOwn, IsOrderedBy, IsBefore}
+use Rattle.rv_hart.proofs.Common.{RowsMean, AreEnoughLinks}
 use Rattle.rv_hart.proofs.HartFacts.{Known, Fits, same_event, old_new}
 use Rattle.rv_hart.proofs.RowMeanings.{LastStep, last_step, Leads, leads-rule, leads-grows, leads-settled}
 use Rattle.rv_hart.proofs.RowMeanings.{rows_closed, rule-old, end_is}
@@ -101,7 +84,7 @@ pub record Linking (h : Hart) (e : Event) (rows : List (List ℕ)) (links : List
   pub count : length rows ≡ length h.events
   pub enough : AreEnoughLinks h e links
 
-module _ (h : Hart) (e : Event) (rows : List (List ℕ)) (links : List Link) (g : Linking h e rows links) where
+module _ {h : Hart} {e : Event} {rows : List (List ℕ)} {links : List Link} (g : Linking h e rows links) where
   abbrev log : List Event
   log = h.events
 
@@ -112,7 +95,7 @@ module _ (h : Hart) (e : Event) (rows : List (List ℕ)) (links : List Link) (g 
   known = g.fits.known
 
   ordered_by : (l : Link) (k : ℕ) → Contains links l → l.reason ≡ Preserved k → IsOrderedBy h e k l.id.seq
-  ordered_by l k c is = ordered_of h e g.fits k l.id (g.enough.rules l k c is)
+  ordered_by l k c is = ordered_of g.fits k l.id (g.enough.rules l k c is)
 
   -- a link by a rule names an event that has a row
   pub have_rows : HaveRows rows links
@@ -128,7 +111,7 @@ module _ (h : Hart) (e : Event) (rows : List (List ℕ)) (links : List Link) (g 
   linked_before s x =
       let m = (g.mean x.l.id.seq s).0 x.has in
       let o = ordered_by x.l x.rule x.is_listed x.reason in
-      let last : o.a ≡ m.b = same_event h known o.a m.b o.of_hart m.b_of_hart (o.at ∙ sym m.b_at) in
+      let last : o.a ≡ m.b = same_event known o.a m.b o.of_hart m.b_of_hart (o.at ∙ sym m.b_at) in
       let rule : Rule h.model new x.rule m.b e = subst (λ (y : Event). Rule h.model new x.rule y e) last o.rule in
       record {
         a = m.a;
@@ -138,7 +121,7 @@ module _ (h : Hart) (e : Event) (rows : List (List ℕ)) (links : List Link) (g 
         a_at = m.a_at;
         b_at = refl;
         memory = g.memory;
-        leads = inr (leads-rule h.model new m.a m.b e (leads-grows h e g.fits m.a m.b m.leads) (x.rule, rule));
+        leads = inr (leads-rule h.model new m.a m.b e (leads-grows g.fits m.a m.b m.leads) (x.rule, rule));
       }
 
   -- what leads to an event in a linked row is in it
@@ -203,7 +186,7 @@ module _ (h : Hart) (e : Event) (rows : List (List ℕ)) (links : List Link) (g 
     linked_by (suc n) k c later r = go (λ j m low q. linked_by n j m low q) (g.enough.carried k c cc r)
       where
         cc : Contains log c
-        cc = rule-old h e g.fits k c r
+        cc = rule-old g.fits k c r
 
         go :
             ((j : ℕ) (m : Event) → length log ≤ n + m.id.seq → Rule h.model new j m e → IsLinked rows links m.id.seq) →
@@ -217,8 +200,8 @@ module _ (h : Hart) (e : Event) (rows : List (List ℕ)) (links : List Link) (g 
 
     linked_from : (a : Event) → LastStep h.model new a e → IsLinked rows links a.id.seq
     linked_from a l =
-        let cc : Contains log l.c = rule-old h e g.fits l.last.0 l.c l.last.1 in
-        let old = leads-settled h e g.fits a l.c cc l.leads in
+        let cc : Contains log l.c = rule-old g.fits l.last.0 l.c l.last.1 in
+        let old = leads-settled g.fits a l.c cc l.leads in
         linked_on a l.c old.1 cc l.last.1.from_memory old.0 (linked_by (length log) l.last.0 l.c (omega arith) l.last.1)
 
     -- the joined row is the event's
@@ -229,7 +212,7 @@ module _ (h : Hart) (e : Event) (rows : List (List ℕ)) (links : List Link) (g 
         from b = (is s).1 (go b.leads)
           where
             end : b.b ≡ e
-            end = end_is h e g.fits b.b b.b_of_hart b.b_at
+            end = end_is g.fits b.b b.b_of_hart b.b_at
 
             go : Leads h.model new b.a b.b → (s ≡ e.id.seq) ⊎ IsLinked rows links s
             go (inl same) = inl (sym b.a_at ∙ ap (λ (y : Event). y.id.seq) (same ∙ end))

@@ -1,19 +1,9 @@
 -- What is kept, with one more event and with one less.
-use Rattle.std.proofs.Common.{◌≡◌, ℕ, suc, ◌+◌, ◌<◌, ◌≤◌, ◌↔◌, List, [], ◌∷◌, ◌++◌, length, get_or}
-use Rattle.std.proofs.Common.{take, Contains, All, sym, refl, ap, ◌∙◌, arith, subst, drop, take-append-drop}
-use Rattle.std.proofs.Common.{drop-cons, append_assoc, length-append}
-use Rattle.std.proofs.lemmas.List.{length_push}
-use Rattle.std.proofs.lemmas.List.Elements.{Contains-get_or}
-use Rattle.std.proofs.lemmas.Grind.{common_steps}
-use Rattle.rv_event.specs.declared.event.Event.{Event}
-use Rattle.rv_event.specs.declared.memory_model.MemoryModel.{MemoryModel}
-use Rattle.rv_rows.specs.Bits.{Has, has_bit}
-use Rattle.rv_hart.specs.Harts.{Hart, IsHart, Follows, hart_with}
-use Rattle.rv_hart.specs.Kept.{hart_of, IsKept}
-use Rattle.rv_hart.specs.Rows.{IsBefore, RowsMean}
-use Rattle.rv_hart.specs.Sets.{AreSets}
-use Rattle.rv_hart.specs.Words.{AreWords}
-use Rattle.rv_hart.specs.declared.kept.Kept.{Kept}
+use Rattle.rv_hart.proofs.Common.{◌≡◌, ℕ, suc, ◌+◌, ◌<◌, ◌≤◌, ◌↔◌, List, [], ◌∷◌, ◌++◌, length, get_or, take}
+use Rattle.rv_hart.proofs.Common.{Contains, All, sym, refl, ap, ◌∙◌, arith, subst, drop, take-append-drop}
+use Rattle.rv_hart.proofs.Common.{drop-cons, append_assoc, length-append, length_push, Contains-get_or}
+use Rattle.rv_hart.proofs.Common.{common_steps, Event, MemoryModel, Has, has_bit, Hart, IsHart, Follows}
+use Rattle.rv_hart.proofs.Common.{hart_with, hart_of, IsKept, IsBefore, RowsMean, AreSets, AreWords, Kept}
 use Rattle.rv_hart.proofs.HartFacts.{Known, known_with, fits_of, Fits, hart-push, hart-front, hart-last, deps-few}
 use Rattle.rv_hart.proofs.HartFacts.{number-few}
 use Rattle.rv_hart.proofs.RowMeanings.{rows-push, rows-front}
@@ -38,21 +28,21 @@ pub kept-pushed : (events : List Event) (k k' : Kept) (e : Event) (row : List �
     AreSets (hart_with (hart_of events k) e) k'.sets → AreWords (events ++ e ∷ []) k'.words →
     IsKept (events ++ e ∷ []) k'
 kept-pushed events k k' e row kept follows is rows mean sets words =
-    kept_from (events ++ e ∷ []) k' (hart_with (hart_of events k) e) is (hart-push (hart_of events k) e kept.hart follows)
+    kept_from (events ++ e ∷ []) k' (hart_with (hart_of events k) e) is
+    (hart-push (hart_of events k) e kept.hart follows)
     (subst (RowsMean (hart_with (hart_of events k) e)) (sym rows)
-    (rows-push (hart_of events k) e (fits_of (hart_of events k) e kept.hart follows) k.rows row kept.count kept.rows
+    (rows-push (fits_of (hart_of events k) e kept.hart follows) k.rows row kept.count kept.rows
     mean))
     (ap (λ (rs : List (List ℕ)). length rs) rows ∙ length_push k.rows row ∙ ap (λ (n : ℕ). n + 1) kept.count ∙
-    sym (length_push events e))
-    sets words
+    sym (length_push events e)) sets words
 
 -- the numbers of the new event's row are at most its own
-pub row-low : (h : Hart) (e : Event) (f : Fits h e) (rows : List (List ℕ)) (row : List ℕ) →
+pub row-low : {h : Hart} {e : Event} (f : Fits h e) (rows : List (List ℕ)) (row : List ℕ) →
     length rows ≡ length h.events →
     ((s : ℕ) → Has row s ↔ IsBefore (hart_with h e) s e.id.seq) → (j : ℕ) → Has row j → j ≤ length rows
-row-low h e f rows row count mean j x =
+row-low {h} {e} f rows row count mean j x =
     let b = (mean j).0 x in
-    let low = (known_with h e f).below b.a b.a_of_hart in
+    let low = (known_with f).below b.a b.a_of_hart in
     let at = b.a_at in
     omega (arith, length_push h.events e)
 
@@ -67,7 +57,8 @@ pub kept-popped : (front : List Event) (k k' : Kept) (e : Event) (before : List 
     k'.rows ≡ before → AreSets (hart_of front k) k'.sets → AreWords front k'.words → IsKept front k'
 kept-popped front k k' e before row kept rows is rows' sets words =
     kept_from front k' h is (hart-front (hart_of (front ++ e ∷ []) k) front e kept.hart refl)
-    (subst (RowsMean h) (sym rows') (rows-front h e fits before row count (subst (RowsMean (hart_with h e)) rows kept.rows)))
+    (subst (RowsMean h) (sym rows')
+    (rows-front fits before row count (subst (RowsMean (hart_with h e)) rows kept.rows)))
     (ap (λ (rs : List (List ℕ)). length rs) rows' ∙ count) sets words
   where
     h : Hart
@@ -89,11 +80,11 @@ split_last {X} (x ∷ (y ∷ ys)) low =
     (x ∷ again.0, again.1, ap (λ (zs : List X). x ∷ zs) again.2)
 
 -- numbers and dependencies of a hart's events are below the limit
-pub small-events : (h : Hart) → Known h → All (λ e. (e.id.seq < 4096) × All (λ d. d.seq < 4096) e.deps) h.events
-small-events h known k d low =
+pub small-events : {h : Hart} → Known h → All (λ e. (e.id.seq < 4096) × All (λ d. d.seq < 4096) e.deps) h.events
+small-events {h} known k d low =
     let a : Event = get_or h.events k d in
     let ca : Contains h.events a = Contains-get_or h.events k d low in
-    (number-few h known a ca, deps-few h known a ca)
+    (number-few known a ca, deps-few known a ca)
 
 -- the first events of a hart are a hart's, and each follows those before it
 pub hart-take : (h : Hart) → IsHart h → (i : ℕ) (e : Event) → i < length h.events → e ≡ get_or h.events i e →

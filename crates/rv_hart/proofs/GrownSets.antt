@@ -1,23 +1,13 @@
 -- The rows of a hart's sets with one more event.
-use Rattle.std.proofs.Common.{◌≡◌, ℕ, ◌<◌, Bool, true, false, ◌||◌, ◌&&◌, ◌==◌, ◌↔◌, List, Contains}
-use Rattle.std.proofs.Common.{IsTrue, IsFalse, Some, None, Option, ◌⊎◌, inl, inr, sym, refl, ap, ◌∙◌, arith}
-use Rattle.std.proofs.Common.{subst, eqb-true, eq-eqb}
-use Rattle.std.proofs.lemmas.Bool.{or_cases, or_left, or_right, and_parts, and_from, false≢true}
-use Rattle.std.proofs.lemmas.List.Elements.{Contains-push_cases, Contains-push, All-contains}
-use Rattle.std.proofs.lemmas.Grind.{common_steps}
-use Rattle.rv_event.proofs.Growing.{Any-contains, Any-from_contains, All-from_contains}
-use Rattle.rv_event.specs.Operations.{is_load, is_store, is_exclusive, IsLoad, IsStore, IsMemory}
-use Rattle.rv_event.specs.Log.{Earlier}
-use Rattle.rv_event.specs.Relations.{fence_orders, DependsOn}
-use Rattle.rv_event.specs.declared.event.Event.{Event}
-use Rattle.rv_event.specs.declared.event.DepKind.{DepKind}
-use Rattle.rv_event.specs.declared.event.DepKind.TheVariants.{Addr, Ctrl}
-use Rattle.rv_event.specs.declared.event.Op.{Op}
-use Rattle.rv_event.specs.declared.event.Op.TheVariants.{Load, Store, Lr, Branch}
-use Rattle.rv_rows.specs.Bits.{Has, has_bit}
-use Rattle.rv_hart.specs.Harts.{Hart, followed}
-use Rattle.rv_hart.specs.Sets.{HasEvent, RowIs, NamesMemory, IsFencedFor, IsControlling, IsAddressing}
-use Rattle.rv_hart.specs.Sets.{IsReserving, IsReservation}
+use Rattle.rv_hart.proofs.Common.{◌≡◌, ℕ, ◌<◌, Bool, true, false, ◌||◌, ◌&&◌, ◌==◌, ◌↔◌, List, Contains, IsTrue}
+use Rattle.rv_hart.proofs.Common.{IsFalse, Some, None, Option, ◌⊎◌, inl, inr, sym, refl, ap, ◌∙◌, arith, subst}
+use Rattle.rv_hart.proofs.Common.{eqb-true, eq-eqb, or_cases, or_left, or_right, and_parts, and_from, false≢true}
+use Rattle.rv_hart.proofs.Common.{Contains-push_cases, Contains-push, All-contains, common_steps, Any-contains}
+use Rattle.rv_hart.proofs.Common.{Any-from_contains, All-from_contains, is_load, is_store, is_exclusive, IsLoad}
+use Rattle.rv_hart.proofs.Common.{IsStore, IsMemory, Earlier, fence_orders, DependsOn, Event, DepKind, Addr, Ctrl}
+use Rattle.rv_hart.proofs.Common.{Op, Load, Store, Lr, Branch, Has, has_bit, Hart, followed, HasEvent, RowIs}
+use Rattle.rv_hart.proofs.Common.{NamesMemory, IsFencedFor, IsControlling, IsAddressing, IsReserving}
+use Rattle.rv_hart.proofs.Common.{IsReservation}
 use Rattle.rv_hart.proofs.HartFacts.{Known, Fits, follows_all, old_new}
 use Rattle.rv_hart.proofs.DependencyRows.{AddsNamed}
 
@@ -26,7 +16,7 @@ pub has-map : (P Q : Event → Type 0) (xs ys : List Event) (s : ℕ) →
     ((a : Event) → Contains xs a → P a → Contains ys a × Q a) → HasEvent P xs s → HasEvent Q ys s
 has-map P Q xs ys s f x = let y = f x.a x.of_list x.holds in record { a = x.a; of_list = y.0; at = x.at; holds = y.1 }
 
-module _ (h : Hart) (e : Event) (f : Fits h e) where
+module _ {h : Hart} {e : Event} (f : Fits h e) where
   -- a row of what is true of an event by itself: the new event joins it where it passes
   pub row-insert : (P : Event → Type 0) (test : Bool) (row row' : List ℕ) → IsTrue test ↔ P e → RowIs row P h.events →
       ((s : ℕ) → has_bit row' s ≡ (has_bit row s || (test && (e.id.seq == s)))) → RowIs row' P (followed h e)
@@ -80,7 +70,7 @@ module _ (h : Hart) (e : Event) (f : Fits h e) where
 
   none_after : (b : Event) → Contains (followed h e) b → Earlier e b → ⊥
   none_after b c earlier = elim (Contains-push_cases h.events e b c) [
-    | inl old ↦ (let l = follows_all h e f b old in let x = l.seq in let y = earlier.seq in omega arith)
+    | inl old ↦ (let l = follows_all f b old in let x = l.seq in let y = earlier.seq in omega arith)
     | inr is ↦ irreflexive e (subst (λ (y : Event). Earlier e y) (sym is) earlier)
   ]
 
@@ -99,10 +89,9 @@ module _ (h : Hart) (e : Event) (f : Fits h e) where
           ]
 
       from : IsFencedFor op h.events a ⊎ IsTrue (fence_orders e.op a.op op) → IsFencedFor op (followed h e) a
-      from (inl x) =
-          grind (arith, common_steps)
+      from (inl x) = grind (arith, common_steps)
       from (inr x) = Any-from_contains (λ f. Earlier a f × IsTrue (fence_orders f.op a.op op)) (followed h e) e
-          (Contains-push h.events e) (follows_all h e f a ca, x)
+          (Contains-push h.events e) (follows_all f a ca, x)
 
   -- no fence orders the new event yet
   pub fenced-never : (op : Op) → IsFencedFor op (followed h e) e → ⊥
@@ -192,11 +181,11 @@ module _ (events : List Event) (loads stores : List ℕ) (loads_are : RowIs load
           ]
 
 -- what a dependency names is a memory operation on which the event depends
-pub depended : (h : Hart) → Known h → (x : Event) → x.id.hart ≡ h.number →
+pub depended : {h : Hart} → Known h → (x : Event) → x.id.hart ≡ h.number →
     ((d : _) → Contains x.deps d → d.seq < x.id.seq) → (kind : DepKind) (loads stores : List ℕ) →
     RowIs loads IsLoad h.events → RowIs stores IsStore h.events → (s : ℕ) →
     NamesMemory kind x.deps loads stores s ↔ HasEvent (λ a. IsMemory a × DependsOn kind x a) h.events s
-depended h known x hart below kind loads stores loads_are stores_are s = (to, from)
+depended {h} known x hart below kind loads stores loads_are stores_are s = (to, from)
   where
     to : NamesMemory kind x.deps loads stores s → HasEvent (λ a. IsMemory a × DependsOn kind x a) h.events s
     to n =
@@ -231,7 +220,7 @@ BranchDepends e a = IsMemory a × (e.op ≡ Branch) × DependsOn Ctrl e a
 abbrev AddressDepends : Event → Event → Type 0
 AddressDepends e a = IsMemory a × DependsOn Addr e a
 
-module _ (h : Hart) (e : Event) (f : Fits h e) where
+module _ {h : Hart} {e : Event} (f : Fits h e) where
   reserving-settled : (a : Event) → IsReserving (followed h e) a → IsReserving h.events a
   reserving-settled a r = (
     r.0,
@@ -267,7 +256,7 @@ module _ (h : Hart) (e : Event) (f : Fits h e) where
   pub reservation-ended : is_exclusive e.op ≡ true → (e.op ≡ Lr → ⊥) → IsReservation (followed h e) None
   reservation-ended exclusive other a c r = elim (Contains-push_cases h.events e a c) [
     | inl old ↦ false≢true (sym (All-contains (λ m. Earlier a m → IsFalse (is_exclusive m.op)) (followed h e) e r.1
-        (Contains-push h.events e) (follows_all h e f a old)) ∙ exclusive)
+        (Contains-push h.events e) (follows_all f a old)) ∙ exclusive)
     | inr is ↦ other (ap (λ (y : Event). y.op) is ∙ r.0)
   ]
 
@@ -279,11 +268,10 @@ module _ (h : Hart) (e : Event) (f : Fits h e) where
       ((s : ℕ) → has_bit row'' s ≡ (has_bit row' s || (second && has_bit stores s))) →
       RowIs row'' (IsFencedFor op (followed h e)) (followed h e)
   fences-absorbed op first second loads stores row row' row'' loads_are stores_are is is_first is_second one two =
-      row-join h e f (IsFencedFor op h.events) (IsFencedFor op (followed h e))
+      row-join f (IsFencedFor op h.events) (IsFencedFor op (followed h e))
       (λ a. IsTrue (fence_orders e.op a.op op)) row row'' is
       (fence-joins h.events loads stores loads_are stores_are e op first second row row' row'' is_first
-      is_second one two)
-      (fenced-more h e f op) (fenced-never h e f op)
+      is_second one two) (fenced-more f op) (fenced-never f op)
 
   -- what a new branch depends on
   pub controls-absorbed : (loads stores row row' : List ℕ) → RowIs loads IsLoad h.events →
@@ -291,12 +279,12 @@ module _ (h : Hart) (e : Event) (f : Fits h e) where
       ((s : ℕ) → Has row' s ↔ (Has row s ⊎ ((e.op ≡ Branch) × NamesMemory Ctrl e.deps loads stores s))) →
       RowIs row' (IsControlling (followed h e)) (followed h e)
   controls-absorbed loads stores row row' loads_are stores_are is more =
-      row-join h e f (IsControlling h.events) (IsControlling (followed h e))
+      row-join f (IsControlling h.events) (IsControlling (followed h e))
       (BranchDepends e) row row' is joined says never
     where
       named : (s : ℕ) → NamesMemory Ctrl e.deps loads stores s ↔ HasEvent (λ a. IsMemory a × DependsOn Ctrl e a)
           h.events s
-      named = depended h f.known e f.hart f.deps Ctrl loads stores loads_are stores_are
+      named = depended f.known e f.hart f.deps Ctrl loads stores loads_are stores_are
 
       joined : (s : ℕ) → Has row' s ↔ (Has row s ⊎ HasEvent (BranchDepends e) h.events s)
       joined s = (to, from)
@@ -355,11 +343,11 @@ module _ (h : Hart) (e : Event) (f : Fits h e) where
       AddsNamed Addr loads stores e.deps row row' →
       RowIs row' (IsAddressing (followed h e)) (followed h e)
   addresses-absorbed loads stores row row' loads_are stores_are is more =
-      row-join h e f (IsAddressing h.events) (IsAddressing (followed h e)) (AddressDepends e) row row' is
+      row-join f (IsAddressing h.events) (IsAddressing (followed h e)) (AddressDepends e) row row' is
       joined says never
     where
       named : (s : ℕ) → NamesMemory Addr e.deps loads stores s ↔ HasEvent (AddressDepends e) h.events s
-      named = depended h f.known e f.hart f.deps Addr loads stores loads_are stores_are
+      named = depended f.known e f.hart f.deps Addr loads stores loads_are stores_are
 
       joined : (s : ℕ) → Has row' s ↔ (Has row s ⊎ HasEvent (AddressDepends e) h.events s)
       joined s = (to, from)
@@ -388,4 +376,4 @@ module _ (h : Hart) (e : Event) (f : Fits h e) where
           from (inr x) = search (Any-from_contains, Contains-push)
 
       never : IsAddressing (followed h e) e → ⊥
-      never x = let y = Any-contains (λ m. DependsOn Addr m e) (followed h e) x.1 in none_after h e f y.0 y.1 y.2.0
+      never x = let y = Any-contains (λ m. DependsOn Addr m e) (followed h e) x.1 in none_after f y.0 y.1 y.2.0

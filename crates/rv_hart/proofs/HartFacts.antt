@@ -1,22 +1,12 @@
 -- What is known of the events of a hart, and of one that follows them.
-use Rattle.std.proofs.Common.{◌≡◌, ℕ, suc, ◌+◌, ◌<◌, ◌≤◌, ◌==◌, Bool, true, false, List}
-use Rattle.std.proofs.Common.{[], ◌∷◌, ◌++◌, length, get_or, Contains, All, None, ◌⊎◌, inl, inr, refl, sym}
-use Rattle.std.proofs.Common.{ap, ◌∙◌, arith, subst, append-nil, append_assoc, eq-eqb}
-use Rattle.std.specs.List.{list_any}
-use Rattle.std.proofs.lemmas.List.{length_push}
-use Rattle.std.proofs.lemmas.List.Elements.{Contains-get_or, Contains-push_cases, Contains-append_left}
-use Rattle.std.proofs.lemmas.Option.{same_Some}
-use Rattle.std.proofs.Common.{rules}
-use Rattle.std.proofs.lemmas.Grind.{common_steps}
-use Rattle.rv_event.proofs.Names.{Contains-here, Contains-there}
-use Rattle.rv_event.proofs.Indexed.{Indexed, Sound}
-use Rattle.rv_event.proofs.Indexed.{indexed-push, sound_of}
-use Rattle.rv_event.proofs.Pushed.{split_push}
-use Rattle.rv_event.specs.Faults.{event_fault, expected}
-use Rattle.rv_event.specs.Log.{of_hart, named, Earlier}
-use Rattle.rv_event.specs.declared.event.Dep.{Dep}
-use Rattle.rv_event.specs.declared.event.Event.{Event}
-use Rattle.rv_hart.specs.Harts.{Hart, Follows, IsHart, followed, hart_with}
+use Rattle.rv_hart.proofs.Common.{◌≡◌, ℕ, suc, ◌+◌, ◌<◌, ◌≤◌, ◌==◌, Bool, true, false, List, [], ◌∷◌, ◌++◌}
+use Rattle.rv_hart.proofs.Common.{length, get_or, Contains, All, None, ◌⊎◌, inl, inr, refl, sym, ap, ◌∙◌, arith}
+use Rattle.rv_hart.proofs.Common.{subst, append-nil, append_assoc, eq-eqb, list_any, length_push, Contains-get_or}
+use Rattle.rv_hart.proofs.Common.{Contains-push_cases, Contains-append_left, same_Some, rules, common_steps}
+use Rattle.rv_hart.proofs.Common.{Contains-here, Contains-there, Indexed, Sound, indexed-push, sound_of}
+use Rattle.rv_hart.proofs.Common.{split_push, event_fault, expected, of_hart, Earlier, Dep, Event, Hart, Follows}
+use Rattle.rv_hart.proofs.Common.{IsHart, followed, hart_with, IsAsked, hart_at, Next}
+use Rattle.rv_event.specs.Log.{named}
 
 -- the event depends on earlier numbers alone
 abbrev pub DependsBelow : Event → Type 0
@@ -75,7 +65,7 @@ fits_from h e known follows =
       deps = depends_below h.events e follows.sound;
     }
 
-module _ (h : Hart) (e : Event) (f : Fits h e) where
+module _ {h : Hart} {e : Event} (f : Fits h e) where
   grown : length (followed h e) ≡ length h.events + 1
   grown = length_push h.events e
 
@@ -117,8 +107,7 @@ known_from h before [] ok is known = subst (λ (es : List Event). Known (record 
     (sym (is ∙ append-nil before)) known
 known_from h before (e ∷ rest) ok is known =
     known_from h (before ++ e ∷ []) rest ok (is ∙ sym (append_assoc before (e ∷ []) rest))
-    (known_with (record h { events = before }) e
-    (fits_from (record h { events = before }) e known (ok before rest e is)))
+    (known_with (fits_from (record h { events = before }) e known (ok before rest e is)))
 
 -- a hart is known
 pub known_of : (h : Hart) → IsHart h → Known h
@@ -127,6 +116,10 @@ known_of h ok = known_from h [] h.events ok refl (known-nil h)
 -- so an event that follows a hart fits
 pub fits_of : (h : Hart) (e : Event) → IsHart h → Follows h e → Fits h e
 fits_of h e ok follows = fits_from h e (known_of h ok) follows
+
+-- the next event of a hart fits
+pub fits : {n : Next} → IsAsked n → Fits (hart_at n) n.event.now
+fits {n} asked = fits_of (hart_at n) n.event.now asked.kept.hart asked.follows
 
 -- the hart with the event is a hart
 pub hart-push : (h : Hart) (e : Event) → IsHart h → Follows h e → IsHart (hart_with h e)
@@ -143,42 +136,42 @@ pub hart-last : (h : Hart) (front : List Event) (e : Event) → IsHart h → h.e
 hart-last h front e ok is = ok front [] e is
 
 -- events of one number are one event
-pub same_event : (h : Hart) → Known h → (a b : Event) → Contains h.events a → Contains h.events b →
+pub same_event : {h : Hart} → Known h → (a b : Event) → Contains h.events a → Contains h.events b →
     a.id.seq ≡ b.id.seq → a ≡ b
-same_event h known a b ca cb seq =
+same_event {h} known a b ca cb seq =
     let hart : a.id.hart ≡ b.id.hart = known.own a ca ∙ sym (known.own b cb) in
     let same : a.id ≡ b.id = grind arith in
     same_Some a b (sym (known.indexed.own a ca) ∙ ap (named h.events) same ∙ known.indexed.own b cb)
 
 -- an event is the one at the place of its number
-pub event_at : (h : Hart) → Known h → (a d : Event) → Contains h.events a → get_or h.events a.id.seq d ≡ a
-event_at h known a d ca = grind (arith, common_steps)
+pub event_at : {h : Hart} → Known h → (a d : Event) → Contains h.events a → get_or h.events a.id.seq d ≡ a
+event_at {h} known a d ca = grind (arith, common_steps)
 
 -- what follows is after each event
-pub follows_all : (h : Hart) (e : Event) → Fits h e → (a : Event) → Contains h.events a → Earlier a e
-follows_all h e f a c = search rules
+pub follows_all : {h : Hart} {e : Event} → Fits h e → (a : Event) → Contains h.events a → Earlier a e
+follows_all {h} {e} f a c = search rules
 
 -- an event that is earlier than what follows is an old one
-pub earlier_old : (h : Hart) (e : Event) → Fits h e → (m : Event) → Contains (followed h e) m → Earlier m e →
+pub earlier_old : {h : Hart} {e : Event} → Fits h e → (m : Event) → Contains (followed h e) m → Earlier m e →
     Contains h.events m
-earlier_old h e f m c earlier = grind (arith, common_steps)
+earlier_old {h} {e} f m c earlier = grind (arith, common_steps)
 
 -- an old event is one of the new list
 pub old_new : (h : Hart) (e a : Event) → Contains h.events a → Contains (followed h e) a
 old_new h e a c = Contains-append_left h.events (e ∷ []) a c
 
 -- what is read at an event's number is the event
-pub read_is : (h : Hart) → Known h → (w x : Event) (n : ℕ) → Contains h.events w → w.id.seq ≡ n →
+pub read_is : {h : Hart} → Known h → (w x : Event) (n : ℕ) → Contains h.events w → w.id.seq ≡ n →
     x ≡ get_or h.events n x → x ≡ w
-read_is h known w x n cw at read = read ∙ ap (λ (k : ℕ). get_or h.events k x) (sym at) ∙ event_at h known w x cw
+read_is {h} known w x n cw at read = read ∙ ap (λ (k : ℕ). get_or h.events k x) (sym at) ∙ event_at known w x cw
 
 -- an event's number is below the limit on numbers
-pub number-few : (h : Hart) → Known h → (a : Event) → Contains h.events a → a.id.seq < 4096
-number-few h known a ca = grind (arith, common_steps)
+pub number-few : {h : Hart} → Known h → (a : Event) → Contains h.events a → a.id.seq < 4096
+number-few {h} known a ca = grind (arith, common_steps)
 
 -- dependencies stand below the limit on numbers
-pub deps-few : (h : Hart) → Known h → (w : Event) → Contains h.events w → All (λ d. d.seq < 4096) w.deps
-deps-few h known w cw k d low =
+pub deps-few : {h : Hart} → Known h → (w : Event) → Contains h.events w → All (λ d. d.seq < 4096) w.deps
+deps-few {h} known w cw k d low =
     let below : (get_or w.deps k d).seq < w.id.seq =
     known.deps w cw (get_or w.deps k d) (Contains-get_or w.deps k d low) in
     let within = known.below w cw in
@@ -186,8 +179,8 @@ deps-few h known w cw k d low =
     omega arith
 
 -- its dependencies have small numbers
-pub own-deps-few : (h : Hart) (e : Event) → Fits h e → All (λ d. d.seq < 4096) e.deps
-own-deps-few h e f k d low =
+pub own-deps-few : {h : Hart} {e : Event} → Fits h e → All (λ d. d.seq < 4096) e.deps
+own-deps-few {h} {e} f k d low =
     let below : (get_or e.deps k d).seq < e.id.seq = f.deps (get_or e.deps k d) (Contains-get_or e.deps k d low) in
     let at = f.seq in
     let room = f.room in

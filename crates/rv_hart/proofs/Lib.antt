@@ -1,3 +1,4 @@
+pub mod Common
 pub mod GrownSets
 pub mod DependencyRows
 pub mod Candidates

@@ -1,37 +1,21 @@
 -- The lowest rules of candidates, and the links of the listed ones.
-use Rattle.std.proofs.Common.{◌≡◌, ℕ, ◌+◌, ◌<◌, ◌≤◌, false, ◌||◌, ◌==◌, ◌↔◌, List, [], ◌∷◌, ◌++◌, length}
-use Rattle.std.proofs.Common.{get_or, Contains, ◌⊎◌, Some, None, inl, inr, sym, refl, ap, ◌∙◌, arith, subst}
-use Rattle.std.proofs.Common.{eqb-true, eq-eqb}
-use Rattle.std.proofs.lemmas.Bool.{or_cases, or_left, or_right, false≢true, cases_lt}
-use Rattle.std.proofs.lemmas.List.Elements.{Contains-push_cases, Contains-push, Contains-append_left}
-use Rattle.std.proofs.lemmas.Option.{same_Some}
-use Rattle.std.proofs.lemmas.Grind.{common_steps}
-use Rattle.std.proofs.Common.{rules}
-use Rattle.rv_event.proofs.Names.{named-is}
-use Rattle.rv_event.proofs.Conditions.{Condition-number}
-use Rattle.rv_event.specs.Operations.{IsMemory}
+use Rattle.rv_hart.proofs.Common.{◌≡◌, ℕ, ◌+◌, ◌<◌, ◌≤◌, false, ◌||◌, ◌==◌, ◌↔◌, List, [], ◌∷◌, ◌++◌, length}
+use Rattle.rv_hart.proofs.Common.{get_or, Contains, ◌⊎◌, Some, None, inl, inr, sym, refl, ap, ◌∙◌, arith, subst}
+use Rattle.rv_hart.proofs.Common.{eqb-true, eq-eqb, or_cases, or_left, or_right, false≢true, cases_lt}
+use Rattle.rv_hart.proofs.Common.{Contains-push_cases, Contains-push, Contains-append_left, same_Some}
+use Rattle.rv_hart.proofs.Common.{common_steps, rules, named-is, Condition-number, IsMemory, Rule, IsPreserved}
+use Rattle.rv_hart.proofs.Common.{IsLowest, Id, Event, Link, Reason, Preserved, Names, Has, has_bit, RowHas}
+use Rattle.rv_hart.proofs.Common.{IsTaken, IsReached, IsThinned, Swept, swept-init, swept-step, swept-done}
+use Rattle.rv_hart.proofs.Common.{Gathers, gathers-none, gathers-step, Hart, followed, hart_with, IsOrderedBy}
+use Rattle.rv_hart.proofs.Common.{IsCandidate, IsBefore, IsEnough, RowsMean, AreRuleLinks, IsOperationOf}
+use Rattle.rv_hart.proofs.Common.{ConditionOf, IsLowestRule}
 use Rattle.rv_event.specs.Log.{named}
-use Rattle.rv_event.specs.Preserved.{Rule, IsPreserved}
-use Rattle.rv_event.specs.Edges.{IsLowest}
-use Rattle.rv_event.specs.declared.event.Id.{Id}
-use Rattle.rv_event.specs.declared.event.Event.{Event}
-use Rattle.rv_event.specs.declared.reason.Link.{Link}
-use Rattle.rv_event.specs.declared.reason.Reason.{Reason}
-use Rattle.rv_event.specs.declared.reason.Reason.TheVariants.{Preserved}
-use Rattle.rv_cover.specs.Thinned.{Names}
-use Rattle.rv_rows.specs.Bits.{Has, has_bit}
-use Rattle.rv_rows.specs.Closure.{RowHas, IsTaken, IsReached, IsThinned}
-use Rattle.rv_rows.proofs.Sweep.{Swept, swept-init, swept-step, swept-done, Gathers, gathers-none, gathers-step}
-use Rattle.rv_hart.specs.Harts.{Hart, followed, hart_with}
-use Rattle.rv_hart.specs.Rows.{IsOrderedBy, IsCandidate, IsBefore, IsEnough, RowsMean}
-use Rattle.rv_hart.specs.RuleLinks.{AreRuleLinks}
-use Rattle.rv_hart.specs.RuleRows.{IsOperationOf, ConditionOf, IsLowestRule}
 use Rattle.rv_hart.proofs.HartFacts.{Known, Fits, known_with, same_event, old_new}
 use Rattle.rv_hart.proofs.RowMeanings.{carried, unsplit, row_is, rule-old, rows_closed}
 use Rattle.rv_hart.proofs.Candidates.{candidates-own}
 
 -- ---- the lowest rule of a candidate
-module _ (h : Hart) (e : Event) (f : Fits h e) (memory : IsMemory e) (s : ℕ) (candidate : IsCandidate h e s) where
+module _ {h : Hart} {e : Event} (f : Fits h e) (memory : IsMemory e) (s : ℕ) (candidate : IsCandidate h e s) where
   abbrev a : Event
   a = candidate.1.a
 
@@ -50,8 +34,7 @@ module _ (h : Hart) (e : Event) (f : Fits h e) (memory : IsMemory e) (s : ℕ) (
     where
       go : (j < k) ⊎ (k ≤ j) → ⊥
       go (inl under) = none j under x
-      go (inr over) =
-          search (same_event, rules)
+      go (inr over) = search (same_event, rules)
 
   -- some rule holds of a candidate
   pub some-rule : (k : ℕ) → 14 ≤ k → ((j : ℕ) → j < k → IsOrderedBy h e j s → ⊥) → ⊥
@@ -112,12 +95,12 @@ links-more h e taken n k links links' so lowest more = record { each = each; all
     ]
 
 -- ---- a rule between numbers and between names
-module _ (h : Hart) (e : Event) (f : Fits h e) where
+module _ {h : Hart} {e : Event} (f : Fits h e) where
   abbrev new : List Event
   new = followed h e
 
   known' : Known (hart_with h e)
-  known' = known_with h e f
+  known' = known_with f
 
   -- a rule between the events orders their ids
   pub preserved_of : (k : ℕ) (i : Id) → i.hart ≡ h.number → IsOrderedBy h e k i.seq → IsPreserved h.model new k i e.id
@@ -139,10 +122,10 @@ module _ (h : Hart) (e : Event) (f : Fits h e) where
       let first = named-is new i p.a p.first in
       let last : p.b ≡ e = same_Some p.b e (sym p.second ∙ known'.indexed.own e (Contains-push h.events e)) in
       let rule : Rule h.model new k p.a e = subst (λ (x : Event). Rule h.model new k p.a x) last p.rule in
-      record { a = p.a; of_hart = rule-old h e f k p.a rule; at = ap (λ (x : Id). x.seq) (sym first.1); rule = rule }
+      record { a = p.a; of_hart = rule-old f k p.a rule; at = ap (λ (x : Id). x.seq) (sym first.1); rule = rule }
 
 -- ---- all links
-module _ (h : Hart) (e : Event) (f : Fits h e) (memory : IsMemory e) (rows : List (List ℕ)) (mean : RowsMean h rows)
+module _ {h : Hart} {e : Event} (f : Fits h e) (memory : IsMemory e) (rows : List (List ℕ)) (mean : RowsMean h rows)
     (candidates taken : List ℕ) (enough : IsEnough h e candidates) (thinned : IsThinned rows candidates taken) where
   links-are : (links : List Link) → AreLinksOf h e taken links → AreRuleLinks h e links
   links-are links so = record {
@@ -150,11 +133,11 @@ module _ (h : Hart) (e : Event) (f : Fits h e) (memory : IsMemory e) (rows : Lis
         record {
           rule = x.rule;
           reason = x.reason;
-          preserved = preserved_of h e f x.rule l.id x.hart x.lowest.ordered;
+          preserved = preserved_of f x.rule l.id x.hart x.lowest.ordered;
         });
     lowest = λ l c. (let x = so.each l c in subst (λ (r : Reason). IsLowest h.model (followed h e) l.id r e.id)
-        (sym x.reason) (λ j low p. x.lowest.lowest j low (ordered_of h e f j l.id p)));
-    carried = λ k a ca r. elim (carried h e f rows candidates taken memory mean enough thinned k a ca r) [
+        (sym x.reason) (λ j low p. x.lowest.lowest j low (ordered_of f j l.id p)));
+    carried = λ k a ca r. elim (carried f rows candidates taken memory mean enough thinned k a ca r) [
       | inl c ↦ inl (let x = so.all a.id.seq c in (
         x.0,
         x.1,
@@ -163,7 +146,7 @@ module _ (h : Hart) (e : Event) (f : Fits h e) (memory : IsMemory e) (rows : Lis
       ))
       | inr s ↦ inr s
     ];
-    unsplit = λ k a c ca cc l r q. unsplit h e f rows candidates taken memory mean enough thinned a c cc
+    unsplit = λ k a c ca cc l r q. unsplit f rows candidates taken memory mean enough thinned a c cc
         (so.each (record { id = a.id; reason = Preserved k }) l).is_taken r q;
   }
 
@@ -174,7 +157,7 @@ module _ (h : Hart) (e : Event) (f : Fits h e) (memory : IsMemory e) (rows : Lis
   row-swept old one row more gathers s = (to, from)
     where
       is : (IsReached rows taken s ⊎ (s ≡ e.id.seq)) ↔ IsBefore (hart_with h e) s e.id.seq
-      is = row_is h e f rows candidates taken memory mean enough thinned s
+      is = row_is f rows candidates taken memory mean enough thinned s
 
       begun : Has one s → Has old s ⊎ IsBefore (hart_with h e) s e.id.seq
       begun x = elim (or_cases (has_bit old s) (e.id.seq == s) (sym (more s) ∙ x)) [
@@ -218,9 +201,9 @@ pub record IsGathering (rows : List (List ℕ)) (first left : List ℕ) (top : �
   pub within : top ≤ length rows
   pub gathers : Gathers rows base taken row
 
-module _ (h : Hart) (e : Event) (rows : List (List ℕ)) (first : List ℕ) (g : Sweeping h e rows first) where
+module _ {h : Hart} {e : Event} {rows : List (List ℕ)} {first : List ℕ} (g : Sweeping h e rows first) where
   own : (b : ℕ) → Has first b → (b < length rows) × RowHas rows b b
-  own = candidates-own h e g.fits rows first g.mean g.count g.enough
+  own = candidates-own g.fits rows first g.mean g.count g.enough
 
   -- there are at most 4,096 rows
   pub rows-few : length rows ≤ 4096
@@ -284,7 +267,7 @@ module _ (h : Hart) (e : Event) (rows : List (List ℕ)) (first : List ℕ) (g :
   gathering-done left left' top old one row so is more = search (row-swept, swept-done)
 
 -- what is no memory operation has no links and an empty row
-module _ (h : Hart) (e : Event) (f : Fits h e) (none : IsMemory e → ⊥) where
+module _ {h : Hart} {e : Event} (f : Fits h e) (none : IsMemory e → ⊥) where
   -- an event that no rule asks for has no links
   pub links-nothing : (links : List Link) → links ≡ [] → AreRuleLinks h e links
   links-nothing links nil = grind (arith, common_steps)
@@ -294,6 +277,6 @@ module _ (h : Hart) (e : Event) (f : Fits h e) (none : IsMemory e → ⊥) where
       IsBefore (hart_with h e) s e.id.seq
   row-nothing row lacks s = (
     λ x. absurd (false≢true (sym (lacks s) ∙ x)),
-    λ b. absurd (none (subst IsMemory (same_event (hart_with h e) (known_with h e f) b.b e b.b_of_hart
+    λ b. absurd (none (subst IsMemory (same_event (known_with f) b.b e b.b_of_hart
         (Contains-push h.events e) b.b_at) b.memory)),
   )

@@ -1,41 +1,23 @@
 -- What the rules say of two events of one hart, they say over the hart's events alone.
-use Rattle.std.proofs.Common.{◌≡◌, ◌≢◌, ℕ, Bool, true, false, ◌==◌, cond, List, [], ◌∷◌, ◌++◌, filter, find}
-use Rattle.std.proofs.Common.{Contains, All, Any, Some, None, refl, sym, ap, ◌∙◌, subst, eqb-true}
-use Rattle.std.proofs.Common.{IsFalse, IsTrue}
-use Rattle.std.specs.List.{list_any}
-use Rattle.std.proofs.lemmas.Option.{none-some}
-use Rattle.std.proofs.lemmas.List.Elements.{All-contains, All-filter, filter_passes}
-use Rattle.std.proofs.Common.{arith}
-use Rattle.std.proofs.lemmas.Grind.{common_steps}
-use Rattle.rv_event.proofs.Names.{named-is, find-found}
-use Rattle.rv_event.proofs.Indexed.{Indexed, lowest-none, none-lowest, not_taken}
-use Rattle.rv_event.proofs.Growing.{Any-contains, Any-from_contains, All-from_contains, named-of_hart}
-use Rattle.rv_event.specs.Operations.{IsStore, is_exclusive}
-use Rattle.rv_event.specs.Log.{same_id, named, of_hart, Between}
-use Rattle.rv_event.specs.Relations.{Paired, DependsOn, fence_orders}
-use Rattle.rv_event.specs.Preserved.{Condition, overlapping_store, different_reads, reads_atomic_write}
-use Rattle.rv_event.specs.Preserved.{fenced, after_acquire, before_release, both_rcsc, paired, address}
-use Rattle.rv_event.specs.Preserved.{data_of, control, reads_dependent_write, after_dependent_address}
-use Rattle.rv_event.specs.Preserved.{IsDependentWrite, Rule, IsPreserved}
-use Rattle.rv_event.specs.Edges.{IsLowest, IsStale}
-use Rattle.rv_event.specs.Faults.{event_fault, taken_fault}
-use Rattle.rv_event.specs.Faults.{is_reserved}
-use Rattle.rv_event.specs.declared.event.Id.{Id}
-use Rattle.rv_event.specs.declared.event.DepKind.TheVariants.{Addr, Ctrl}
-use Rattle.rv_event.specs.declared.event.Event.{Event}
-use Rattle.rv_event.specs.declared.event.Op.TheVariants.{Branch}
-use Rattle.rv_event.specs.declared.memory_model.MemoryModel.{MemoryModel}
-use Rattle.rv_event.specs.declared.reason.Reason.TheVariants.{Preserved}
-use Rattle.rv_cover.specs.Paths.{AnyRule, Reaches}
-use Rattle.rv_cover.proofs.Covering.{path-map}
+use Rattle.rv_hart.proofs.Common.{◌≡◌, ◌≢◌, ℕ, Bool, true, false, ◌==◌, cond, List, [], ◌∷◌, ◌++◌, filter, find}
+use Rattle.rv_hart.proofs.Common.{Contains, All, Any, Some, None, refl, sym, ap, ◌∙◌, subst, eqb-true, IsFalse}
+use Rattle.rv_hart.proofs.Common.{IsTrue, list_any, none-some, All-contains, All-filter, filter_passes, arith}
+use Rattle.rv_hart.proofs.Common.{common_steps, named-is, find-found, Indexed, lowest-none, none-lowest}
+use Rattle.rv_hart.proofs.Common.{not_taken, Any-contains, Any-from_contains, All-from_contains, named-of_hart}
+use Rattle.rv_hart.proofs.Common.{IsStore, is_exclusive, same_id, of_hart, Between, Paired, DependsOn}
+use Rattle.rv_hart.proofs.Common.{fence_orders, Condition, overlapping_store, different_reads, reads_atomic_write}
+use Rattle.rv_hart.proofs.Common.{fenced, after_acquire, before_release, both_rcsc, paired, address, data_of}
+use Rattle.rv_hart.proofs.Common.{control, reads_dependent_write, after_dependent_address, IsDependentWrite, Rule}
+use Rattle.rv_hart.proofs.Common.{IsPreserved, IsLowest, IsStale, event_fault, taken_fault, is_reserved, Id, Addr}
+use Rattle.rv_hart.proofs.Common.{Ctrl, Event, Branch, MemoryModel, Preserved, AnyRule, Reaches, path-map}
+use Rattle.rv_event.specs.Log.{named}
 
 -- what a hart's events are
 pub own_contains : (log : List Event) (h : ℕ) (a : Event) → Contains (of_hart h log) a → Contains log a ×
     (a.id.hart ≡ h)
 own_contains log h a c =
     let p : Event → Bool = λ x. h == x.id.hart in
-    let in_log : Contains log a =
-    All-contains (λ x. Contains log x) (filter p log) a
+    let in_log : Contains log a = All-contains (λ x. Contains log x) (filter p log) a
     (All-filter p (λ x. Contains log x) log (All-from_contains (λ x. Contains log x) log (λ x d. d))) c in
     let passes : (h == a.id.hart) ≡ true = All-contains (λ x. p x ≡ true) (filter p log) a (filter_passes p log) c in
     (in_log, sym (eqb-true h a.id.hart passes))
@@ -81,8 +63,7 @@ module _ (model : MemoryModel) (log : List Event) (h : ℕ) (known : Indexed log
   -- what holds of each event of the hart, and of no other, holds of all
   All-from : (a b : Event) → a.id.hart ≡ h → (P : Event → Type 0) → All (λ m. Between a m b → P m) own →
       All (λ m. Between a m b → P m) log
-  All-from a b at P all =
-      All-from_contains (λ m. Between a m b → P m) log
+  All-from a b at P all = All-from_contains (λ m. Between a m b → P m) log
       (λ m c between. All-contains (λ m. Between a m b → P m) own m all
       (contains_own log h m known c (sym between.after.hart ∙ at)) between)
 
@@ -261,8 +242,7 @@ find-none : {X : Type 0} (p q : X → Bool) (xs : List X) → find p xs ≡ None
 find-none p q [] e = refl
 find-none {X} p q (x ∷ xs) e = go (p x) refl (q x) e (find-none p q xs)
   where
-    go :
-        (b : Bool) → p x ≡ b → (d : Bool) → cond b (Some x) (find p xs) ≡ None →
+    go : (b : Bool) → p x ≡ b → (d : Bool) → cond b (Some x) (find p xs) ≡ None →
         (find p xs ≡ None → find p (filter q xs) ≡ None) → find p (cond d (x ∷ filter q xs) (filter q xs)) ≡ None
     go true t d f again = absurd (none-some x (sym f))
     go false t true f again = rw t (again f)

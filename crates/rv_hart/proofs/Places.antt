@@ -1,13 +1,8 @@
 -- The places of a hart's events in a log that grows and shrinks.
-use Rattle.std.proofs.Common.{◌≡◌, ◌≢◌, ℕ, zero, suc, ◌+◌, ◌<◌, ◌==◌, Bool, true, false, if◌then◌else◌, List, [], ◌∷◌, ◌++◌}
-use Rattle.std.proofs.Common.{length, get_or, refl, sym, ap, ◌∙◌, subst, arith, eq-eqb}
-use Rattle.std.proofs.lemmas.Bool.{ne_eqb}
-use Rattle.std.proofs.lemmas.Grind.{common_steps}
-use Rattle.rv_event.specs.Log.{of_hart}
-use Rattle.rv_event.specs.declared.event.Event.{Event}
-use Rattle.rv_hart.specs.Kept.{IsHartOf, IsKept}
-use Rattle.rv_hart.specs.Places.{places_from, places_of}
-use Rattle.rv_hart.specs.declared.hart.HartOrder.{HartOrder}
+use Rattle.rv_hart.proofs.Common.{◌≡◌, ◌≢◌, ℕ, zero, suc, ◌+◌, ◌<◌, ◌==◌, Bool, true, false, if◌then◌else◌, List}
+use Rattle.rv_hart.proofs.Common.{[], ◌∷◌, ◌++◌, length, get_or, refl, sym, ap, ◌∙◌, subst, arith, eq-eqb, ne_eqb}
+use Rattle.rv_hart.proofs.Common.{common_steps, of_hart, Event, IsHartOf, IsKept, places_from, places_of}
+use Rattle.rv_hart.proofs.Common.{HartOrder}
 
 -- another hart's events stay
 pub own-other : (log : List Event) (e : Event) (h : ℕ) → e.id.hart ≢ h → of_hart h (log ++ e ∷ []) ≡ of_hart h log
@@ -92,8 +87,7 @@ places-other h n [] e other = rw (ne_eqb h e.id.hart (λ is. other (sym is))) re
 places-other h n (x ∷ log) e other = rw (places-other h (n + 1) log e other) refl
 
 -- what is kept of a hart, over a log that has the same of it
-pub hart-same :
-    (log log' : List Event) (h h' : HartOrder) → h'.kept.number ≡ h.kept.number →
+pub hart-same : (log log' : List Event) (h h' : HartOrder) → h'.kept.number ≡ h.kept.number →
     h'.places.items ≡ places_of h.kept.number log' → IsKept (of_hart h.kept.number log') h'.kept → IsHartOf log' h'
 hart-same log log' h h' number places kept = record {
   places = places ∙ ap (λ (n : ℕ). places_of n log') (sym number);
@@ -101,8 +95,7 @@ hart-same log log' h h' number places kept = record {
 }
 
 -- another hart's event changes nothing
-pub hart-other :
-    (log : List Event) (e : Event) (h : HartOrder) → e.id.hart ≢ h.kept.number →
+pub hart-other : (log : List Event) (e : Event) (h : HartOrder) → e.id.hart ≢ h.kept.number →
     IsHartOf log h → IsHartOf (log ++ e ∷ []) h
 hart-other log e h other are = record {
   places = are.places ∙ sym (places-other h.kept.number 0 log e other);
@@ -110,8 +103,7 @@ hart-other log e h other are = record {
 }
 
 -- nor does it when it goes
-pub hart-back :
-    (log : List Event) (e : Event) (h : HartOrder) → e.id.hart ≢ h.kept.number →
+pub hart-back : (log : List Event) (e : Event) (h : HartOrder) → e.id.hart ≢ h.kept.number →
     IsHartOf (log ++ e ∷ []) h → IsHartOf log h
 hart-back log e h other are = record {
   places = are.places ∙ places-other h.kept.number 0 log e other;

@@ -1,20 +1,12 @@
 -- Whether the hart's last LR, SC or failed SC is an LR, and which event a number names.
-use Rattle.std.proofs.Common.{◌≡◌, ℕ, zero, suc, ◌<◌, ◌≤◌, ◌==◌, Bool, true, false, cond, List, [], ◌∷◌}
-use Rattle.std.proofs.Common.{◌++◌, length, Contains, Option, Some, None, is_some, ◌⊎◌, inl, inr, refl, sym}
-use Rattle.std.proofs.Common.{ap, ◌∙◌, subst, arith, length-append, eq-eqb, slice_get, get_or}
-use Rattle.std.proofs.lemmas.Option.{none-some, slice_get_within, get_or_from_slice_get}
-use Rattle.std.proofs.lemmas.List.{get_or_default}
-use Rattle.std.proofs.lemmas.Grind.{common_steps}
-use Rattle.rv_event.specs.Operations.{is_exclusive}
+use Rattle.rv_hart.proofs.Common.{◌≡◌, ℕ, zero, suc, ◌<◌, ◌≤◌, ◌==◌, Bool, true, false, cond, List, [], ◌∷◌, ◌++◌}
+use Rattle.rv_hart.proofs.Common.{length, Contains, Option, Some, None, is_some, ◌⊎◌, inl, inr, refl, sym, ap}
+use Rattle.rv_hart.proofs.Common.{◌∙◌, subst, arith, length-append, eq-eqb, slice_get, get_or, none-some}
+use Rattle.rv_hart.proofs.Common.{slice_get_within, get_or_from_slice_get, get_or_default, common_steps}
+use Rattle.rv_hart.proofs.Common.{is_exclusive, is_lr, is_reserved, named-is, Event, Id, Op, Load, Store, Lr, Sc}
+use Rattle.rv_hart.proofs.Common.{ScFailed, Amo, Fence, FenceTso, Branch, Hart, Follows, IsHart, followed}
+use Rattle.rv_hart.proofs.Common.{IsReservation}
 use Rattle.rv_event.specs.Log.{named}
-use Rattle.rv_event.specs.Faults.{is_lr, is_reserved}
-use Rattle.rv_event.proofs.Names.{named-is}
-use Rattle.rv_event.specs.declared.event.Event.{Event}
-use Rattle.rv_event.specs.declared.event.Id.{Id}
-use Rattle.rv_event.specs.declared.event.Op.{Op}
-use Rattle.rv_event.specs.declared.event.Op.TheVariants.{Load, Store, Lr, Sc, ScFailed, Amo, Fence, FenceTso, Branch}
-use Rattle.rv_hart.specs.Harts.{Hart, Follows, IsHart, followed}
-use Rattle.rv_hart.specs.Sets.{IsReservation}
 use Rattle.rv_hart.proofs.HartFacts.{Known, Fits, known_of, fits_of, hart-front, hart-last}
 use Rattle.rv_hart.proofs.GrownSets.{reservation-kept, reservation-new, reservation-ended}
 
@@ -57,12 +49,12 @@ tells_more h e f t = go (turn e.op)
     go (frees free) = grind (arith, common_steps, reservation-kept)
     go (opens lr) = record {
       number = Some e.id.seq;
-      is = reservation-new h e f lr;
+      is = reservation-new f lr;
       tells = sym (push ∙ ap (λ (op : Op). cond (is_exclusive op) (is_lr op) (is_reserved h.events h.number)) lr);
     }
     go (ends exclusive other none) = record {
       number = None;
-      is = reservation-ended h e f exclusive other;
+      is = reservation-ended f exclusive other;
       tells = sym (push ∙ ap (λ (b : Bool). cond b (is_lr e.op) (is_reserved h.events h.number)) exclusive ∙ none);
     }
 

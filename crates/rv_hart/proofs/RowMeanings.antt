@@ -1,27 +1,13 @@
 -- Rows say which events rules lead from, also after one more event.
-use Rattle.std.proofs.Common.{◌≡◌, ℕ, ◌<◌, ◌≤◌, List, [], ◌∷◌, ◌++◌, length, get_or}
-use Rattle.std.proofs.Common.{Contains, ◌⊎◌, ◌↔◌, inl, inr, sym, refl, ap, ◌∙◌, arith, subst}
-use Rattle.std.proofs.lemmas.Nat.Bits.{bit_at-zero}
-use Rattle.std.proofs.lemmas.Bool.{false≢true, cases_lt, cases_order}
-use Rattle.std.proofs.lemmas.List.{get_or_at, get_or_append_left, get_or_past, length_push}
-use Rattle.std.proofs.lemmas.List.Elements.{Contains-push_cases, Contains-push}
-use Rattle.std.proofs.lemmas.Grind.{common_steps}
-use Rattle.std.proofs.Common.{rules}
-use Rattle.rv_event.proofs.Growing.{Rule-grows}
-use Rattle.rv_event.proofs.Settled.{HasReason-settled, grows-push}
-use Rattle.rv_event.specs.Operations.{IsMemory}
-use Rattle.rv_event.specs.Log.{Earlier}
-use Rattle.rv_event.specs.Preserved.{Rule}
-use Rattle.rv_event.specs.declared.event.Event.{Event}
-use Rattle.rv_event.specs.declared.memory_model.MemoryModel.{MemoryModel}
-use Rattle.rv_event.specs.declared.reason.Reason.TheVariants.{Preserved}
-use Rattle.rv_cover.specs.Paths.{one, more, AnyRule, Reaches}
-use Rattle.rv_cover.specs.Carries.{IsSplit}
-use Rattle.rv_cover.proofs.Covering.{path-append, path-map, reaches-earlier}
-use Rattle.rv_rows.specs.Bits.{Has}
-use Rattle.rv_rows.specs.Closure.{RowHas, IsClosed, IsReached, IsThinned}
-use Rattle.rv_hart.specs.Harts.{Hart, followed, hart_with}
-use Rattle.rv_hart.specs.Rows.{IsBefore, RowsMean, IsCandidate, IsEnough}
+use Rattle.rv_hart.proofs.Common.{◌≡◌, ℕ, ◌<◌, ◌≤◌, List, [], ◌∷◌, ◌++◌, length, get_or, Contains, ◌⊎◌, ◌↔◌, inl}
+use Rattle.rv_hart.proofs.Common.{inr, sym, refl, ap, ◌∙◌, arith, subst, bit_at-zero, false≢true, cases_lt}
+use Rattle.rv_hart.proofs.Common.{cases_order, get_or_at, get_or_append_left, get_or_past, length_push}
+use Rattle.rv_hart.proofs.Common.{Contains-push_cases, Contains-push, common_steps, rules, Rule-grows}
+use Rattle.rv_hart.proofs.Common.{HasReason-settled, grows-push, IsMemory, Earlier, Rule, Event, MemoryModel}
+use Rattle.rv_hart.proofs.Common.{Preserved, AnyRule, Reaches, IsSplit, path-append, path-map, reaches-earlier}
+use Rattle.rv_hart.proofs.Common.{Has, RowHas, IsClosed, IsReached, IsThinned, Hart, followed, hart_with}
+use Rattle.rv_hart.proofs.Common.{IsBefore, RowsMean, IsCandidate, IsEnough}
+use Rattle.rv_cover.specs.Paths.{one, more}
 use Rattle.rv_hart.proofs.HartFacts.{Known, Fits, known_with, same_event, earlier_old, old_new}
 
 -- the last rule of a path
@@ -81,7 +67,7 @@ rows_closed h rows known mean = record { below = below; closed = closed }
     closed b c j r q =
         let m = (mean b c).0 r in
         let n = (mean c j).0 q in
-        let same : n.b ≡ m.a = same_event h known n.b m.a n.b_of_hart m.a_of_hart (n.b_at ∙ sym m.a_at) in
+        let same : n.b ≡ m.a = same_event known n.b m.a n.b_of_hart m.a_of_hart (n.b_at ∙ sym m.a_at) in
         (mean b j).1 (record {
           a = n.a;
           b = m.b;
@@ -103,7 +89,7 @@ row_own h rows a mean ca memory = grind (arith, common_steps)
 pub none_has : (s : ℕ) → Has [] s → ⊥
 none_has s x = grind (arith, common_steps, false≢true, bit_at-zero)
 
-module _ (h : Hart) (e : Event) (f : Fits h e) where
+module _ {h : Hart} {e : Event} (f : Fits h e) where
   abbrev log : List Event
   log = h.events
 
@@ -111,7 +97,7 @@ module _ (h : Hart) (e : Event) (f : Fits h e) where
   new = followed h e
 
   known' : Known (hart_with h e)
-  known' = known_with h e f
+  known' = known_with f
 
   reaches-grows : (a b : Event) → Reaches h.model log a b → Reaches h.model new a b
   reaches-grows a b p = path-map Event (AnyRule h.model log) (AnyRule h.model new)
@@ -140,7 +126,7 @@ module _ (h : Hart) (e : Event) (f : Fits h e) where
 
   -- what a rule orders before the new event is old
   pub rule-old : (k : ℕ) (a : Event) → Rule h.model new k a e → Contains log a
-  rule-old k a r = earlier_old h e f a r.from r.earlier
+  rule-old k a r = earlier_old f a r.from r.earlier
 
   -- what leads still leads
   pub leads-grows : (a b : Event) → Leads h.model log a b → Leads h.model new a b
@@ -227,7 +213,7 @@ module _ (h : Hart) (e : Event) (f : Fits h e) where
 
   -- the new event is the only one of its number
   pub end_is : (b : Event) → Contains new b → b.id.seq ≡ e.id.seq → b ≡ e
-  end_is b cb at = same_event (hart_with h e) known' b e cb (Contains-push log e) at
+  end_is b cb at = same_event known' b e cb (Contains-push log e) at
 
   module _ (rows : List (List ℕ)) (candidates listed : List ℕ) (memory : IsMemory e) (mean : RowsMean h rows)
       (enough : IsEnough h e candidates) (thinned : IsThinned rows candidates listed) where
@@ -242,7 +228,7 @@ module _ (h : Hart) (e : Event) (f : Fits h e) where
         let g = enough.enough k a r in
         let t = thinned.each g.c.id.seq g.has in
         let m = (mean t.b g.c.id.seq).0 t.has in
-        let first : g.c ≡ m.a = same_event h f.known g.c m.a g.of_hart m.a_of_hart (sym m.a_at) in (
+        let first : g.c ≡ m.a = same_event f.known g.c m.a g.of_hart m.a_of_hart (sym m.a_at) in (
           m.b,
           m.b_of_hart,
           leads-append h.model log a g.c m.b g.leads
@@ -255,7 +241,7 @@ module _ (h : Hart) (e : Event) (f : Fits h e) where
         let cand = only b.id.seq l in (
           cand.0,
           subst (λ (x : Event). Rule h.model new cand.0 x e)
-              (same_event h f.known cand.1.a b cand.1.of_hart cb cand.1.at) cand.1.rule,
+              (same_event f.known cand.1.a b cand.1.of_hart cb cand.1.at) cand.1.rule,
         )
 
     -- each candidate is listed or split
@@ -278,7 +264,7 @@ module _ (h : Hart) (e : Event) (f : Fits h e) where
         let earlier : Earlier a g.c = reaches-earlier h.model log a g.c p in
         let low = earlier.seq in
         let cand = enough.sound g.c.id.seq g.has in
-        let is : cand.1.a ≡ g.c = same_event h f.known cand.1.a g.c cand.1.of_hart g.of_hart cand.1.at in
+        let is : cand.1.a ≡ g.c = same_event f.known cand.1.a g.c cand.1.of_hart g.of_hart cand.1.at in
         let memory : IsMemory g.c = subst IsMemory is cand.1.rule.from_memory in
         thinned.unsplit a.id.seq g.c.id.seq l g.has (λ same. omega arith)
         ((mean g.c.id.seq a.id.seq).1 (record {
@@ -296,7 +282,7 @@ module _ (h : Hart) (e : Event) (f : Fits h e) where
     row-leads s l =
         let m = (mean l.b s).0 l.has in
         let cand = only l.b l.is_taken in
-        let last : cand.1.a ≡ m.b = same_event h f.known cand.1.a m.b cand.1.of_hart m.b_of_hart
+        let last : cand.1.a ≡ m.b = same_event f.known cand.1.a m.b cand.1.of_hart m.b_of_hart
         (cand.1.at ∙ sym m.b_at) in
         let rule : Rule h.model new cand.0 m.b e =
         subst (λ (x : Event). Rule h.model new cand.0 x e) last cand.1.rule in

@@ -1,37 +1,19 @@
 -- What the conditions of the rules say of a new event, by what is kept of the old ones.
-use Rattle.std.proofs.Common.{◌≡◌, ℕ, Bool, ◌||◌, ◌&&◌, ◌<◌, ◌↔◌, List, Contains, IsTrue}
-use Rattle.std.proofs.Common.{IsFalse, ◌⊎◌, inl, inr, sym, refl, ap, ◌∙◌, subst}
-use Rattle.std.proofs.lemmas.Bool.{or_cases, or_left, or_right, and_parts, and_from, false≢true, cases_order}
-use Rattle.std.proofs.lemmas.Option.{same_Some}
-use Rattle.std.proofs.lemmas.List.Elements.{Contains-push, All-contains}
-use Rattle.std.proofs.Common.{arith, rules}
-use Rattle.std.proofs.lemmas.Grind.{common_steps}
-use Rattle.rv_event.proofs.Growing.{Any-contains, Any-from_contains, All-from_contains}
-use Rattle.rv_event.proofs.Conditions.{reads_atomic_write_out, fenced_out}
-use Rattle.rv_event.proofs.Conditions.{after_acquire_out, before_release_out, both_rcsc_out, paired_out}
-use Rattle.rv_event.proofs.Conditions.{address_out, data_of_out, control_out, reads_dependent_write_out}
-use Rattle.rv_event.proofs.Conditions.{after_dependent_address_out}
-use Rattle.rv_event.specs.Operations.{is_load, is_store, is_memory, is_exclusive, IsLoad, IsStore}
-use Rattle.rv_event.specs.Operations.{IsMemory, Returns}
-use Rattle.rv_event.specs.Annotations.{is_annotated, IsAcquire, IsRelease, IsRcsc}
-use Rattle.rv_event.specs.Log.{Earlier, Between}
-use Rattle.rv_event.specs.Relations.{Paired, fence_orders, Fenced, DependsOn}
-use Rattle.rv_event.specs.Preserved.{Condition, reads_atomic_write, fenced}
-use Rattle.rv_event.specs.Preserved.{after_acquire, before_release, both_rcsc, paired, address, data_of}
-use Rattle.rv_event.specs.Preserved.{control, reads_dependent_write, after_dependent_address}
-use Rattle.rv_event.specs.Preserved.{IsDependentWrite}
-use Rattle.rv_event.specs.declared.event.Event.{Event}
-use Rattle.rv_event.specs.declared.event.DepKind.{DepKind}
-use Rattle.rv_event.specs.declared.event.DepKind.TheVariants.{Addr, DataOf, Ctrl}
-use Rattle.rv_event.specs.declared.event.Op.{Op}
-use Rattle.rv_event.specs.declared.event.Op.TheVariants.{Load, Store, Lr, Sc, ScFailed, Amo, Fence, FenceTso, Branch}
-use Rattle.rv_event.specs.declared.memory_model.MemoryModel.{MemoryModel}
-use Rattle.rv_event.specs.declared.memory_model.MemoryModel.TheVariants.{Rvwmo, Ztso}
-use Rattle.rv_rows.specs.Bits.{Has, has_bit}
-use Rattle.rv_hart.specs.Harts.{Hart, followed, IsOwnStore}
-use Rattle.rv_hart.specs.Rows.{IsOrderedBy}
-use Rattle.rv_hart.specs.RuleRows.{Adds}
-use Rattle.rv_hart.specs.Sets.{HasEvent, RowIs, IsFencedFor, IsControlling, IsAddressing, IsReserving}
+use Rattle.rv_hart.proofs.Common.{◌≡◌, ℕ, Bool, ◌||◌, ◌&&◌, ◌<◌, ◌↔◌, List, Contains, IsTrue, IsFalse, ◌⊎◌, inl}
+use Rattle.rv_hart.proofs.Common.{inr, sym, refl, ap, ◌∙◌, subst, or_cases, or_left, or_right, and_parts}
+use Rattle.rv_hart.proofs.Common.{and_from, false≢true, cases_order, same_Some, Contains-push, All-contains}
+use Rattle.rv_hart.proofs.Common.{arith, rules, common_steps, Any-contains, Any-from_contains, All-from_contains}
+use Rattle.rv_hart.proofs.Common.{reads_atomic_write_out, fenced_out, after_acquire_out, before_release_out}
+use Rattle.rv_hart.proofs.Common.{both_rcsc_out, paired_out, address_out, data_of_out, control_out}
+use Rattle.rv_hart.proofs.Common.{reads_dependent_write_out, after_dependent_address_out, is_load, is_store}
+use Rattle.rv_hart.proofs.Common.{is_memory, is_exclusive, IsLoad, IsStore, IsMemory, Returns, is_annotated}
+use Rattle.rv_hart.proofs.Common.{IsAcquire, IsRelease, IsRcsc, Earlier, Between, Paired, fence_orders, Fenced}
+use Rattle.rv_hart.proofs.Common.{DependsOn, Condition, reads_atomic_write, fenced, after_acquire, before_release}
+use Rattle.rv_hart.proofs.Common.{both_rcsc, paired, address, data_of, control, reads_dependent_write}
+use Rattle.rv_hart.proofs.Common.{after_dependent_address, IsDependentWrite, Event, DepKind, Addr, DataOf, Ctrl}
+use Rattle.rv_hart.proofs.Common.{Op, Load, Store, Lr, Sc, ScFailed, Amo, Fence, FenceTso, Branch, MemoryModel}
+use Rattle.rv_hart.proofs.Common.{Rvwmo, Ztso, Has, has_bit, Hart, followed, IsOwnStore, IsOrderedBy, Adds}
+use Rattle.rv_hart.proofs.Common.{HasEvent, RowIs, IsFencedFor, IsControlling, IsAddressing, IsReserving}
 use Rattle.rv_hart.proofs.HartFacts.{Known, Fits, same_event, follows_all, earlier_old, old_new}
 use Rattle.rv_hart.proofs.GrownSets.{has-map, depended}
 use Rattle.rv_hart.proofs.DependencyRows.{AddsNamed}
@@ -72,12 +54,12 @@ more-both P Q events row row' row'' first second s = (to, from)
     ]
 
 -- what dependencies name
-pub more-named : (h : Hart) → Known h → (x : Event) → x.id.hart ≡ h.number →
+pub more-named : {h : Hart} → Known h → (x : Event) → x.id.hart ≡ h.number →
     ((d : _) → Contains x.deps d → d.seq < x.id.seq) → (kind : DepKind) (loads stores row row' : List ℕ) →
     RowIs loads IsLoad h.events → RowIs stores IsStore h.events →
     AddsNamed kind loads stores x.deps row row' → HasMore (λ a. IsMemory a × DependsOn kind x a) h.events row row'
-more-named h known x hart below kind loads stores row row' loads_are stores_are more s =
-    let named = depended h known x hart below kind loads stores loads_are stores_are s in (
+more-named {h} known x hart below kind loads stores row row' loads_are stores_are more s =
+    let named = depended known x hart below kind loads stores loads_are stores_are s in (
       λ y. elim ((more s).0 y) [ inl old ↦ inl old | inr new ↦ inr (named.0 new) ],
       λ y. elim y [ inl old ↦ (more s).1 (inl old) | inr new ↦ (more s).1 (inr (named.1 new)) ],
     )
@@ -123,7 +105,7 @@ orders_store : (f a b : Op) → IsTrue (is_store b) → IsTrue (fence_orders f a
 orders_store f a b h l = grind (arith, common_steps, and_parts, and_from, false≢true, or_right)
 
 -- ---- each rule
-module _ (h : Hart) (e : Event) (f : Fits h e) (memory : IsMemory e) where
+module _ {h : Hart} {e : Event} (f : Fits h e) (memory : IsMemory e) where
   abbrev new : List Event
   new = followed h e
 
@@ -154,10 +136,10 @@ module _ (h : Hart) (e : Event) (f : Fits h e) (memory : IsMemory e) where
   -- ---- rule 2
   -- an event that stands before the new one is an old one
   old : (m : Event) → Contains new m → Earlier m e → Contains h.events m
-  old m c earlier = earlier_old h e f m c earlier
+  old m c earlier = earlier_old f m c earlier
 
   between : (a m : Event) → Contains h.events m → Earlier a m → Between a m e
-  between a m c earlier = record { after = earlier; before = follows_all h e f m c }
+  between a m c earlier = record { after = earlier; before = follows_all f m c }
 
   -- ---- rule 4
   pub fenced-is : (a : Event) → Contains h.events a →
@@ -212,8 +194,7 @@ module _ (h : Hart) (e : Event) (f : Fits h e) (memory : IsMemory e) where
       to (inr x) = (store-memory a x.1, before_release x.0)
 
       from : IsUnder 6 a → (IsRelease h.model e × IsLoad a) ⊎ (IsRelease h.model e × IsStore a)
-      from x =
-          grind (arith, common_steps, before_release_out, or_cases)
+      from x = grind (arith, common_steps, before_release_out, or_cases)
 
   -- ---- rule 7
   pub rcsc-is : (a : Event) → Contains h.events a → (IsRcsc h.model e × IsRcsc h.model a) ↔ IsUnder 7 a
@@ -352,17 +333,17 @@ module _ (h : Hart) (e : Event) (f : Fits h e) (memory : IsMemory e) where
       grind (arith, common_steps, reads_dependent_write_out, Any-contains, old, between)
 
 -- ---- rule 8
-module _ (h : Hart) (e : Event) (f : Fits h e) where
+module _ {h : Hart} {e : Event} (f : Fits h e) where
   -- a reserving LR is paired with an SC
   pub reserving-paired : (a : Event) → Contains h.events a → IsReserving h.events a → e.op ≡ Sc →
       Paired (followed h e) a e
   reserving-paired a ca r sc = record {
     is_lr = r.0;
     is_sc = sc;
-    earlier = follows_all h e f a ca;
+    earlier = follows_all f a ca;
     none_between = All-from_contains (λ m. Between a m e → IsFalse (is_exclusive m.op)) (followed h e)
         (λ m c between. All-contains (λ m. Earlier a m → IsFalse (is_exclusive m.op)) h.events m r.1
-        (earlier_old h e f m c between.before) between.after);
+        (earlier_old f m c between.before) between.after);
   }
 
   -- and what is paired reserves
@@ -376,7 +357,7 @@ module _ (h : Hart) (e : Event) (f : Fits h e) where
   pub one_reserving : (a b : Event) → Contains h.events a → Contains h.events b → IsReserving h.events a →
       IsReserving h.events b → a ≡ b
   one_reserving a b ca cb ra rb = elim (cases_order a.id.seq b.id.seq) [
-    | inl same ↦ same_event h f.known a b ca cb same
+    | inl same ↦ same_event f.known a b ca cb same
     | inr (inl low) ↦ absurd (later-none a b cb ra rb
         (record { hart = f.known.own a ca ∙ sym (f.known.own b cb); seq = low }))
     | inr (inr high) ↦ absurd (later-none b a ca rb ra

@@ -1,20 +1,12 @@
 -- Stale pairs of a new event with its hart's stores.
-use Rattle.std.proofs.Common.{◌≡◌, ◌<◌, ◌≤◌, ℕ, Contains, Some, None, length, sym, ap, ◌∙◌, arith, subst}
-use Rattle.std.proofs.lemmas.Option.{same_Some}
-use Rattle.std.proofs.lemmas.List.Elements.{Contains-push}
-use Rattle.rv_event.proofs.Names.{named-is}
-use Rattle.rv_event.specs.Operations.{IsLoad}
-use Rattle.rv_event.specs.Log.{Earlier}
-use Rattle.rv_event.specs.Edges.{IsStale}
-use Rattle.rv_event.specs.declared.event.Id.{Id}
-use Rattle.rv_event.specs.declared.event.Event.{Event}
-use Rattle.rv_hart.specs.Harts.{Hart, followed, hart_with}
-use Rattle.rv_hart.specs.Words.{IsHighestStore}
+use Rattle.rv_hart.proofs.Common.{◌≡◌, ◌<◌, ◌≤◌, ℕ, Contains, Some, None, length, sym, ap, ◌∙◌, arith, subst}
+use Rattle.rv_hart.proofs.Common.{same_Some, Contains-push, named-is, IsLoad, Earlier, IsStale, Id, Event, Hart}
+use Rattle.rv_hart.proofs.Common.{followed, hart_with, IsHighestStore}
 use Rattle.rv_hart.proofs.HartFacts.{Known, Fits, known_with, follows_all, earlier_old, old_new}
 
-module _ (h : Hart) (e : Event) (f : Fits h e) where
+module _ {h : Hart} {e : Event} (f : Fits h e) where
   known' : Known (hart_with h e)
-  known' = known_with h e f
+  known' = known_with f
 
   -- what a stale pair says of the new event
   load_is : (s : Id) (p : IsStale (followed h e) e.id s) → p.a ≡ e
@@ -26,7 +18,7 @@ module _ (h : Hart) (e : Event) (f : Fits h e) where
 
   -- the store of a stale pair is an old one
   store_old : (s : Id) (p : IsStale (followed h e) e.id s) → Contains h.events p.b
-  store_old s p = earlier_old h e f p.b (named-is (followed h e) s p.b p.store_named).0
+  store_old s p = earlier_old f p.b (named-is (followed h e) s p.b p.store_named).0
       (subst (λ (x : Event). Earlier p.b x) (load_is s p) p.earlier)
 
   -- the hart has no store of the word
@@ -56,6 +48,6 @@ module _ (h : Hart) (e : Event) (f : Fits h e) where
     is_load = load;
     is_store = x.1.holds.0;
     word = x.1.holds.1;
-    earlier = follows_all h e f x.1.a x.1.of_list;
+    earlier = follows_all f x.1.a x.1.of_list;
     versions = high;
   }

@@ -1,21 +1,10 @@
 -- Parts of the table of rules: tests, pairs of them, and the rows that they stand for.
-use Rattle.std.proofs.Common.{◌≡◌, ℕ, Bool, true, false, ◌<◌, ◌↔◌, ◌⊎◌, inl, inr, List, Contains, IsTrue, sym, refl}
-use Rattle.std.proofs.Common.{◌∙◌, subst, length, get_or, ◌||◌, ◌==◌, eqb-true, eq-eqb}
-use Rattle.std.specs.Prelude.{if◌then◌else◌}
-use Rattle.std.proofs.lemmas.Bool.{or_cases, or_left, or_right}
-use Rattle.std.proofs.lemmas.List.Elements.{Contains-get_or}
-use Rattle.std.proofs.Common.{arith}
-use Rattle.std.proofs.lemmas.Grind.{common_steps}
-use Rattle.rv_event.specs.Operations.{IsMemory}
-use Rattle.rv_event.specs.declared.event.Event.{Event}
-use Rattle.rv_rows.specs.Bits.{has_bit}
-use Rattle.rv_hart.specs.Harts.{Hart}
-use Rattle.rv_hart.specs.Parts.{IsOfPart, IsUnder, NamesEvents, IsPartFor, ArePartsFor, AddsPart}
-use Rattle.rv_hart.specs.RuleRows.{Adds, RuleRowIs}
-use Rattle.rv_hart.specs.Rows.{IsOrderedBy}
-use Rattle.rv_hart.specs.Sets.{RowIs}
-use Rattle.rv_hart.specs.declared.parts.Part.{Part}
-use Rattle.rv_hart.specs.declared.parts.Part.TheVariants.{Nothing}
+use Rattle.rv_hart.proofs.Common.{◌≡◌, ℕ, Bool, true, false, ◌<◌, ◌↔◌, ◌⊎◌, inl, inr, List, Contains, IsTrue, sym}
+use Rattle.rv_hart.proofs.Common.{refl, ◌∙◌, subst, length, get_or, ◌||◌, ◌==◌, eqb-true, eq-eqb, if◌then◌else◌}
+use Rattle.rv_hart.proofs.Common.{or_cases, or_left, or_right, Contains-get_or, arith, common_steps, IsMemory}
+use Rattle.rv_hart.proofs.Common.{Event, has_bit, Hart, IsOfPart, NamesEvents, IsPartFor, ArePartsFor, AddsPart}
+use Rattle.rv_hart.proofs.Common.{Adds, RuleRowIs, IsOrderedBy, RowIs, Part, Nothing}
+use Rattle.rv_hart.specs.Parts.{IsUnder}
 use Rattle.rv_hart.proofs.HartFacts.{Fits, Known, same_event}
 use Rattle.rv_hart.proofs.RuleConditions.{HasMore, adds, more-both, ordered}
 
@@ -46,8 +35,7 @@ module _ (h : Hart) (e : Event) where
   -- two parts, each under its test
   pub tested-both :
       (k : ℕ) (b c : Bool) (p p' q q' : Part) (T U : Type 0) → q ≡ (if b then p else Nothing) → IsTrue b ↔ T →
-      q' ≡ (if c then p' else Nothing) → IsTrue c ↔ U →
-      ((a : Event) → Contains h.events a →
+      q' ≡ (if c then p' else Nothing) → IsTrue c ↔ U → ((a : Event) → Contains h.events a →
       ((T × IsOfPart h e p a) ⊎ (U × IsOfPart h e p' a)) ↔ IsUnder h e k a) →
       NamesEvents h p → NamesEvents h p' → ArePartsFor h e k q q'
   tested-both k b c p p' q q' T U is decides is' decides' says names names' =
@@ -59,34 +47,34 @@ module _ (h : Hart) (e : Event) where
 
 -- whether a row has an event's number
 pub row-at :
-    (h : Hart) (e : Event) → Fits h e → (P : Event → Type 0) (row : List ℕ) (result : Bool) (a : Event) →
+    {h : Hart} {e : Event} → Fits h e → (P : Event → Type 0) (row : List ℕ) (result : Bool) (a : Event) →
     Contains h.events a → RowIs row P h.events → result ≡ has_bit row a.id.seq → IsTrue result ↔ P a
-row-at h e f P row result a ca are is = (
+row-at {h} {e} f P row result a ca are is = (
   λ t. (let y = (are a.id.seq).0 (sym is ∙ t) in
-      subst P (same_event h f.known y.a a y.of_list ca y.at) y.holds),
+      subst P (same_event f.known y.a a y.of_list ca y.at) y.holds),
   λ p. is ∙ (are a.id.seq).1 (record { a = a; of_list = ca; at = refl; holds = p }),
 )
 
 -- the row of rule 2 has the loads that the rule orders
 pub reads-row :
-    (h : Hart) (e : Event) → Fits h e → IsMemory e → (reads : List ℕ) → RuleRowIs h e 2 reads →
+    {h : Hart} {e : Event} → Fits h e → IsMemory e → (reads : List ℕ) → RuleRowIs h e 2 reads →
     RowIs reads (IsUnder h e 2) h.events
-reads-row h e f memory reads are s = (
+reads-row {h} {e} f memory reads are s = (
   λ x. (let o = (are s).0 x in
       record { a = o.a; of_list = o.of_hart; at = o.at; holds = (o.rule.from_memory, o.rule.condition) }),
-  λ y. (are s).1 (subst (λ (n : ℕ). IsOrderedBy h e 2 n) y.at (ordered h e f memory 2 y.a y.of_list y.holds)),
+  λ y. (are s).1 (subst (λ (n : ℕ). IsOrderedBy h e 2 n) y.at (ordered f memory 2 y.a y.of_list y.holds)),
 )
 
 -- what is read at a number is the event with that number
-pub read-event : (h : Hart) → Known h → (x : Event) (n : ℕ) → n < length h.events → x ≡ get_or h.events n x →
+pub read-event : {h : Hart} → Known h → (x : Event) (n : ℕ) → n < length h.events → x ≡ get_or h.events n x →
     Contains h.events x × (x.id.seq ≡ n)
-read-event h known x n low is = grind (arith, common_steps)
+read-event {h} known x n low is = grind (arith, common_steps)
 
 -- a number more is the event with that number
 pub more-number :
-    (h : Hart) → Known h → (n : ℕ) (d : Event) → n < length h.events → (row row' : List ℕ) →
+    {h : Hart} → Known h → (n : ℕ) (d : Event) → n < length h.events → (row row' : List ℕ) →
     ((s : ℕ) → has_bit row' s ≡ (has_bit row s || (n == s))) → HasMore (λ a. a.id.seq ≡ n) h.events row row'
-more-number h known n d low row row' more s = (
+more-number {h} known n d low row row' more s = (
   λ x. elim (or_cases (has_bit row s) (n == s) (sym (more s) ∙ x)) [
     | inl old ↦ inl old
     | inr new ↦ inr (record {
@@ -103,15 +91,14 @@ more-number h known n d low row row' more s = (
 )
 
 -- more by one condition is more by an equal one
-pub more-same :
-    (P Q : Event → Type 0) (events : List Event) (row row' : List ℕ) →
+pub more-same : (P Q : Event → Type 0) (events : List Event) (row row' : List ℕ) →
     ((a : Event) → Contains events a → P a ↔ Q a) → HasMore P events row row' → HasMore Q events row row'
 more-same P Q events row row' same more s = grind (arith, common_steps)
 
 -- two parts that were added add what the rule orders
 pub adds-parts :
-    (h : Hart) (e : Event) → Fits h e → IsMemory e → (k : ℕ) (one other : Part) (row row' row'' : List ℕ) →
+    {h : Hart} {e : Event} → Fits h e → IsMemory e → (k : ℕ) (one other : Part) (row row' row'' : List ℕ) →
     ArePartsFor h e k one other → AddsPart h e one row row' → AddsPart h e other row' row'' → Adds h e k row row''
-adds-parts h e f memory k one other row row' row'' for first second =
-    adds h e f memory k (λ a. IsOfPart h e one a ⊎ IsOfPart h e other a) row row''
+adds-parts {h} {e} f memory k one other row row' row'' for first second =
+    adds f memory k (λ a. IsOfPart h e one a ⊎ IsOfPart h e other a) row row''
     (more-both (IsOfPart h e one) (IsOfPart h e other) h.events row row' row'' first second) for.says

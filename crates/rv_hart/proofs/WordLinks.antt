@@ -1,20 +1,11 @@
 -- The links of words with one more event, and with one less.
-use Rattle.std.proofs.Common.{◌≡◌, ◌≢◌, ℕ, ◌+◌, ◌<◌, ◌≤◌, List, [], ◌∷◌, ◌++◌, length, get_or, Contains}
-use Rattle.std.proofs.Common.{Option, Some, None, nat_eq, slice_get, ◌-◌, ◌⊎◌, inl, inr, sym, refl, ap, ◌∙◌}
-use Rattle.std.proofs.Common.{arith, subst}
-use Rattle.std.proofs.lemmas.Bool.{cases_order, cases_eq, or_right}
-use Rattle.std.specs.HashMap.{get}
-use Rattle.std.proofs.lemmas.Option.{same_Some, slice_get-get_or}
-use Rattle.std.proofs.lemmas.List.{length_push, get_or_append_left, get_or_at}
-use Rattle.std.proofs.lemmas.List.Elements.{Contains-push_cases, Contains-push, Contains-append_left}
-use Rattle.std.proofs.Common.{rules}
-use Rattle.std.proofs.lemmas.Grind.{common_steps}
-use Rattle.rv_event.specs.Operations.{is_load, is_store, IsMemory, IsStore}
-use Rattle.rv_event.specs.declared.event.Event.{Event}
-use Rattle.rv_hart.specs.Words.{AreNumbered, IsOfWord, NamesOfWord, IsLastBelow}
-use Rattle.rv_hart.specs.Words.{IsWordLink, IsHighestStore, link_at, AreWords}
-use Rattle.rv_hart.specs.declared.words.WordLink.{WordLink}
-use Rattle.rv_hart.specs.declared.words.Words.{Words}
+use Rattle.rv_hart.proofs.Common.{◌≡◌, ◌≢◌, ℕ, ◌+◌, ◌<◌, ◌≤◌, List, [], ◌∷◌, ◌++◌, length, get_or, Contains}
+use Rattle.rv_hart.proofs.Common.{Option, Some, None, nat_eq, slice_get, ◌-◌, ◌⊎◌, inl, inr, sym, refl, ap, ◌∙◌}
+use Rattle.rv_hart.proofs.Common.{arith, subst, cases_order, cases_eq, or_right, get, same_Some, slice_get-get_or}
+use Rattle.rv_hart.proofs.Common.{length_push, get_or_append_left, get_or_at, Contains-push_cases, Contains-push}
+use Rattle.rv_hart.proofs.Common.{Contains-append_left, rules, common_steps, is_load, is_store, IsMemory, IsStore}
+use Rattle.rv_hart.proofs.Common.{Event, AreNumbered, IsOfWord, NamesOfWord, IsLastBelow, IsWordLink}
+use Rattle.rv_hart.proofs.Common.{IsHighestStore, link_at, AreWords, WordLink, Words}
 
 -- an event of a numbered list has a number below the list's length
 pub numbered-below : (events : List Event) → AreNumbered events → (a : Event) → Contains events a →
@@ -217,8 +208,7 @@ module _ (events : List Event) (e : Event) (numbered : AreNumbered events) (next
       words.links.items ≡ words'.links.items ++ link ∷ [] → IsMemory e →
       IsLastBelow events e.word (length events) link.previous
   pop-here words words' link are is memory =
-      let counted : length words'.links.items ≡ e.id.seq =
-      grind (arith, common_steps) in
+      let counted : length words'.links.items ≡ e.id.seq = grind (arith, common_steps) in
       let at : link_at words.links.items e.id.seq ≡ link = grind (arith, common_steps) in
       let linked : IsWordLink more e link =
       subst (IsWordLink more e) at (are.links e (Contains-push events e) memory) in

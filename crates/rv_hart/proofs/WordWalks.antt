@@ -1,27 +1,14 @@
 -- Walks back over the memory operations of a word.
-use Rattle.std.proofs.Common.{◌≡◌, ◌≢◌, ℕ, suc, ◌<◌, ◌≤◌, Bool, false, IsTrue, ◌||◌, ◌&&◌, ◌==◌, ◌↔◌, List}
-use Rattle.std.proofs.Common.{length, get_or, Contains, Some, None, Option, ◌⊎◌, inl, inr, sym, refl, ap, ◌∙◌}
-use Rattle.std.proofs.Common.{arith, subst, eqb-true, eq-eqb}
-use Rattle.std.proofs.lemmas.Bool.{or_cases, or_left, or_right, false≢true, cases_order}
-use Rattle.std.proofs.lemmas.List.Elements.{All-contains}
-use Rattle.rv_event.proofs.Growing.{All-from_contains}
-use Rattle.rv_event.specs.Operations.{is_load, is_store, IsLoad, IsStore, IsMemory}
-use Rattle.rv_event.specs.Log.{Between}
-use Rattle.rv_event.specs.Preserved.{Rule, overlapping_store, different_reads, DifferentReads}
-use Rattle.rv_event.specs.declared.event.Event.{Event}
+use Rattle.rv_hart.proofs.Common.{◌≡◌, ◌≢◌, ℕ, suc, ◌<◌, ◌≤◌, Bool, false, IsTrue, ◌||◌, ◌&&◌, ◌==◌, ◌↔◌, List}
+use Rattle.rv_hart.proofs.Common.{length, get_or, Contains, Some, None, Option, ◌⊎◌, inl, inr, sym, refl, ap, ◌∙◌}
+use Rattle.rv_hart.proofs.Common.{arith, subst, eqb-true, eq-eqb, or_cases, or_left, or_right, false≢true}
+use Rattle.rv_hart.proofs.Common.{cases_order, All-contains, All-from_contains, is_load, is_store, IsLoad}
+use Rattle.rv_hart.proofs.Common.{IsStore, IsMemory, Between, Rule, overlapping_store, different_reads}
+use Rattle.rv_hart.proofs.Common.{DifferentReads, Event, Has, has_bit, Hart, followed, IsOrderedBy, IsGenerated}
+use Rattle.rv_hart.proofs.Common.{RuleRowIs, IsOverlapRow, HasEvent, get_or_default, rules, common_steps}
+use Rattle.rv_hart.proofs.Common.{IsOfWord, IsAbove, NamesOfWord, IsLastBelow, IsBeforeRun, IsWordLink, AreWords}
+use Rattle.rv_hart.proofs.Common.{WordLink, Words, overlapping_store_out, different_reads_out}
 use Rattle.rv_cover.specs.Paths.{one}
-use Rattle.rv_rows.specs.Bits.{Has, has_bit}
-use Rattle.rv_hart.specs.Harts.{Hart, followed}
-use Rattle.rv_hart.specs.Rows.{IsOrderedBy, IsGenerated}
-use Rattle.rv_hart.specs.RuleRows.{RuleRowIs, IsOverlapRow}
-use Rattle.rv_hart.specs.Sets.{HasEvent}
-use Rattle.std.proofs.lemmas.List.{get_or_default}
-use Rattle.std.proofs.Common.{rules}
-use Rattle.std.proofs.lemmas.Grind.{common_steps}
-use Rattle.rv_hart.specs.Words.{IsOfWord, IsAbove, NamesOfWord, IsLastBelow, IsBeforeRun, IsWordLink, AreWords}
-use Rattle.rv_hart.specs.declared.words.WordLink.{WordLink}
-use Rattle.rv_hart.specs.declared.words.Words.{Words}
-use Rattle.rv_event.proofs.Conditions.{overlapping_store_out, different_reads_out}
 use Rattle.rv_hart.proofs.HartFacts.{Known, Fits, same_event, follows_all, earlier_old, old_new}
 use Rattle.rv_hart.proofs.RowMeanings.{rule-old}
 use Rattle.rv_hart.proofs.RuleConditions.{ordered}
@@ -49,7 +36,7 @@ pub record IsOverlapWalk (h : Hart) (e : Event) (next : Option ℕ) (row : List 
   pub sound : (s : ℕ) → Has row s → IsOrderedBy h e 1 s
   pub seen : (m : Event) → Contains h.events m → IsOfWord e.word m → IsAbove next m.id.seq → Has row m.id.seq
 
-module _ (h : Hart) (e : Event) (f : Fits h e) (memory : IsMemory e) where
+module _ {h : Hart} {e : Event} (f : Fits h e) (memory : IsMemory e) where
   -- before the first operation of the word is met
   pub overlap-begin : (row : List ℕ) (o : Option ℕ) → ((s : ℕ) → has_bit row s ≡ false) →
       IsLastBelow h.events e.word (length h.events) o → IsOverlapWalk h e o row
@@ -76,7 +63,7 @@ module _ (h : Hart) (e : Event) (f : Fits h e) (memory : IsMemory e) where
     here p row row' more = more p ∙ or_right (has_bit row p) (p == p) (eq-eqb p p refl)
 
     overlapped : (p : ℕ) → HasEvent (IsOfWord e.word) h.events p → IsOrderedBy h e 1 p
-    overlapped p x = let o = ordered h e f memory 1 x.a x.of_list (
+    overlapped p x = let o = ordered f memory 1 x.a x.of_list (
       x.holds.0,
       overlapping_store (record {
         store
@@ -105,7 +92,7 @@ module _ (h : Hart) (e : Event) (f : Fits h e) (memory : IsMemory e) where
       where
         word : a.word ≡ e.word
         word = ap (λ (x : Event). x.word)
-            (same_event h f.known a walk.names.1.a ca walk.names.1.of_list (at ∙ sym walk.names.1.at)) ∙
+            (same_event f.known a walk.names.1.a ca walk.names.1.of_list (at ∙ sym walk.names.1.at)) ∙
             walk.names.1.holds.1
 
         go : (m : Event) → Contains h.events m → IsOfWord e.word m → IsAbove o m.id.seq → (m.id.seq ≡ p) ⊎
@@ -119,12 +106,12 @@ module _ (h : Hart) (e : Event) (f : Fits h e) (memory : IsMemory e) where
         a.id.seq ≡ p → IsStore a → ((s : ℕ) → has_bit row' s ≡ (has_bit row s || (p == s))) → IsOverlapRow h e row'
     overlap-store p row row' a walk ca at met more = record {
       sound = sound-more p row row' walk more;
-      enough = λ b r. go b (rule-old h e f 1 b r) r (overlapping_store_out h.model (followed h e) b e r.condition).word
+      enough = λ b r. go b (rule-old f 1 b r) r (overlapping_store_out h.model (followed h e) b e r.condition).word
           (cases_order b.id.seq p);
     }
       where
         is : a ≡ walk.names.1.a
-        is = same_event h f.known a walk.names.1.a ca walk.names.1.of_list (at ∙ sym walk.names.1.at)
+        is = same_event f.known a walk.names.1.a ca walk.names.1.of_list (at ∙ sym walk.names.1.at)
 
         of_word : IsOfWord e.word a
         of_word = subst (IsOfWord e.word) (sym is) walk.names.1.holds
@@ -151,8 +138,7 @@ module _ (h : Hart) (e : Event) (f : Fits h e) (memory : IsMemory e) where
           ));
           has = has;
         }
-        go b cb r word (inr (inr high)) =
-            search (kept, rules)
+        go b cb r word (inr (inr high)) = search (kept, rules)
 
     -- the end at the first operation
     pub overlap-end : (row : List ℕ) → IsOverlapWalk h e None row → IsOverlapRow h e row
@@ -173,7 +159,7 @@ pub record IsMet (h : Hart) (e : Event) (a : Event) (row row' : List ℕ) : Type
   -- each listed event is a candidate
   pub only : (s : ℕ) → Has row' s → Has row s ⊎ ((a.id.seq ≡ s) × IsLoad a × (a.read ≢ e.read))
 
-module _ (h : Hart) (e : Event) (f : Fits h e) (memory : IsMemory e) where
+module _ {h : Hart} {e : Event} (f : Fits h e) (memory : IsMemory e) where
   -- likewise for loads
   pub reads-begin : (row : List ℕ) (o : Option ℕ) → ((s : ℕ) → has_bit row s ≡ false) →
       IsLastBelow h.events e.word (length h.events) o → IsReadsWalk h e o row
@@ -189,14 +175,14 @@ module _ (h : Hart) (e : Event) (f : Fits h e) (memory : IsMemory e) where
   module _ (load : IsLoad e) (p : ℕ) (row row' : List ℕ) (a : Event) (walk : IsReadsWalk h e (Some p) row)
       (ca : Contains h.events a) (at : a.id.seq ≡ p) (met : IsMet h e a row row') where
     is : a ≡ walk.names.1.a
-    is = same_event h f.known a walk.names.1.a ca walk.names.1.of_list (at ∙ sym walk.names.1.at)
+    is = same_event f.known a walk.names.1.a ca walk.names.1.of_list (at ∙ sym walk.names.1.at)
 
     of_word : IsOfWord e.word a
     of_word = subst (IsOfWord e.word) (sym is) walk.names.1.holds
 
     -- what was met is ordered where it returned another version
     differs : IsLoad a → a.read ≢ e.read → IsOrderedBy h e 2 a.id.seq
-    differs l other = ordered h e f memory 2 a ca (
+    differs l other = ordered f memory 2 a ca (
       of_word.0,
       different_reads (record {
         first = l;
@@ -206,7 +192,7 @@ module _ (h : Hart) (e : Event) (f : Fits h e) (memory : IsMemory e) where
         none_between = All-from_contains (λ m. Between a m e → IsStore m → m.word ≢ a.word) (followed h e)
             (λ m c between store word. (
             let after = between.after.seq in
-            walk.plain m (earlier_old h e f m c between.before) (
+            walk.plain m (earlier_old f m c between.before) (
               or_right (is_load m.op) (is_store m.op) store,
               word ∙
                   of_word.1,
@@ -234,7 +220,7 @@ module _ (h : Hart) (e : Event) (f : Fits h e) (memory : IsMemory e) where
         at_plain : (m : Event) → Contains h.events m → IsOfWord e.word m → IsAbove o m.id.seq → IsStore m →
             (m.id.seq ≡ p) ⊎ ((m.id.seq < p) ⊎ (p < m.id.seq)) → ⊥
         at_plain m c w above store (inl same) =
-            none (subst IsStore (same_event h f.known m a c ca (same ∙ sym at)) store)
+            none (subst IsStore (same_event f.known m a c ca (same ∙ sym at)) store)
         at_plain m c w above store (inr (inl low)) =
             (skipped m c (w.0, w.1 ∙ sym of_word.1) above (omega arith)).0 store
         at_plain m c w above store (inr (inr high)) = walk.plain m c w high store
@@ -242,7 +228,7 @@ module _ (h : Hart) (e : Event) (f : Fits h e) (memory : IsMemory e) where
         at_seen : (m : Event) → Contains h.events m → IsOfWord e.word m → IsAbove o m.id.seq → IsLoad m →
             m.read ≢ e.read → (m.id.seq ≡ p) ⊎ ((m.id.seq < p) ⊎ (p < m.id.seq)) → Has row' m.id.seq
         at_seen m c w above l other (inl same) =
-            let this : m ≡ a = same_event h f.known m a c ca (same ∙ sym at) in
+            let this : m ≡ a = same_event f.known m a c ca (same ∙ sym at) in
             subst (λ (n : ℕ). Has row' n) (at ∙ sym same)
             (met.here (subst IsLoad this l) (λ r. other (ap (λ (x : Event). x.read) this ∙ r)))
         at_seen m c w above l other (inr (inl low)) =
@@ -268,7 +254,7 @@ module _ (h : Hart) (e : Event) (f : Fits h e) (memory : IsMemory e) where
         go : (o : IsOrderedBy h e 2 s) → DifferentReads (followed h e) o.a e → (o.a.id.seq ≡ p) ⊎
             ((o.a.id.seq < p) ⊎ (p < o.a.id.seq)) → Has row' s
         go o d (inl same) =
-            let this : o.a ≡ a = same_event h f.known o.a a o.of_hart ca (same ∙ sym at) in
+            let this : o.a ≡ a = same_event f.known o.a a o.of_hart ca (same ∙ sym at) in
             subst (λ (n : ℕ). Has row' n) (at ∙ sym same ∙ o.at)
             (met.here (subst IsLoad this d.first) (λ r. d.versions (ap (λ (x : Event). x.read) this ∙ r)))
         go o d (inr (inl low)) =
@@ -276,7 +262,7 @@ module _ (h : Hart) (e : Event) (f : Fits h e) (memory : IsMemory e) where
             (old_new h e a ca)
             (record {
               after = record { hart = f.known.own o.a o.of_hart ∙ sym (f.known.own a ca); seq = omega arith };
-              before = follows_all h e f a ca;
+              before = follows_all f a ca;
             }) store (of_word.1 ∙ sym d.word))
         go o d (inr (inr high)) = subst (Has row') o.at
             (met.kept o.a.id.seq (walk.seen o.a o.of_hart (o.rule.from_memory, d.word) high d.first d.versions))
@@ -306,6 +292,6 @@ pub read_link : (events : List Event) (words : Words) → AreWords events words 
 read_link events words are a l n ca memory low at read = search (get_or_default, rules)
 
 -- a name of a word is a place of the list
-pub named-low : (h : Hart) → Known h → (word limit p : ℕ) → NamesOfWord h.events word limit (Some p) →
+pub named-low : {h : Hart} → Known h → (word limit p : ℕ) → NamesOfWord h.events word limit (Some p) →
     (p < length h.events) × (p < 4096)
-named-low h known word limit p names = grind (arith, common_steps)
+named-low {h} known word limit p names = grind (arith, common_steps)

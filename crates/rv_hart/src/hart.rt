@@ -18,10 +18,10 @@ use std::alloc::Global;
 /// What the rules of preserved program order ask of one hart's events at its next one (manual,
 /// section 14.1, "Preserved Program Order"), beside the log that has the events.
 ///
-/// Each call takes that log, which has the events of all harts. Contracts see the fields: `IsHartOf`
-/// (in `specs/Kept.antt`) says that they are as the log's events of this hart want them. An event
-/// takes some 30 bytes, and 8 for each 64 events from the first that leads to it by rules to itself:
-/// at most n / 8 for event n.
+/// Each call takes that log, of the events of all harts. Contracts see the fields, and
+/// [`IsHartOf`](specs/Kept.antt) says that they are those of the log's events. An event takes some
+/// 60 bytes, and 8 for each 64 events from the first that leads to it by rules to itself: at most
+/// n / 8 for event n.
 #[derive(Drop)]
 pub struct HartOrder {
     /// The places of the hart's events in the log.

@@ -1,9 +1,8 @@
 -- How many of the first elements of a list pass a test, and where those that pass stand in the
 -- filtered list.
-use Rattle.std.proofs.Common.{◌≡◌, ℕ, zero, suc, ◌+◌, ◌-◌, ◌<◌, ◌≤◌, ◌⊎◌, Bool, true, false, cond, List}
-use Rattle.std.proofs.Common.{[], ◌∷◌, length, get_or, inl, inr, sym, ◌∙◌, arith, ap, refl, subst}
-use Rattle.std.specs.List.{filter}
-use Rattle.rv_rank.specs.Mended.{count_below}
+use Rattle.rv_rank.proofs.Common.{◌≡◌, ℕ, zero, suc, ◌+◌, ◌-◌, ◌<◌, ◌≤◌, ◌⊎◌, Bool, true, false, cond, List, []}
+use Rattle.rv_rank.proofs.Common.{◌∷◌, length, get_or, inl, inr, sym, ◌∙◌, arith, ap, refl, subst, filter}
+use Rattle.rv_rank.proofs.Common.{count_below}
 
 -- how many of the first k elements pass
 abbrev pub count_to : (ℕ → Bool) → List ℕ → ℕ → ℕ

@@ -1,16 +1,9 @@
 -- What the two searches find together.
-use Rattle.std.proofs.Common.{◌≡◌, ℕ, ◌+◌, ◌<◌, ◌≤◌, true, List, ◌++◌, length, get_or, reverse, inl}
-use Rattle.std.proofs.Common.{sym, ◌∙◌, arith, ap}
-use Rattle.std.specs.List.{All, Contains}
-use Rattle.std.proofs.lemmas.List.Elements.{All-contains, filter_agree, filter_passes}
-use Rattle.std.proofs.lemmas.Grind.{common_steps}
-use Rattle.rv_rank.specs.declared.search.Mark.{Mark}
-use Rattle.rv_rank.specs.declared.search.Mark.TheVariants.{Free}
-use Rattle.rv_rank.specs.Graph.{IsCircle, IsTrail, IsOrder}
-use Rattle.rv_rank.specs.Ordering.{Ordering}
-use Rattle.rv_rank.specs.Marks.{mark_of, IsMarked, IsSearched, IsTraced, is_behind, is_ahead_of}
-use Rattle.rv_rank.specs.Found.{IsFound, found_ahead, found_behind}
-use Rattle.rv_rank.specs.Placing.{IsAhead, OnlyAffected}
+use Rattle.rv_rank.proofs.Common.{◌≡◌, ℕ, ◌+◌, ◌<◌, ◌≤◌, true, List, ◌++◌, length, get_or, reverse, inl, sym, ◌∙◌}
+use Rattle.rv_rank.proofs.Common.{arith, ap, All, Contains, All-contains, filter_agree, filter_passes}
+use Rattle.rv_rank.proofs.Common.{common_steps, Mark, Free, IsCircle, IsTrail, IsOrder, Ordering, mark_of}
+use Rattle.rv_rank.proofs.Common.{IsMarked, IsSearched, IsTraced, is_behind, is_ahead_of, IsFound, found_ahead}
+use Rattle.rv_rank.proofs.Common.{found_behind, IsAhead, OnlyAffected}
 use Rattle.rv_rank.proofs.Marks.{marked_within, ahead_else, ahead_marked, behind_is}
 use Rattle.rv_rank.proofs.Searching.{reached_marked, marked_reached}
 use Rattle.rv_rank.proofs.Tracing.{behind_marked, reaching_behind}

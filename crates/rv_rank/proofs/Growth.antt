@@ -1,12 +1,8 @@
 -- One node more.
-use Rattle.std.proofs.Common.{◌≡◌, ℕ, ◌<◌, List, [], ◌∷◌, ◌++◌, length, get_or, inl, inr, sym, arith}
-use Rattle.std.specs.List.{All}
-use Rattle.std.proofs.lemmas.List.{length_push, get_or_push, get_or_append_left}
-use Rattle.std.proofs.lemmas.List.Elements.{Contains-push_cases, Contains-append_left, Contains-push, All-contains}
-use Rattle.std.proofs.lemmas.Bool.{cases_lt}
-use Rattle.std.proofs.lemmas.Grind.{common_steps}
-use Rattle.rv_rank.specs.Graph.{Edge, IsGrown}
-use Rattle.rv_rank.specs.Rows.{IsAppended}
+use Rattle.rv_rank.proofs.Common.{◌≡◌, ℕ, ◌<◌, List, [], ◌∷◌, ◌++◌, length, get_or, inl, inr, sym, arith, All}
+use Rattle.rv_rank.proofs.Common.{length_push, get_or_push, get_or_append_left, Contains-push_cases}
+use Rattle.rv_rank.proofs.Common.{Contains-append_left, Contains-push, All-contains, cases_lt, common_steps, Edge}
+use Rattle.rv_rank.proofs.Common.{IsGrown, IsAppended}
 use Rattle.rv_rank.proofs.Lists.{contains_cases}
 
 -- an edge leads from a node

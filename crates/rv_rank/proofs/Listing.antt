@@ -1,13 +1,9 @@
 -- The nodes that pass a test, listed by rank.
-use Rattle.std.proofs.Common.{◌≡◌, ℕ, suc, ◌+◌, ◌<◌, ◌≤◌, Bool, true, false, cond, List, [], ◌∷◌, ◌++◌}
-use Rattle.std.proofs.Common.{length, get_or, take, drop, reverse, sym, ◌∙◌, arith, ap, refl}
-use Rattle.std.proofs.Common.{length-drop}
-use Rattle.std.specs.List.{filter}
-use Rattle.std.proofs.Math.Seq.{drop-cons}
-use Rattle.std.proofs.lemmas.List.{get_or-take, get_or-drop, length-take, reverse-append, take-append-drop}
-use Rattle.std.proofs.lemmas.List.Elements.{filter_more, filter-append}
-use Rattle.std.proofs.lemmas.List.Sums.{length-filter, count_by-le-length}
-use Rattle.std.proofs.lemmas.Grind.{common_steps}
+use Rattle.rv_rank.proofs.Common.{◌≡◌, ℕ, suc, ◌+◌, ◌<◌, ◌≤◌, Bool, true, false, cond, List, [], ◌∷◌, ◌++◌}
+use Rattle.rv_rank.proofs.Common.{length, get_or, take, drop, reverse, sym, ◌∙◌, arith, ap, refl, length-drop}
+use Rattle.rv_rank.proofs.Common.{filter, drop-cons, get_or-take, get_or-drop, length-take, reverse-append}
+use Rattle.rv_rank.proofs.Common.{take-append-drop, filter_more, filter-append, length-filter, count_by-le-length}
+use Rattle.rv_rank.proofs.Common.{common_steps}
 
 filter_same : (t u : ℕ → Bool) (xs : List ℕ) →
     ((k : ℕ) → k < length xs → t (get_or xs k 0) ≡ u (get_or xs k 0)) → filter t xs ≡ filter u xs

@@ -1,10 +1,7 @@
 -- Membership in the first elements of a list.
-use Rattle.std.proofs.lemmas.Bool.{cases_eq}
-use Rattle.std.proofs.Common.{◌≡◌, ℕ, zero, suc, ◌+◌, ◌<◌, ◌⊎◌, List, [], ◌∷◌, length, get_or, take, inl, inr, arith}
-use Rattle.std.specs.List.{Contains}
-use Rattle.std.proofs.lemmas.List.{take_more}
-use Rattle.std.proofs.lemmas.List.Elements.{Contains-append_left, Contains-push}
-use Rattle.std.proofs.lemmas.Grind.{common_steps}
+use Rattle.rv_rank.proofs.Common.{cases_eq, ◌≡◌, ℕ, zero, suc, ◌+◌, ◌<◌, ◌⊎◌, List, [], ◌∷◌, length, get_or, take}
+use Rattle.rv_rank.proofs.Common.{inl, inr, arith, Contains, take_more, Contains-append_left, Contains-push}
+use Rattle.rv_rank.proofs.Common.{common_steps}
 
 -- the first elements and the next
 pub Contains-take_more : (xs : List ℕ) (i x : ℕ) → i < length xs → Contains (take (i + 1) xs) x →

@@ -1,16 +1,11 @@
 -- Marks that are kept by rank.
-use Rattle.std.proofs.Common.{◌≡◌, ◌≢◌, ℕ, ◌+◌, ◌-◌, ◌<◌, ◌≤◌, ◌⊎◌, true, false, List}
-use Rattle.std.proofs.Common.{length, get_or, set, take, inl, inr, sym, ◌∙◌, arith, ap, refl}
-use Rattle.std.specs.List.{Contains}
-use Rattle.std.specs.Prelude.{nat_lt}
-use Rattle.std.proofs.lemmas.List.{length-set, get_or-set_same, get_or-set_other, get_or_past, get_or_default}
-use Rattle.std.proofs.lemmas.Bool.{cases_eq, cases_lt, cond-true, cond-false, lt-ltb, le-ltb}
-use Rattle.std.proofs.lemmas.Grind.{common_steps}
-use Rattle.std.proofs.Common.{rules}
-use Rattle.rv_rank.specs.declared.search.Mark.{Mark}
-use Rattle.rv_rank.specs.declared.search.Mark.TheVariants.{Free, Start, After, Behind}
-use Rattle.rv_rank.specs.Order.{IsInverse}
-use Rattle.rv_rank.specs.Marks.{mark_at, mark_of, IsMarked, IsSpread, is_free, is_ahead, is_behind}
+use Rattle.rv_rank.proofs.Common.{◌≡◌, ◌≢◌, ℕ, ◌+◌, ◌-◌, ◌<◌, ◌≤◌, ◌⊎◌, true, false, List, length, get_or, set}
+use Rattle.rv_rank.proofs.Common.{take, inl, inr, sym, ◌∙◌, arith, ap, refl, Contains, nat_lt, length-set}
+use Rattle.rv_rank.proofs.Common.{get_or-set_same, get_or-set_other, get_or_past, get_or_default, cases_eq}
+use Rattle.rv_rank.proofs.Common.{cases_lt, cond-true, cond-false, lt-ltb, le-ltb, common_steps, rules, Mark}
+use Rattle.rv_rank.proofs.Common.{Free, Start, After, Behind, IsInverse, mark_of, IsMarked, IsSpread}
+use Rattle.rv_rank.specs.Marks.{mark_at}
+use Rattle.rv_rank.proofs.Common.{is_free, is_ahead, is_behind}
 use Rattle.rv_rank.proofs.Lists.{Contains-take_more, Contains-take_kept, Contains-take_last}
 
 -- a mark is free or not
@@ -136,8 +131,7 @@ IsSpread-more ranks low old new mark targets i once long marks h l b below high 
       found = λ a w up free. elim (cases_eq a t) [
         | inl e ↦ marks (sym same ∙ ap (mark_of low ranks next) (sym e) ∙ free)
         | inr n ↦ elim (Contains-take_more targets i a l w) [
-          | inl v ↦ h.found a v up (sym (other a n) ∙
-              free)
+          | inl v ↦ h.found a v up (sym (other a n) ∙ free)
           | inr e ↦ n (sym e)
         ]
       ];

@@ -1,18 +1,8 @@
 -- The members of a placement, as the visits tell them.
-use Rattle.std.proofs.Common.{◌≡◌, ℕ, ◌+◌, ◌<◌, ◌≤◌, Bool, true, false, List, [], ◌∷◌, ◌++◌}
-use Rattle.std.proofs.Common.{length, get_or, set, reverse, ◌∙◌, arith, ap}
-use Rattle.std.specs.List.{All, filter}
-use Rattle.std.proofs.lemmas.List.{get_or_default}
-use Rattle.std.proofs.Common.{rules}
-use Rattle.std.proofs.lemmas.Grind.{common_steps}
-use Rattle.rv_rank.specs.declared.search.Mark.{Mark}
-use Rattle.rv_rank.specs.declared.search.Mark.TheVariants.{Free}
-use Rattle.rv_rank.specs.Order.{IsInverse}
-use Rattle.rv_rank.specs.Marks.{mark_of, is_ahead, is_behind, is_ahead_of, is_behind_of, is_slot}
-use Rattle.rv_rank.specs.Mended.{members_of, IsMended}
-use Rattle.rv_rank.specs.declared.search.Found.{Found}
-use Rattle.rv_rank.specs.Plan.{IsPlan, IsRoster}
-use Rattle.rv_rank.specs.Local.{IsLocal}
+use Rattle.rv_rank.proofs.Common.{◌≡◌, ℕ, ◌+◌, ◌<◌, ◌≤◌, Bool, true, false, List, [], ◌∷◌, ◌++◌, length, get_or}
+use Rattle.rv_rank.proofs.Common.{set, reverse, ◌∙◌, arith, ap, All, filter, get_or_default, rules, common_steps}
+use Rattle.rv_rank.proofs.Common.{Mark, Free, IsInverse, mark_of, is_ahead, is_behind, is_ahead_of, is_behind_of}
+use Rattle.rv_rank.proofs.Common.{is_slot, members_of, IsMended, Found, IsPlan, IsRoster, IsLocal}
 use Rattle.rv_rank.proofs.Marks.{cases_free, marked_within, ahead_marked, behind_is, behind_not_ahead}
 use Rattle.rv_rank.proofs.Tracing.{behind_marked}
 use Rattle.rv_rank.proofs.Counting.{count_to, count_below-count_to}

@@ -1,16 +1,10 @@
 -- What the members' new places make of the ranks.
-use Rattle.std.proofs.Common.{◌≡◌, ◌≢◌, ℕ, zero, suc, ◌+◌, ◌-◌, ◌<◌, ◌≤◌, ◌⊎◌, ◌||◌, Bool, true, false, cond}
-use Rattle.std.proofs.Common.{List, [], ◌∷◌, ◌++◌, length, get_or, set, inl, inr, sym, ◌∙◌, arith, ap, refl}
-use Rattle.std.proofs.Common.{length-append}
-use Rattle.std.specs.List.{filter}
-use Rattle.std.proofs.lemmas.List.{get_or-set_same, get_or-set_other, length-set, get_or_append_left}
-use Rattle.std.proofs.lemmas.List.{get_or_at, get_or-append_right, get_or_push, length_push}
-use Rattle.std.proofs.lemmas.Bool.{cases_eq, cases_lt, false≢true}
-use Rattle.std.proofs.Common.{rules}
-use Rattle.std.proofs.lemmas.Grind.{common_steps}
-use Rattle.rv_rank.specs.Order.{IsInverse}
-use Rattle.rv_rank.specs.Mended.{IsMended}
-use Rattle.rv_rank.specs.Local.{IsLocal}
+use Rattle.rv_rank.proofs.Common.{◌≡◌, ◌≢◌, ℕ, zero, suc, ◌+◌, ◌-◌, ◌<◌, ◌≤◌, ◌⊎◌, ◌||◌, Bool, true, false, cond}
+use Rattle.rv_rank.proofs.Common.{List, [], ◌∷◌, ◌++◌, length, get_or, set, inl, inr, sym, ◌∙◌, arith, ap, refl}
+use Rattle.rv_rank.proofs.Common.{length-append, filter, get_or-set_same, get_or-set_other, length-set}
+use Rattle.rv_rank.proofs.Common.{get_or_append_left, get_or_at, get_or-append_right, get_or_push, length_push}
+use Rattle.rv_rank.proofs.Common.{cases_eq, cases_lt, false≢true, rules, common_steps, IsInverse, IsMended}
+use Rattle.rv_rank.proofs.Common.{IsLocal}
 use Rattle.rv_rank.proofs.Counting.{cases_test, count_to, count_mono, count_strict, count_all}
 use Rattle.rv_rank.proofs.Counting.{count_below-count_to, filter_at, filter_from}
 
@@ -56,8 +50,7 @@ module _ (b f : ℕ → Bool) (nodes ranks : List ℕ) (inverse : IsInverse node
 
   -- where a member stands among the members
   abbrev pub place : ℕ → ℕ
-  place a =
-      cond (b a) (count_to b nodes (get_or ranks a 0))
+  place a = cond (b a) (count_to b nodes (get_or ranks a 0))
       (cond (f a) (length (filter b nodes) + 1 + count_to f nodes (get_or ranks a 0)) (length (filter b nodes)))
 
   -- there is one member more than slots
@@ -376,8 +369,7 @@ module _ (b f : ℕ → Bool) (nodes ranks : List ℕ) (inverse : IsInverse node
         let sum = count_sum b f apart nodes (get_or ranks a 0) in
         let high = above_b a l e in
         let first = lowest (omega (arith, high, i.0)) in
-        let differs : low ≢ get_or ranks a 0 =
-        search (false≢true, rules) in
+        let differs : low ≢ get_or ranks a 0 = search (false≢true, rules) in
         let before = count_strict f nodes low (get_or ranks a 0) (omega (arith, high, i.0)) first (omega arith) in
         omega (arith, s.2, slots_rise s.0 (get_or ranks a 0) (omega (arith, s.4, place_back a e, sum, before)))
 

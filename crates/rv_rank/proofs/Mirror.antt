@@ -1,11 +1,6 @@
 -- Two tables, the one with the other's edges backward.
-use Rattle.std.proofs.Common.{◌≡◌, ℕ, ◌<◌, List, [], length, get_or, inl, inr, arith}
-use Rattle.std.specs.List.{All}
-use Rattle.std.proofs.lemmas.List.{get_or_default}
-use Rattle.std.proofs.lemmas.List.Elements.{Contains-get_or}
-use Rattle.std.proofs.lemmas.Grind.{common_steps}
-use Rattle.rv_rank.specs.Graph.{Edge, IsGrown}
-use Rattle.rv_rank.specs.Walking.{IsMirror}
+use Rattle.rv_rank.proofs.Common.{◌≡◌, ℕ, ◌<◌, List, [], length, get_or, inl, inr, arith, All, get_or_default}
+use Rattle.rv_rank.proofs.Common.{Contains-get_or, common_steps, Edge, IsGrown, IsMirror}
 use Rattle.rv_rank.proofs.Growth.{edge_from}
 
 -- rows name nodes alone

@@ -1,19 +1,10 @@
 -- How many numbers pass a test, told by a list that has each of them once.
-use Rattle.std.proofs.Common.{◌≡◌, ◌≢◌, ℕ, zero, suc, ◌+◌, ◌-◌, ◌<◌, ◌≤◌, ◌⊎◌, Bool, true, not, cond}
-use Rattle.std.proofs.Common.{List, [], ◌∷◌, length, get_or, take, inl, inr, sym, ◌∙◌, arith, ap, refl}
-use Rattle.std.proofs.Common.{subst}
-use Rattle.std.specs.Prelude.{◌==◌}
-use Rattle.std.specs.List.{Contains, remove, zip, count_by}
-use Rattle.std.proofs.lemmas.List.{take_all, get_or_default}
-use Rattle.std.proofs.lemmas.List.Edits.{length-remove, get_or-remove_below, get_or-remove_above}
-use Rattle.std.proofs.lemmas.List.Elements.{Contains-get_or}
-use Rattle.std.proofs.lemmas.List.Sums.{count_by_more_yes, count_by_more_no}
-use Rattle.std.proofs.lemmas.Slice.Zip.{get_or-zip, length-zip}
-use Rattle.std.proofs.lemmas.Bool.{cases_lt, false≢true}
-use Rattle.std.proofs.Common.{rules}
-use Rattle.std.proofs.lemmas.Grind.{common_steps}
-use Rattle.rv_rank.specs.Mended.{count_below}
-use Rattle.rv_rank.specs.Placing.{ListsOnce, moved_of}
+use Rattle.rv_rank.proofs.Common.{◌≡◌, ◌≢◌, ℕ, zero, suc, ◌+◌, ◌-◌, ◌<◌, ◌≤◌, ◌⊎◌, Bool, true, not, cond, List}
+use Rattle.rv_rank.proofs.Common.{[], ◌∷◌, length, get_or, take, inl, inr, sym, ◌∙◌, arith, ap, refl, subst, ◌==◌}
+use Rattle.rv_rank.proofs.Common.{Contains, remove, zip, count_by, take_all, get_or_default, length-remove}
+use Rattle.rv_rank.proofs.Common.{get_or-remove_below, get_or-remove_above, Contains-get_or, count_by_more_yes}
+use Rattle.rv_rank.proofs.Common.{count_by_more_no, get_or-zip, length-zip, cases_lt, false≢true, rules}
+use Rattle.rv_rank.proofs.Common.{common_steps, count_below, ListsOnce, moved_of}
 use Rattle.rv_rank.proofs.Counting.{cases_test}
 
 -- what a list contains stands somewhere

@@ -1,28 +1,15 @@
 -- What the affected nodes and the mended ranks make of a placement.
-use Rattle.std.proofs.Common.{◌≡◌, ◌≢◌, ℕ, ◌+◌, ◌-◌, ◌%◌, ◌^◌, ◌<◌, ◌≤◌, ◌⊎◌, ◌||◌, Bool, true}
-use Rattle.std.proofs.Common.{false, not, cond, List, [], ◌++◌, length, get_or, reverse, inl, inr, sym, ◌∙◌}
-use Rattle.std.proofs.Common.{arith, ap, refl, subst, length-append, eqb}
-use Rattle.std.specs.List.{All, Contains, filter}
-use Rattle.std.proofs.lemmas.List.{get_or_append_left, get_or-append_right, get_or-reverse, length-reverse}
-use Rattle.std.proofs.lemmas.List.Elements.{All-contains, Contains-get_or, Contains-append_left}
-use Rattle.std.proofs.lemmas.List.Elements.{Contains-append_right, Contains-append_cases, filter_passes}
-use Rattle.std.proofs.lemmas.List.Sorted.{Contains-permutation, IsPermutation-reverse, IsPermutation-sym}
-use Rattle.std.proofs.lemmas.Bool.{cases_eq, cases_lt, false≢true, ne_eqb, eq-eqb}
-use Rattle.std.proofs.Common.{rules}
-use Rattle.std.proofs.lemmas.Grind.{common_steps}
-use Rattle.rv_rank.specs.declared.search.Found.{Found}
-use Rattle.rv_rank.specs.declared.search.Mark.{Mark}
-use Rattle.rv_rank.specs.Graph.{Edge, here, step, IsOrder, IsGrown}
-use Rattle.rv_rank.specs.Order.{IsInverse}
-use Rattle.rv_rank.specs.Ordering.{Ordering}
-use Rattle.rv_rank.specs.Marks.{mark_of, is_ahead_of, is_behind_of}
-use Rattle.rv_rank.specs.Found.{IsFound, found_ahead, found_behind}
-use Rattle.rv_rank.specs.Plan.{IsPlan}
-use Rattle.rv_rank.specs.Local.{IsLocal}
-use Rattle.rv_rank.specs.declared.ranks.Refused.{Refused}
-use Rattle.rv_rank.specs.declared.ranks.Refused.TheVariants.{Circle, NoMemory}
-use Rattle.rv_rank.specs.Ranking.{Ranking}
-use Rattle.rv_rank.specs.Placing.{IsAffected, ListsOnce, OnlyAffected, IsRefusedRound, IsMover, IsFreed, moved_of}
+use Rattle.rv_rank.proofs.Common.{◌≡◌, ◌≢◌, ℕ, ◌+◌, ◌-◌, ◌%◌, ◌^◌, ◌<◌, ◌≤◌, ◌⊎◌, ◌||◌, Bool, true, false, not}
+use Rattle.rv_rank.proofs.Common.{cond, List, [], ◌++◌, length, get_or, reverse, inl, inr, sym, ◌∙◌, arith, ap}
+use Rattle.rv_rank.proofs.Common.{refl, subst, length-append, eqb, All, Contains, filter, get_or_append_left}
+use Rattle.rv_rank.proofs.Common.{get_or-append_right, get_or-reverse, length-reverse, All-contains}
+use Rattle.rv_rank.proofs.Common.{Contains-get_or, Contains-append_left, Contains-append_right}
+use Rattle.rv_rank.proofs.Common.{Contains-append_cases, filter_passes, Contains-permutation}
+use Rattle.rv_rank.proofs.Common.{IsPermutation-reverse, IsPermutation-sym, cases_eq, cases_lt, false≢true}
+use Rattle.rv_rank.proofs.Common.{ne_eqb, eq-eqb, rules, common_steps, Found, Mark, Edge, here, step, IsOrder}
+use Rattle.rv_rank.proofs.Common.{IsGrown, IsInverse, Ordering, mark_of, is_ahead_of, is_behind_of, IsFound}
+use Rattle.rv_rank.proofs.Common.{found_ahead, found_behind, IsPlan, IsLocal, Refused, Circle, NoMemory, Ranking}
+use Rattle.rv_rank.proofs.Common.{IsAffected, ListsOnce, OnlyAffected, IsRefusedRound, IsMover, IsFreed, moved_of}
 use Rattle.rv_rank.proofs.Marks.{marked_within, ahead_marked, behind_is, behind_not_ahead}
 use Rattle.rv_rank.proofs.Searching.{edge_below, reaches_append}
 use Rattle.rv_rank.proofs.Tracing.{behind_marked}
@@ -107,8 +94,7 @@ module _ (edges : List (List ℕ)) (order : Ordering) (preds succs : List ℕ) (
       let back = found_behind low order marks in
       elim (Contains-append_cases (found_ahead low order marks) (reverse back) a c) [
         | inl x ↦ inl (passing f order.nodes a x)
-        | inr x ↦ inr
-            (passing b order.nodes a (Contains-permutation (reverse back) back a
+        | inr x ↦ inr (passing b order.nodes a (Contains-permutation (reverse back) back a
             (IsPermutation-sym back (reverse back) (IsPermutation-reverse back)) x))
       ]
 
@@ -121,8 +107,7 @@ module _ (edges : List (List ℕ)) (order : Ordering) (preds succs : List ℕ) (
 
   -- where a visited node stands among the visits
   place : ℕ → ℕ
-  place a =
-      cond (f a) (count_to f order.nodes (get_or order.ranks a 0))
+  place a = cond (f a) (count_to f order.nodes (get_or order.ranks a 0))
       (length (found_ahead low order marks) + (length (found_behind low order marks) - 1 - count_to b
       order.nodes (get_or order.ranks a 0)))
 
@@ -196,8 +181,7 @@ module _ (edges : List (List ℕ)) (order : Ordering) (preds succs : List ℕ) (
                         let under : get_or order.ranks a 0 < low =
                         elim (cases_lt (get_or order.ranks a 0) low) [
                           | inl y ↦ y
-                          | inr n ↦ absurd
-                              (false≢true (sym nb ∙ behind_closed a c bc e n))
+                          | inr n ↦ absurd (false≢true (sym nb ∙ behind_closed a c bc e n))
                         ] in
                         omega (arith, sa, under, l.least c lc (behind_either c bc))
                     | inr mc ↦ omega (arith, sa, up, l.spared c lc (neither c mc nc))
@@ -213,8 +197,7 @@ module _ (edges : List (List ℕ)) (order : Ordering) (preds succs : List ℕ) (
           | inl bp ↦ l.front p lp bp
           | inr nb ↦
               let nf : f p ≡ false = elim (cases_test (f p)) [
-                | inl fp ↦ let s =
-                    h.ahead p fp in absurd (h.free s.0 p s.1 w s.2)
+                | inl fp ↦ let s = h.ahead p fp in absurd (h.free s.0 p s.1 w s.2)
                 | inr n ↦ n
               ] in
               let under : get_or order.ranks p 0 < low = elim (cases_lt (get_or order.ranks p 0) low) [

@@ -1,17 +1,10 @@
 -- Rows of a table that grow at their ends.
-use Rattle.std.proofs.Common.{rules}
-use Rattle.std.proofs.Common.{◌≡◌, ◌≢◌, ℕ, ◌+◌, ◌-◌, ◌<◌, ◌≤◌, List, [], ◌∷◌, ◌++◌, length, get_or, set, take}
-use Rattle.std.proofs.Common.{map, inl, inr, refl, sym, ◌∙◌, arith, ap, subst}
-use Rattle.std.specs.List.{All, Contains}
-use Rattle.std.proofs.lemmas.List.{get_or-set_same, get_or-set_other, length-set, map-set, set-get_or}
-use Rattle.std.proofs.lemmas.List.{get_or-map, length-map}
-use Rattle.std.proofs.lemmas.List.Elements.{All-more, All-weaker}
-use Rattle.std.proofs.lemmas.Bool.{cases_eq}
-use Rattle.std.proofs.lemmas.Grind.{common_steps}
-use Rattle.rv_rank.specs.Rows.{Neighbours, outgoing_of, incoming_of, rooms_of, degree, HasRoom, KeepsRoom}
-use Rattle.rv_rank.specs.Rows.{IsAppended, EndsIn, row_of, rows_of, other}
-use Rattle.rv_rank.specs.declared.node.Side.{Side}
-use Rattle.rv_rank.specs.declared.node.Side.TheVariants.{Incoming, Outgoing}
+use Rattle.rv_rank.proofs.Common.{rules, ◌≡◌, ◌≢◌, ℕ, ◌+◌, ◌-◌, ◌<◌, ◌≤◌, List, [], ◌∷◌, ◌++◌, length, get_or}
+use Rattle.rv_rank.proofs.Common.{set, take, map, inl, inr, refl, sym, ◌∙◌, arith, ap, subst, All, Contains}
+use Rattle.rv_rank.proofs.Common.{get_or-set_same, get_or-set_other, length-set, map-set, set-get_or, get_or-map}
+use Rattle.rv_rank.proofs.Common.{length-map, All-more, All-weaker, cases_eq, common_steps, Neighbours}
+use Rattle.rv_rank.proofs.Common.{outgoing_of, incoming_of, rooms_of, degree, HasRoom, KeepsRoom, IsAppended}
+use Rattle.rv_rank.proofs.Common.{EndsIn, row_of, rows_of, other, Side, Incoming, Outgoing}
 use Rattle.rv_rank.proofs.Lists.{Contains-take_more, Contains-take_kept, Contains-take_last, contains_cases}
 
 -- a write that leaves what f reads
@@ -52,8 +45,7 @@ IsAppended-skip old new places item i h l v = record {
   long = h.long;
   here = λ a k w. elim (Contains-take_more places i a l w) [
     | inl u ↦ h.here a k u
-    | inr e ↦ h.here a k
-        (subst (Contains (take i places)) e v)
+    | inr e ↦ h.here a k (subst (Contains (take i places)) e v)
   ];
   other = λ a m. h.other a (λ u. m (Contains-take_kept places i a l u));
 }

@@ -1,17 +1,8 @@
 -- The search forward, by rising rank, marks just what edges reach.
-use Rattle.std.proofs.Common.{◌≡◌, ◌≢◌, ℕ, zero, suc, ◌+◌, ◌<◌, ◌≤◌, ◌⊎◌, List, [], length, get_or, inl, inr}
-use Rattle.std.proofs.Common.{sym, ◌∙◌, arith, ap, refl, subst}
-use Rattle.std.specs.List.{All}
-use Rattle.std.proofs.lemmas.List.Elements.{Contains-get_or}
-use Rattle.std.proofs.lemmas.List.{get_or_past}
-use Rattle.std.proofs.lemmas.Bool.{cases_eq, cases_lt}
-use Rattle.std.proofs.lemmas.Grind.{common_steps}
-use Rattle.std.proofs.Common.{rules}
-use Rattle.rv_rank.specs.declared.search.Mark.{Mark}
-use Rattle.rv_rank.specs.declared.search.Mark.TheVariants.{Free, Start, After, Behind}
-use Rattle.rv_rank.specs.Graph.{Edge, Reaches, here, step, IsOrder}
-use Rattle.rv_rank.specs.Placing.{IsAhead}
-use Rattle.rv_rank.specs.Marks.{mark_of, IsMarked, IsSpread, IsSearched}
+use Rattle.rv_rank.proofs.Common.{◌≡◌, ◌≢◌, ℕ, zero, suc, ◌+◌, ◌<◌, ◌≤◌, ◌⊎◌, List, [], length, get_or, inl, inr}
+use Rattle.rv_rank.proofs.Common.{sym, ◌∙◌, arith, ap, refl, subst, All, Contains-get_or, get_or_past, cases_eq}
+use Rattle.rv_rank.proofs.Common.{cases_lt, common_steps, rules, Mark, Free, Start, After, Behind, Edge, Reaches}
+use Rattle.rv_rank.proofs.Common.{here, step, IsOrder, IsAhead, mark_of, IsMarked, IsSpread, IsSearched}
 use Rattle.rv_rank.proofs.Marks.{cases_free, marked_within}
 
 -- an edge leads to a node

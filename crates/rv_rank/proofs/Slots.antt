@@ -1,11 +1,8 @@
 -- The slots of an order, filled one after another.
-use Rattle.std.proofs.Common.{◌≡◌, ◌≢◌, ℕ, zero, suc, ◌+◌, ◌-◌, ◌<◌, ◌≤◌, Bool, true, false, cond, List}
-use Rattle.std.proofs.Common.{length, get_or, set, inl, inr}
-use Rattle.std.proofs.Common.{sym, ◌∙◌, arith, ap, refl}
-use Rattle.std.proofs.lemmas.List.{get_or-set_same, get_or-set_other, length-set}
-use Rattle.std.proofs.lemmas.Bool.{cases_eq, false≢true}
-use Rattle.std.proofs.lemmas.Grind.{common_steps}
-use Rattle.rv_rank.specs.Mended.{count_below, members_of, IsMended}
+use Rattle.rv_rank.proofs.Common.{◌≡◌, ◌≢◌, ℕ, zero, suc, ◌+◌, ◌-◌, ◌<◌, ◌≤◌, Bool, true, false, cond, List}
+use Rattle.rv_rank.proofs.Common.{length, get_or, set, inl, inr, sym, ◌∙◌, arith, ap, refl, get_or-set_same}
+use Rattle.rv_rank.proofs.Common.{get_or-set_other, length-set, cases_eq, false≢true, common_steps, count_below}
+use Rattle.rv_rank.proofs.Common.{members_of, IsMended}
 
 -- a count of slots goes up at one
 pub below_yes : (s : ℕ → Bool) (k : ℕ) → s k ≡ true → count_below s (k + 1) ≡ count_below s k + 1

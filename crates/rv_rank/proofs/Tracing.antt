@@ -1,15 +1,7 @@
 -- The search backward, by falling rank, over the marks of the search forward.
-use Rattle.std.proofs.Common.{◌≡◌, ◌≢◌, ℕ, ◌+◌, ◌<◌, ◌≤◌, List, length, get_or, inl, inr, sym, ◌∙◌}
-use Rattle.std.proofs.Common.{arith, ap}
-use Rattle.std.specs.List.{All, Contains}
-use Rattle.std.proofs.lemmas.List.Elements.{All-contains}
-use Rattle.std.proofs.lemmas.Bool.{cases_eq}
-use Rattle.std.proofs.Common.{rules}
-use Rattle.std.proofs.lemmas.Grind.{common_steps}
-use Rattle.rv_rank.specs.declared.search.Mark.{Mark}
-use Rattle.rv_rank.specs.declared.search.Mark.TheVariants.{Free, Behind}
-use Rattle.rv_rank.specs.Graph.{Edge, Reaches, here, step, IsOrder}
-use Rattle.rv_rank.specs.Marks.{mark_of, IsSpread, IsSearched, IsTraced}
+use Rattle.rv_rank.proofs.Common.{◌≡◌, ◌≢◌, ℕ, ◌+◌, ◌<◌, ◌≤◌, List, length, get_or, inl, inr, sym, ◌∙◌, arith, ap}
+use Rattle.rv_rank.proofs.Common.{All, Contains, All-contains, cases_eq, rules, common_steps, Mark, Free, Behind}
+use Rattle.rv_rank.proofs.Common.{Edge, Reaches, here, step, IsOrder, mark_of, IsSpread, IsSearched, IsTraced}
 use Rattle.rv_rank.proofs.Marks.{cases_free, marked_within}
 
 -- a mark behind is not free

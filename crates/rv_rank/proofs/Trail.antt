@@ -1,14 +1,8 @@
 -- The way back through the marks.
-use Rattle.std.proofs.Common.{◌≡◌, ℕ, suc, zero, ◌+◌, ◌-◌, ◌<◌, List, [], ◌∷◌, ◌++◌, length, get_or}
-use Rattle.std.proofs.Common.{reverse, inl, inr, sym, ◌∙◌, arith, ap}
-use Rattle.std.specs.List.{Contains}
-use Rattle.std.proofs.lemmas.List.{get_or-reverse, length-reverse, get_or_push, get_or_append_left, length_push}
-use Rattle.std.proofs.lemmas.Bool.{cases_lt}
-use Rattle.std.proofs.lemmas.Grind.{common_steps}
-use Rattle.rv_rank.specs.declared.search.Mark.{Mark}
-use Rattle.rv_rank.specs.declared.search.Mark.TheVariants.{After}
-use Rattle.rv_rank.specs.Graph.{Edge, IsOrder, IsTrail}
-use Rattle.rv_rank.specs.Marks.{mark_of, IsMarked, IsSearched}
+use Rattle.rv_rank.proofs.Common.{◌≡◌, ℕ, suc, zero, ◌+◌, ◌-◌, ◌<◌, List, [], ◌∷◌, ◌++◌, length, get_or, reverse}
+use Rattle.rv_rank.proofs.Common.{inl, inr, sym, ◌∙◌, arith, ap, Contains, get_or-reverse, length-reverse}
+use Rattle.rv_rank.proofs.Common.{get_or_push, get_or_append_left, length_push, cases_lt, common_steps, Mark}
+use Rattle.rv_rank.proofs.Common.{After, Edge, IsOrder, IsTrail, mark_of, IsMarked, IsSearched}
 
 -- the way back from a node as far as another
 pub record IsWayBack (edges : List (List ℕ)) (low : ℕ) (ranks : List ℕ) (marks : List Mark) (end node : ℕ)

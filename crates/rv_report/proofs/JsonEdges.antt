@@ -11,8 +11,7 @@ use Rattle.rv_report.specs.JsonData.{edge_data, walk_data, edges_data}
 
 -- one edge more of a circle's JSON
 pub data_more : (now next : List Value) (v : Value) (rest after all : List (Id × Reason)) (step : Id × Reason)
-    (to end : Id)
-    → map view now ++ walk_data rest end ≡ walk_data all end
+    (to end : Id) → map view now ++ walk_data rest end ≡ walk_data all end
     → rest ≡ step ∷ after → to ≡ start_of after end → view v ≡ edge_data step.0 step.1 to → next ≡ now ++ (v ∷ [])
     → map view next ++ walk_data after end ≡ walk_data all end
 unfolding walk_data

@@ -1,6 +1,5 @@
 -- The compact text of a report, byte by byte.
-use Rattle.std.proofs.Common.{rules}
-use Rattle.std.proofs.Common.{◌≡◌, ◌∙◌, ℕ, ◌∷◌, [], List, ◌++◌, Bool, true, false, refl, sym, ap, ap₂}
+use Rattle.std.proofs.Common.{rules, ◌≡◌, ◌∙◌, ℕ, ◌∷◌, [], List, ◌++◌, Bool, true, false, refl, sym, ap, ap₂}
 use Rattle.std.proofs.Common.{append_assoc, codes}
 use Rattle.json.specs.Print.{escape}
 use Rattle.serde_json.specs.Data.{Data, string, array, object, member, no_members, Items}
@@ -12,10 +11,10 @@ use Rattle.rv_event.specs.declared.event.Id.{Id}
 use Rattle.rv_event.specs.declared.reason.Reason.{Reason}
 use Rattle.rv_cert.specs.declared.certificate.Certificate.{Certificate}
 use Rattle.rv_cert.specs.declared.certificate.Certificate.TheVariants as certificate
-use Rattle.rv_report.specs.Json.{allowed_json, forbidden_json, malformed_json, edge_json, stale_json}
-use Rattle.rv_report.specs.Json.{circle_json, walk_json, edges_json, certificate_json, json_text}
-use Rattle.rv_report.specs.JsonData.{whole_number, allowed_data, edge_data, walk_data, edges_data}
-use Rattle.rv_report.specs.JsonData.{circle_data, certificate_data, forbidden_data, report_data}
+use Rattle.rv_report.specs.Json.{allowed_json, forbidden_json, malformed_json, edge_json, stale_json, circle_json}
+use Rattle.rv_report.specs.Json.{walk_json, edges_json, certificate_json, json_text}
+use Rattle.rv_report.specs.JsonData.{whole_number, allowed_data, edge_data, walk_data, edges_data, circle_data}
+use Rattle.rv_report.specs.JsonData.{certificate_data, forbidden_data, report_data}
 use Rattle.rv_report.specs.declared.outcome.Outcome.{Outcome}
 use Rattle.rv_report.proofs.Plain.{escape_id, escape_reason, escape_fault, escape_refused}
 
@@ -26,15 +25,13 @@ allowed_text e o w = refl
 
 edge_text : (a b c : List ℕ)
     → compact_text (object (member (codes "from") (string a) (member (codes "reason") (string b)
-    (member (codes "to") (string c) no_members))))
-    ≡ edge_json (escape a) (escape b) (escape c)
+    (member (codes "to") (string c) no_members)))) ≡ edge_json (escape a) (escape b) (escape c)
 unfolding serde_json_on_literals
 edge_text a b c = simp append_assoc
 
 stale_text : (a b : List ℕ)
     → compact_text (object (member (codes "stale") (object (member (codes "load") (string a)
-    (member (codes "store") (string b) no_members))) no_members))
-    ≡ stale_json (escape a) (escape b)
+    (member (codes "store") (string b) no_members))) no_members)) ≡ stale_json (escape a) (escape b)
 unfolding serde_json_on_literals
 stale_text a b = simp append_assoc
 
@@ -51,8 +48,7 @@ forbidden_text : (n : ℕ) (d : Data) (a : List ℕ)
 unfolding serde_json_on_literals
 forbidden_text n d a = simp append_assoc
 
-circle_text : (ds : Items)
-    → compact_text (object (member (codes "circle") (array ds) no_members))
+circle_text : (ds : Items) → compact_text (object (member (codes "circle") (array ds) no_members))
     ≡ codes "{\"circle\":[" ⋯ items_text false ds ⋯ codes "}"
 unfolding serde_json_on_literals
 circle_text ds = simp append_assoc
@@ -60,8 +56,7 @@ circle_text ds = simp append_assoc
 -- ---- certificates
 edge_law : (from : Id) (reason : Reason) (to : Id)
     → compact_text (edge_data from reason to) ≡ edge_json (id_text from) (reason_text reason) (id_text to)
-edge_law from reason to =
-    edge_text (id_text from) (reason_text reason) (id_text to)
+edge_law from reason to = edge_text (id_text from) (reason_text reason) (id_text to)
     ∙ ap₂ (λ (x y : List ℕ). edge_json x y (escape (id_text to))) (escape_id from) (escape_reason reason)
     ∙ ap (λ (z : List ℕ). edge_json (id_text from) (reason_text reason) z) (escape_id to)
 
@@ -83,8 +78,7 @@ circle_law steps = search (circle_text, codes, walk_law, append_assoc, rules)
 
 certificate_law : (c : Certificate) → compact_text (certificate_data c) ≡ certificate_json c
 certificate_law (certificate.Circle steps) = circle_law steps
-certificate_law (certificate.Stale load store) =
-    stale_text (id_text load) (id_text store)
+certificate_law (certificate.Stale load store) = stale_text (id_text load) (id_text store)
     ∙ ap₂ (λ (x y : List ℕ). stale_json x y) (escape_id load) (escape_id store)
 
 -- ---- outcomes

@@ -1,9 +1,8 @@
 -- Texts in which JSON escapes no byte.
 use Rattle.std.proofs.lemmas.Grind.{common_steps}
-use Rattle.std.proofs.Common.{rules}
-use Rattle.std.proofs.Common.{◌≡◌, ℕ, zero, suc, ◌/◌, ◌%◌, ◌<◌, ◌==◌, ◌∷◌, [], List, ◌++◌, Bool}
-use Rattle.std.proofs.Common.{true, false, ◌&&◌, if◌then◌else◌, length, Option, None, Some, option_map}
-use Rattle.std.proofs.Common.{unwrap_or, refl, sym, arith, codes}
+use Rattle.std.proofs.Common.{rules, ◌≡◌, ℕ, zero, suc, ◌/◌, ◌%◌, ◌<◌, ◌==◌, ◌∷◌, [], List, ◌++◌, Bool, true}
+use Rattle.std.proofs.Common.{false, ◌&&◌, if◌then◌else◌, length, Option, None, Some, option_map, unwrap_or, refl}
+use Rattle.std.proofs.Common.{sym, arith, codes}
 use Rattle.std.proofs.lemmas.Bool.{true≢false}
 use Rattle.std.specs.Prelude.{decimal}
 use Rattle.std.specs.Fmt.{digits, digits_onto, digit_glyph}

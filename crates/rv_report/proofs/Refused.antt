@@ -1,6 +1,5 @@
 -- The last entry of a log that refuses it.
-use Rattle.std.proofs.Common.{rules}
-use Rattle.std.proofs.Common.{◌≡◌, ◌∷◌, List, [], ◌++◌, Option, Some, option_map, unwrap_or, refl}
+use Rattle.std.proofs.Common.{rules, ◌≡◌, ◌∷◌, List, [], ◌++◌, Option, Some, option_map, unwrap_or, refl}
 use Rattle.std.specs.List.{last_or}
 use Rattle.rv_event.specs.Texts.{id_text}
 use Rattle.rv_event.specs.declared.event.Id.{Id}

@@ -1,10 +1,10 @@
 -- Rows that lie one after the other.
-use Rattle.std.proofs.Common.{◌≡◌, ℕ, suc, ◌+◌, ◌<◌, ◌≤◌, List, [], ◌∷◌, ◌++◌, length, get_or, take, drop}
-use Rattle.std.proofs.Common.{map, refl, sym, ap, ◌∙◌, arith, ◌⊎◌, inl, inr, subst, length-take}
-use Rattle.std.proofs.Common.{length-append, take-append-drop}
+use Rattle.std.proofs.Common.{◌≡◌, ℕ, suc, ◌+◌, ◌<◌, ◌≤◌, List, [], ◌∷◌, ◌++◌, length, get_or, take, drop, map}
+use Rattle.std.proofs.Common.{refl, sym, ap, ◌∙◌, arith, ◌⊎◌, inl, inr, subst, length-take, length-append}
+use Rattle.std.proofs.Common.{take-append-drop}
 use Rattle.std.proofs.lemmas.Bool.{cases_lt}
-use Rattle.std.proofs.lemmas.List.{take_at, get_or_at, get_or_append_left}
-use Rattle.std.proofs.lemmas.List.{length_push, get_or-map, map-append, length-map}
+use Rattle.std.proofs.lemmas.List.{take_at, get_or_at, get_or_append_left, length_push, get_or-map, map-append}
+use Rattle.std.proofs.lemmas.List.{length-map}
 use Rattle.std.proofs.lemmas.List.Quantifiers.{all_pairs_push}
 use Rattle.std.proofs.Math.Seq.{take-length, drop-append_seam}
 use Rattle.std.proofs.lemmas.Grind.{common_steps}
@@ -107,14 +107,12 @@ ends_below words front last laid k d low =
 pub rows_less : (words : List ℕ) (front : List Place) (last : Place) (rows : List (List ℕ)) (row : List ℕ) →
     AreLaid words (front ++ last ∷ []) → rows_of words (front ++ last ∷ []) ≡ rows ++ row ∷ []
     → rows_of (take last.start words) front ≡ rows
-rows_less words front last rows row laid is =
-    rows_are (take last.start words) front
+rows_less words front last rows row laid is = rows_are (take last.start words) front
     ∙ sym (rows_stay (take last.start words) (drop last.start words) front
     (λ k d low. omega (arith, ends_below words front last laid k d low, whole)))
     ∙ ap (λ (xs : List ℕ). map (row_at xs) front) (take-append-drop last.start words)
     ∙ sym (take_at (map (row_at words) front) (row_at words last ∷ []) (length front) (length-map front (row_at words)))
-    ∙ ap (take (length front)) both
-    ∙ take_at rows (row ∷ []) (length front) same
+    ∙ ap (take (length front)) both ∙ take_at rows (row ∷ []) (length front) same
   where
     whole : length (take last.start words) ≡ last.start
     whole = grind (arith, common_steps)

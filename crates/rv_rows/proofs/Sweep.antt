@@ -1,7 +1,7 @@
 -- A sweep over the candidates from the highest on.
 use Rattle.std.proofs.Common.{◌≡◌, ◌≢◌, ℕ, ◌<◌, ◌≤◌, Bool, true, false, not, ◌&&◌, ◌||◌, List, [], ◌∷◌, ◌++◌}
-use Rattle.std.proofs.Common.{Contains, Some, None, ◌∙◌, ap, sym, refl, inl, inr, arith, ◌⊎◌, ◌↔◌}
-use Rattle.std.proofs.Common.{slice_index_or, subst, append-nil, append_assoc, ◌+◌}
+use Rattle.std.proofs.Common.{Contains, Some, None, ◌∙◌, ap, sym, refl, inl, inr, arith, ◌⊎◌, ◌↔◌, slice_index_or}
+use Rattle.std.proofs.Common.{subst, append-nil, append_assoc, ◌+◌}
 use Rattle.std.proofs.lemmas.Bool.{cases_eq, cases_lt, false≢true}
 use Rattle.std.proofs.lemmas.List.Elements.{Contains-push, Contains-push_cases, Contains-append_left}
 use Rattle.std.proofs.lemmas.Grind.{common_steps}
@@ -94,10 +94,8 @@ module _ (rows : List (List ℕ)) (first left left' listed : List ℕ) (top b : 
   unsplit' a c l h other r = go (Contains-push_cases listed b a l)
     where
       at_b : Has left c ⊎ IsReached rows listed c → b ≡ a → ⊥
-      at_b (inl still_left) is =
-          search (false≢true, rules)
-      at_b (inr reached) is =
-          s.apart reached.b b reached.is_taken
+      at_b (inl still_left) is = search (false≢true, rules)
+      at_b (inr reached) is = s.apart reached.b b reached.is_taken
           (closed.closed reached.b c b reached.has (subst (RowHas rows c) (sym is) r)) highest.1
 
       go : Contains listed a ⊎ (b ≡ a) → ⊥

@@ -3,13 +3,12 @@ use Rattle.std.proofs.Common.{◌≡◌, ◌≢◌, ℕ, zero, suc, ◌+◌, ◌
 use Rattle.std.proofs.Common.{true, false, not, ◌&&◌, ◌||◌, ◌==◌, List, length, get_or, set, take, drop}
 use Rattle.std.proofs.Common.{replicate, ◌∙◌, ap, sym, refl, inl, inr, arith, ◌⊎◌, w64, eq-eqb, length-take}
 use Rattle.std.proofs.lemmas.Bool.{cases_eq, cases_lt, ne_eqb}
-use Rattle.std.proofs.lemmas.List.{get_or-replicate, length-replicate}
-use Rattle.std.proofs.lemmas.List.{get_or_past, get_or-append_right, get_or-take}
-use Rattle.std.proofs.lemmas.List.{get_or-drop}
+use Rattle.std.proofs.lemmas.List.{get_or-replicate, length-replicate, get_or_past, get_or-append_right}
+use Rattle.std.proofs.lemmas.List.{get_or-take, get_or-drop}
 use Rattle.std.proofs.lemmas.Nat.{leading_top, div-add-mod'}
 use Rattle.std.proofs.Math.Nat.{two-pow-succ, mod-lt, suc-mul}
-use Rattle.std.proofs.lemmas.Nat.Bits.{bit_at-lt, bit_at_or, bit_at_and, bit_at_not, bit_at-zero}
-use Rattle.std.proofs.lemmas.Nat.Bits.{bit_at_set_same, bit_at_set_other, bit_at_above}
+use Rattle.std.proofs.lemmas.Nat.Bits.{bit_at-lt, bit_at_or, bit_at_and, bit_at_not, bit_at-zero, bit_at_set_same}
+use Rattle.std.proofs.lemmas.Nat.Bits.{bit_at_set_other, bit_at_above}
 use Rattle.std.specs.Prelude.{bit_and, bit_or}
 use Rattle.std.specs.Int.{bit_at, bit_not, leading_zeros}
 use Rattle.std.proofs.lemmas.Grind.{common_steps}
@@ -153,8 +152,7 @@ joined_part new a part n each before after i = go (cases_lt (i / 64) n) (cases_l
   where
     same : word new i ≡ word a i → word (shifted n part) i ≡ 0 →
         has_bit new i ≡ (has_bit a i || has_bit (shifted n part) i)
-    same e none =
-        grind (arith, common_steps)
+    same e none = grind (arith, common_steps)
 
     go : (i / 64 < n) ⊎ (n ≤ i / 64) → (i / 64 < n + length part) ⊎ (n + length part ≤ i / 64)
         → has_bit new i ≡ (has_bit a i || has_bit (shifted n part) i)
@@ -184,8 +182,7 @@ cut_part new a part n from to low each rest empty i = go (cases_lt (i / 64) from
 
     apart : has_bit new i ≡ has_bit a i → (word a i ≡ 0) ⊎ (word (shifted n part) i ≡ 0) →
         has_bit new i ≡ (has_bit a i && not (has_bit (shifted n part) i))
-    apart same (inl none) =
-        grind (arith, common_steps)
+    apart same (inl none) = grind (arith, common_steps)
     apart same (inr none) =
         same ∙ and_true (has_bit a i) ∙ ap (λ b. has_bit a i && not b) (sym (zero_bit (shifted n part) i none))
 
@@ -219,8 +216,7 @@ used_bits words part low high first between least is i =
         shifted_from first part (i / 64) from
         ∙ ap (λ (xs : List ℕ). get_or xs (i / 64 - first) 0) is
         ∙ get_or-take (high - first) (drop first words) (i / 64 - first) 0 (omega arith)
-        ∙ get_or-drop first words (i / 64 - first) 0
-        ∙ ap (λ k. get_or words k 0) at
+        ∙ get_or-drop first words (i / 64 - first) 0 ∙ ap (λ k. get_or words k 0) at
 
 -- where all numbers are below the limit, and the words from k up to the limit or the end are empty,
 -- none is in word k or later

@@ -1,12 +1,6 @@
 -- The events that a source has given to a log.
-use Rattle.std.proofs.Common.{arith}
-use Rattle.std.proofs.lemmas.Grind.{common_steps}
-use Rattle.std.proofs.Common.{◌≡◌, ℕ, ◌+◌, ◌<◌, ◌==◌, Bool, true, false, cond, List, [], ◌∷◌, ◌++◌, length}
-use Rattle.std.proofs.Common.{take, get_or, refl}
-use Rattle.rv_event.specs.Log.{events}
-use Rattle.rv_event.specs.declared.event.Event.{Event}
-use Rattle.rv_event.specs.declared.event.Entry.{Entry}
-use Rattle.rv_book.specs.Chunked.{given_by}
+use Rattle.rv_run.proofs.Common.{arith, common_steps, ◌≡◌, ℕ, ◌+◌, ◌<◌, ◌==◌, Bool, true, false, cond, List, []}
+use Rattle.rv_run.proofs.Common.{◌∷◌, ◌++◌, length, take, get_or, refl, events, Event, Entry, given_by}
 
 -- what a source has given to two logs in a row
 pub given-append : (source : ℕ) (front back : List Entry) → given_by source (front ++ back) ≡ given_by source front ++

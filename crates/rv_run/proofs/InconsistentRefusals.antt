@@ -1,18 +1,9 @@
 -- What a pass refuses is not consistent.
-use Rattle.std.proofs.Common.{arith}
-use Rattle.std.proofs.lemmas.Grind.{common_steps}
-use Rattle.std.proofs.Common.{◌≡◌, ◌==◌, ◌↔◌, List, [], ◌∷◌, ◌++◌, sym, ◌∙◌, subst}
-use Rattle.std.proofs.lemmas.Option.{none-some}
-use Rattle.std.proofs.lemmas.List.Elements.{filter-append}
-use Rattle.rv_event.specs.Log.{events}
-use Rattle.rv_event.specs.WellFormed.{WellFormed, Continues, entries_of}
-use Rattle.rv_event.specs.declared.event.Entry.{Entry}
-use Rattle.rv_event.specs.declared.memory_model.MemoryModel.{MemoryModel}
-use Rattle.rv_event.proofs.Pushed.{WellFormed-front}
-use Rattle.rv_cert.proofs.Final.{no_longer_log}
-use Rattle.rv_report.specs.declared.outcome.Outcome.{Outcome}
-use Rattle.rv_report.specs.declared.outcome.Outcome.TheVariants.{Allowed, Forbidden, Malformed}
-use Rattle.rv_run.specs.Replays.{IsConsistent, IsReplayed, IsAllowed}
+use Rattle.rv_run.proofs.Common.{arith, common_steps, ◌≡◌, ◌==◌, ◌↔◌, List, [], ◌∷◌, ◌++◌, sym, ◌∙◌, subst}
+use Rattle.rv_run.proofs.Common.{none-some, filter-append, events, WellFormed, Continues, Entry, MemoryModel}
+use Rattle.rv_run.proofs.Common.{WellFormed-front, no_longer_log, Outcome, Allowed, Forbidden, Malformed}
+use Rattle.rv_run.proofs.Common.{IsConsistent, IsReplayed, IsAllowed}
+use Rattle.rv_event.specs.WellFormed.{entries_of}
 
 -- a list continues its beginning
 pub continued : (front back : List Entry) → Continues front (front ++ back)

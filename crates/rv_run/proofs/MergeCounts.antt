@@ -1,19 +1,10 @@
 -- What is counted over a log is the same for each merge of its sources.
-use Rattle.std.proofs.lemmas.Grind.{common_steps}
-use Rattle.std.proofs.Common.{rules}
-use Rattle.std.proofs.Common.{◌≡◌, ℕ, suc, zero, ◌+◌, ◌<◌, ◌≤◌, ◌==◌, ◌⊎◌, Bool, true, false, cond, ◌&&◌, not}
-use Rattle.std.proofs.Common.{List, [], ◌∷◌, length, All, find, None, Some, count_by, inl, inr, refl, sym, ap}
-use Rattle.std.proofs.Common.{◌∙◌, arith}
-use Rattle.std.proofs.lemmas.Bool.{eq-eqb, eqb-true, cases_lt, false≢true}
-use Rattle.std.proofs.lemmas.List.Elements.{All-head, All-tail}
-use Rattle.std.proofs.lemmas.List.Recursion.{is_count_by}
-use Rattle.std.specs.Prelude.{is_none}
-use Rattle.rv_event.specs.Log.{events, did_write, writer}
-use Rattle.rv_event.specs.Operations.{is_load, is_memory}
-use Rattle.rv_event.specs.Merges.{from_source, SameSources}
-use Rattle.rv_event.specs.declared.event.Event.{Event}
-use Rattle.rv_event.specs.declared.event.Entry.{Entry}
-use Rattle.rv_book.specs.Counts.{operations_of, waiting_of, is_waiting}
+use Rattle.rv_run.proofs.Common.{common_steps, rules, ◌≡◌, ℕ, suc, zero, ◌+◌, ◌<◌, ◌≤◌, ◌==◌, ◌⊎◌, Bool, true}
+use Rattle.rv_run.proofs.Common.{false, cond, ◌&&◌, not, List, [], ◌∷◌, length, All, find, None, Some, count_by}
+use Rattle.rv_run.proofs.Common.{inl, inr, refl, sym, ap, ◌∙◌, arith, eq-eqb, eqb-true, cases_lt, false≢true}
+use Rattle.rv_run.proofs.Common.{All-head, All-tail, is_count_by, is_none, events, did_write, writer, is_load}
+use Rattle.rv_run.proofs.Common.{is_memory, from_source, SameSources, Event, Entry, operations_of, waiting_of}
+use Rattle.rv_run.proofs.Common.{is_waiting}
 use Rattle.rv_run.proofs.Merges.{apart}
 
 -- the weights of the entries, and the sum of the first numbers of a function
@@ -81,12 +72,10 @@ weight-split h n (x ∷ log) all =
 
 weight-merge :
     (h : Entry → ℕ) (n : ℕ) (one other : List Entry) → All (λ x. x.source < n) one → All (λ x. x.source < n) other →
-    SameSources one other →
-    weight h one ≡ weight h other
+    SameSources one other → weight h one ≡ weight h other
 weight-merge h n one other all same-all same =
     weight-split h n one all ∙ total-same n (λ j. weight h (from_source j one)) (λ j. weight h (from_source j other))
-    (λ j low. ap (weight h) (same j))
-    ∙ sym (weight-split h n other same-all)
+    (λ j low. ap (weight h) (same j)) ∙ sym (weight-split h n other same-all)
 
 weight-length : (log : List Entry) → weight (λ x. 1) log ≡ length log
 weight-length [] = refl

@@ -1,17 +1,10 @@
 -- Entries of several sources, and merges of them.
-use Rattle.std.proofs.lemmas.Grind.{common_steps}
-use Rattle.std.proofs.Common.{rules}
-use Rattle.std.proofs.Common.{◌≡◌, ℕ, suc, zero, ◌+◌, ◌<◌, ◌≤◌, ◌==◌, Bool, false, cond, List, [], ◌∷◌}
-use Rattle.std.proofs.Common.{◌++◌, length, drop, get_or, All, ◌⊎◌, inl, inr, refl, sym, ap, ◌∙◌, subst}
-use Rattle.std.proofs.Common.{append-nil, arith}
-use Rattle.std.proofs.lemmas.Bool.{eq-eqb, cases_lt}
-use Rattle.std.proofs.lemmas.List.{map-append, drop_at}
-use Rattle.std.proofs.lemmas.List.Elements.{filter-append, All-head, All-tail, All-append, All-nil, All-cons}
-use Rattle.rv_event.specs.Log.{events}
-use Rattle.rv_event.specs.Merges.{from_source, SameSources}
-use Rattle.rv_event.specs.declared.event.Event.{Event}
-use Rattle.rv_event.specs.declared.event.Entry.{Entry}
-use Rattle.rv_book.specs.Chunked.{entries_of, given_by, IsPrefix}
+use Rattle.rv_run.proofs.Common.{common_steps, rules, ◌≡◌, ℕ, suc, zero, ◌+◌, ◌<◌, ◌≤◌, ◌==◌, Bool, false, cond}
+use Rattle.rv_run.proofs.Common.{List, [], ◌∷◌, ◌++◌, length, drop, get_or, All, ◌⊎◌, inl, inr, refl, sym, ap}
+use Rattle.rv_run.proofs.Common.{◌∙◌, subst, append-nil, arith, eq-eqb, cases_lt, map-append, drop_at}
+use Rattle.rv_run.proofs.Common.{filter-append, All-head, All-tail, All-append, All-nil, All-cons, events}
+use Rattle.rv_run.proofs.Common.{from_source, SameSources, Event, Entry, given_by, IsPrefix}
+use Rattle.rv_book.specs.Chunked.{entries_of}
 
 -- the entries of the sources from a number on, one source after another
 abbrev pub together : ℕ → List (List Event) → List Entry
@@ -38,8 +31,7 @@ other-entries source other (e ∷ es) differ =
     (from_source source (entries_of other es))) (apart source other differ)
     ∙ other-entries source other es differ
 
-given-one :
-    (source : ℕ) (x : Entry) (log : List Entry) (b : Bool) → (source == x.source) ≡ b →
+given-one : (source : ℕ) (x : Entry) (log : List Entry) (b : Bool) → (source == x.source) ≡ b →
     from_source source log ≡ entries_of source (given_by source log) →
     cond b (x ∷ from_source source log) (from_source source log) ≡ entries_of source
     (events (cond b (x ∷ from_source source log) (from_source source log)))
@@ -100,8 +92,7 @@ none-behind source count (x ∷ log) all high =
     ∙ none-behind source count log (All-tail (λ (y : Entry). y.source < count) x log all) high
 
 -- a log that has the events of each of these sources, and no others, is a merge of them
-pub merge-of :
-    (log : List Entry) (ess : List (List Event)) → All (λ x. x.source < length ess) log →
+pub merge-of : (log : List Entry) (ess : List (List Event)) → All (λ x. x.source < length ess) log →
     ((i : ℕ) → i < length ess → given_by i log ≡ get_or ess i []) → SameSources log (together 0 ess)
 merge-of log ess all each source = elim (cases_lt source (length ess)) [
   | inl low ↦ (let same : 0 + source ≡ source = omega arith in
@@ -145,8 +136,7 @@ left-all : (k : ℕ) (log : List Entry) (ess : List (List Event)) → k < length
 left-all k log ess low = search (lefts-at, rules)
 
 -- merges of longer sources continue merges of their beginnings
-pub goes-on :
-    (log : List Entry) (ess : List (List Event)) → All (λ x. x.source < length ess) log →
+pub goes-on : (log : List Entry) (ess : List (List Event)) → All (λ x. x.source < length ess) log →
     ((i : ℕ) → i < length ess → IsPrefix (given_by i log) (get_or ess i [])) → GoesOn log ess
 goes-on log ess all each = record {
   more = together 0 (lefts 0 log ess);

@@ -1,40 +1,21 @@
 -- What the comparison with what was read says of the sources.
-use Rattle.std.proofs.lemmas.Grind.{common_steps}
-use Rattle.std.proofs.Common.{rules}
-use Rattle.std.proofs.Common.{◌≡◌, ℕ, suc, zero, ◌<◌, List, [], ◌∷◌, ◌++◌, length, map, take, drop, get_or}
-use Rattle.std.proofs.Common.{All, Option, Some, None, IfSome, Result, Ok, Err, IfOk, IfErr, refl, sym, ap}
-use Rattle.std.proofs.Common.{◌∙◌, subst, append_assoc, arith}
-use Rattle.std.specs.Prelude.{IsSome}
-use Rattle.std.proofs.lemmas.Bool.{false≢true}
-use Rattle.std.proofs.lemmas.Option.{none-some}
-use Rattle.std.proofs.lemmas.List.{take-append-drop, get_or-map, length-map}
-use Rattle.rv_event.specs.Merges.{SameSources}
-use Rattle.rv_event.specs.declared.event.Event.{Event}
-use Rattle.rv_event.specs.declared.event.Entry.{Entry}
+use Rattle.rv_run.proofs.Common.{common_steps, rules, ◌≡◌, ℕ, suc, zero, ◌<◌, List, [], ◌∷◌, ◌++◌, length, map}
+use Rattle.rv_run.proofs.Common.{take, drop, get_or, All, Option, Some, None, IfSome, Result, Ok, Err, IfOk}
+use Rattle.rv_run.proofs.Common.{IfErr, refl, sym, ap, ◌∙◌, subst, append_assoc, arith, IsSome, false≢true}
+use Rattle.rv_run.proofs.Common.{none-some, take-append-drop, get_or-map, length-map, SameSources, Event, Entry}
+use Rattle.rv_run.proofs.Common.{MemoryModel, Lawful-merge, WellFormed-front, SameHarts-from_sources}
+use Rattle.rv_run.proofs.Common.{WellFormed-sources, Refusal, IsMalformed, given_by, IsPrefix, operations_of}
+use Rattle.rv_run.proofs.Common.{waiting_of, Stream, Outcome, Allowed, Forbidden, Malformed, AgreesWith, IsBegun}
+use Rattle.rv_run.proofs.Common.{IsFaultIn, IsFedOf, IsEndOf, IsConsistent, IsReplayed, IsAllowed, AreWellFormed}
+use Rattle.rv_run.proofs.Common.{EndsIn, HasReadAll, IsAllOf, IsFaultAmong, IsRefused, IsPartOf, IsTrueOf}
+use Rattle.rv_run.proofs.Common.{RunFault, Fed, FeedEnd}
 use Rattle.rv_event.specs.declared.fault.Fault.{Fault as EventFault}
-use Rattle.rv_event.specs.declared.memory_model.MemoryModel.{MemoryModel}
-use Rattle.rv_event.proofs.LawfulMerge.{Lawful-merge}
-use Rattle.rv_event.proofs.Pushed.{WellFormed-front}
-use Rattle.rv_event.proofs.Sources.{SameHarts-from_sources, WellFormed-sources}
-use Rattle.rv_cert.specs.Refusals.{Refusal, IsMalformed}
-use Rattle.rv_book.specs.Chunked.{entries_of, given_by, IsPrefix}
-use Rattle.rv_book.specs.Counts.{operations_of, waiting_of}
-use Rattle.rv_trace.specs.Source.{Stream}
-use Rattle.rv_report.specs.declared.outcome.Outcome.{Outcome}
-use Rattle.rv_report.specs.declared.outcome.Outcome.TheVariants.{Allowed, Forbidden, Malformed}
-use Rattle.rv_run.specs.Comparisons.{AgreesWith, IsBegun, IsFaultIn}
-use Rattle.rv_run.specs.Feeds.{IsFedOf, IsEndOf}
-use Rattle.rv_run.specs.Replays.{IsConsistent, IsReplayed, IsAllowed}
-use Rattle.rv_run.specs.Sources.{AreWellFormed, EndsIn, HasReadAll, IsAllOf, IsFaultAmong, IsRefused}
-use Rattle.rv_run.specs.Sources.{IsPartOf, IsTrueOf}
-use Rattle.rv_run.specs.declared.fault.RunFault.{RunFault}
-use Rattle.rv_run.specs.declared.fault.RunFault.TheVariants as fault
-use Rattle.rv_run.specs.declared.feeding.Fed.{Fed}
-use Rattle.rv_run.specs.declared.feeding.FeedEnd.{FeedEnd}
-use Rattle.rv_run.specs.declared.feeding.FeedEnd.TheVariants as end
+use Rattle.rv_book.specs.Chunked.{entries_of}
 use Rattle.rv_run.proofs.InconsistentRefusals.{continued, exactly_allowed}
 use Rattle.rv_run.proofs.Merges.{goes-on, low-together, merge-of, together}
 use Rattle.rv_run.proofs.MergeCounts.{length-merge, operations-merge, waiting-merge}
+use Rattle.rv_run.specs.declared.fault.RunFault.TheVariants as fault
+use Rattle.rv_run.specs.declared.feeding.FeedEnd.TheVariants as end
 
 -- sources that end whole, with these events
 pub read-all :
@@ -154,8 +135,7 @@ prefix-known (Some t) given es some first all = subst (λ (l : List Event). IsPr
 -- a part of known sources goes on to a merge of their entries
 pub part-goes-on :
     (streams : List (Option Stream)) (log entries : List Entry) → All IsSome streams → IsPartOf streams log →
-    HasReadAll 0 streams entries →
-    (more : List Entry) × SameSources entries (log ++ more)
+    HasReadAll 0 streams entries → (more : List Entry) × SameSources entries (log ++ more)
 part-goes-on streams log entries known part read =
     let r = read-of 0 streams entries read in
     let low : All (λ x. x.source < length r.ess) log = grind (arith, common_steps) in
@@ -190,8 +170,7 @@ final-refutes model streams f entries known told read ok =
 -- no run is allowed where another is refused
 pub runs-agree :
     (model : MemoryModel) (streams : List (Option Stream)) (one other : Outcome) → All IsSome streams →
-    IsTrueOf model streams one → IsTrueOf model streams other →
-    IsAllowed one → IsRefused other → ⊥
+    IsTrueOf model streams one → IsTrueOf model streams other → IsAllowed one → IsRefused other → ⊥
 runs-agree model streams (Allowed e o w) (Forbidden f) known one other allowed refused =
     final-refutes model streams f one.0 known other one.1 one.2
 runs-agree model streams (Allowed e o w) (Malformed m) known one other allowed refused =
@@ -226,8 +205,7 @@ pub passes-agree :
     IsReplayed model merge pass →
     (IsAllowed run → IsRefused pass → ⊥) × (IsRefused run → IsAllowed pass → ⊥)
 passes-agree model streams entries merge run pass known read same told passed = (
-  λ allowed refused. not-both pass
-      ((exactly_allowed model merge pass passed).1
+  λ allowed refused. not-both pass ((exactly_allowed model merge pass passed).1
       (consistent-merge model entries merge same (run-allowed model streams entries run known read told allowed)))
       refused,
   λ refused allowed. run-refused model streams entries run known read told refused
@@ -259,8 +237,7 @@ module _ (streams : List (Option Stream)) (fed : List Fed) (any : Fed) (same : l
       let told = allowed-true model streams log ess a.1
       (subst (λ (n : ℕ). All (λ x. x.source < n) log) (sym long) a.2.0)
       (λ i low. let here : i < length fed = omega (arith, low, long) in (a.2.1 i any here).all ∙ sym (read-at i here))
-      (long ∙ same)
-      (λ i low. let here : i < length fed = omega (arith, low, same) in
+      (long ∙ same) (λ i low. let here : i < length fed = omega (arith, low, same) in
       subst (λ (l : List Event). IsAllOf (get_or streams i None) l) (sym (read-at i here))
       (all-true (get_or streams i None) (get_or fed i any) (each i any low) (a.2.1 i any here).ended)) in
       (told.0, told.1, told.2, a.3 ∙ told.3, a.4 ∙ told.4, a.5 ∙ told.5)
@@ -297,8 +274,7 @@ pub answer-true :
     {R : Type 0} (says : R → Option Stream) (readers : List R) (fed : List Fed) (model : MemoryModel)
     (a : Result Outcome RunFault) → 0 < length readers →
     length fed ≡ length readers → ((i : ℕ) (r : R) (f : Fed) → i < length readers → IsFedOf (says (get_or readers i r))
-    (get_or fed i f)) →
-    IfOk a (AgreesWith model fed) → IfOk a (IsTrueOf model (map says readers))
+    (get_or fed i f)) → IfOk a (AgreesWith model fed) → IfOk a (IsTrueOf model (map says readers))
 answer-true says readers fed model (Err e) some same each a = tt
 answer-true says [] fed model (Ok o) some same each a = absurd (omega (arith, some))
 answer-true says (r ∷ rs) [] model (Ok o) some same each a = absurd (omega (arith, same))
@@ -311,8 +287,7 @@ pub answer-fault :
     {R : Type 0} (says : R → Option Stream) (readers : List R) (fed : List Fed) (a : Result Outcome RunFault) →
     0 < length readers →
     length fed ≡ length readers → ((i : ℕ) (r : R) (f : Fed) → i < length readers → IsFedOf (says (get_or readers i r))
-    (get_or fed i f)) →
-    IfErr a (IsFaultIn fed) → IfErr a (IsFaultAmong (map says readers))
+    (get_or fed i f)) → IfErr a (IsFaultIn fed) → IfErr a (IsFaultAmong (map says readers))
 answer-fault says readers fed (Ok o) some same each a = tt
 answer-fault says [] fed (Err e) some same each a = absurd (omega (arith, some))
 answer-fault says (r ∷ rs) [] (Err e) some same each a = absurd (omega (arith, same))

@@ -1,21 +1,11 @@
 -- A book that has taken the first entries of a list.
-use Rattle.std.proofs.lemmas.Grind.{common_steps}
-use Rattle.std.proofs.Common.{rules}
-use Rattle.std.proofs.Common.{◌≡◌, ℕ, ◌≤◌, ◌<◌, ◌+◌, List, [], ◌∷◌, ◌++◌, length, take, drop, suc, get_or}
-use Rattle.std.proofs.Common.{IsFalse, inl, inr, sym, ap, ◌∙◌, subst, arith, take-append-drop, drop-cons}
-use Rattle.std.proofs.Math.Seq.{take-length}
-use Rattle.std.proofs.lemmas.List.{length-take-le, take_all}
-use Rattle.std.proofs.lemmas.Bool.{cases_lt}
-use Rattle.rv_event.specs.Log.{events}
-use Rattle.rv_event.specs.Orders.{Lawful}
-use Rattle.rv_event.specs.WellFormed.{WellFormed}
-use Rattle.rv_event.specs.declared.event.Entry.{Entry}
-use Rattle.rv_event.specs.declared.memory_model.MemoryModel.{MemoryModel}
-use Rattle.rv_event.proofs.Pushed.{WellFormed-nil, WellFormed-push}
-use Rattle.rv_cert.specs.Refusals.{FaultyLog, Refusal}
-use Rattle.rv_book.specs.Booked.{Booked, IsForbiddenOn, IsMalformedOn, IsTaken}
+use Rattle.rv_run.proofs.Common.{common_steps, rules, ◌≡◌, ℕ, ◌≤◌, ◌<◌, ◌+◌, List, [], ◌∷◌, ◌++◌, length, take}
+use Rattle.rv_run.proofs.Common.{drop, suc, get_or, IsFalse, inl, inr, sym, ap, ◌∙◌, subst, arith}
+use Rattle.rv_run.proofs.Common.{take-append-drop, drop-cons, take-length, length-take-le, take_all, cases_lt}
+use Rattle.rv_run.proofs.Common.{events, Lawful, WellFormed, Entry, MemoryModel, WellFormed-nil, WellFormed-push}
+use Rattle.rv_run.proofs.Common.{FaultyLog, Refusal, Booked, IsForbiddenOn, IsMalformedOn, IsTaken, IsConsistent}
+use Rattle.rv_run.proofs.Common.{Reaches, IsReplayed}
 use Rattle.rv_report.specs.declared.outcome.Outcome.TheVariants as outcome
-use Rattle.rv_run.specs.Replays.{IsConsistent, Reaches, IsReplayed}
 
 -- the book goes on, its log is the first entries, and each shorter beginning is consistent
 pub record IsReplaying (model : MemoryModel) (entries : List Entry) (count : ℕ) (book : Booked) : Type 0 where
@@ -103,8 +93,7 @@ replaying-forbidden model entries count book x f r low is told = (
 -- the whole list was taken
 pub replaying-end :
     (model : MemoryModel) (entries : List Entry) (count : ℕ) (book : Booked) → IsReplaying model entries count book →
-    length entries ≤ count →
-    IsConsistent model entries × (book.log ≡ entries)
+    length entries ≤ count → IsConsistent model entries × (book.log ≡ entries)
 replaying-end model entries count book r long = (
   subst (λ (l : List Entry). IsConsistent model l) (take-length entries) (r.shorter (length entries) long),
   r.log ∙ take_all count entries long,

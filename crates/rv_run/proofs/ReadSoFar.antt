@@ -1,19 +1,10 @@
 -- A source of which some events were read.
-use Rattle.std.proofs.lemmas.Grind.{common_steps}
-use Rattle.std.proofs.Common.{◌≡◌, ◌+◌, ◌≤◌, ℕ, List, [], ◌∷◌, ◌++◌, Bool, Option, Some, None, option_map}
-use Rattle.std.proofs.Common.{true, false, inl, inr}
-use Rattle.std.proofs.Common.{refl, arith}
-use Rattle.rv_chunk.specs.Chunks.{IsPackable}
-use Rattle.rv_event.specs.declared.event.Event.{Event}
-use Rattle.rv_trace.specs.Chunks.{TakesEvents}
-use Rattle.rv_trace.specs.Faults.{IsOutside, is_of_text}
-use Rattle.rv_trace.specs.Source.{Stream, source_says}
-use Rattle.rv_trace.specs.Trace.{IsFaultOf, IsWhole, TakesEvent, TraceLeft, fresh_trace}
-use Rattle.rv_trace.specs.declared.fault.TraceFault.{TraceFault}
-use Rattle.rv_run.specs.declared.feeding.FeedEnd.{FeedEnd}
-use Rattle.rv_run.specs.declared.feeding.FeedEnd.TheVariants.{Whole, Stopped, Fault, NoMemory}
-use Rattle.rv_run.specs.Feeds.{IsEndOf, IsFeeding, IsReadOf, IsSettledEnd}
-use Rattle.rv_run.specs.Sources.{IsAllOf, EndsIn}
+use Rattle.rv_run.proofs.Common.{common_steps, ◌≡◌, ◌+◌, ◌≤◌, ℕ, List, [], ◌∷◌, ◌++◌, Bool, Option, Some, None}
+use Rattle.rv_run.proofs.Common.{option_map, true, false, inl, inr, refl, arith, IsPackable, Event, TakesEvents}
+use Rattle.rv_run.proofs.Common.{IsOutside, is_of_text, Stream, source_says, IsFaultOf, IsWhole, TakesEvent}
+use Rattle.rv_run.proofs.Common.{TraceLeft, fresh_trace, TraceFault, FeedEnd, Whole, Stopped, Fault, NoMemory}
+use Rattle.rv_run.proofs.Common.{IsEndOf, IsFeeding, IsSettledEnd, IsAllOf, EndsIn}
+use Rattle.rv_run.specs.Feeds.{IsReadOf}
 
 takes-none : (s : Option Stream) → TakesEvents s s []
 takes-none None = tt
@@ -54,8 +45,7 @@ fault-end : (start now : Option Stream) (es : List Event) (f : TraceFault) → T
 fault-end start now es f h l = grind (arith, common_steps)
 
 -- the source has a fault
-pub feeding-fails :
-    (start : Option Stream) (es : List Event) (trace : TraceLeft) (f : TraceFault) →
+pub feeding-fails : (start : Option Stream) (es : List Event) (trace : TraceLeft) (f : TraceFault) →
     (trace.fault ≡ None → IsFaultOf trace.stream f) → IsFeeding start es trace →
     IsReadOf start es (Fault f)
 feeding-fails start es trace f fault so = grind (arith, common_steps)

@@ -1,18 +1,8 @@
 -- Verdicts as outcomes that agree with what was read.
-use Rattle.std.proofs.Common.{arith}
-use Rattle.std.proofs.lemmas.Grind.{common_steps}
-use Rattle.std.proofs.Common.{◌≡◌, List, sym, ap, ◌∙◌, subst}
-use Rattle.rv_event.specs.WellFormed.{WellFormed}
-use Rattle.rv_event.specs.declared.event.Entry.{Entry}
-use Rattle.rv_event.specs.declared.memory_model.MemoryModel.{MemoryModel}
-use Rattle.rv_cert.specs.Refusals.{Refusal, FaultyLog, IsFinal, IsMalformed}
-use Rattle.rv_cert.specs.Verdicts.{model_of}
-use Rattle.rv_cert.specs.declared.verdict.Verdict.{Verdict}
+use Rattle.rv_run.proofs.Common.{arith, common_steps, ◌≡◌, List, sym, ap, ◌∙◌, subst, WellFormed, Entry}
+use Rattle.rv_run.proofs.Common.{MemoryModel, Refusal, FaultyLog, IsFinal, IsMalformed, model_of, Verdict}
+use Rattle.rv_run.proofs.Common.{outcome_of, Outcome, AgreesWith, IsBegun, Fed}
 use Rattle.rv_cert.specs.declared.verdict.Verdict.TheVariants as verdict
-use Rattle.rv_report.specs.Outcomes.{outcome_of}
-use Rattle.rv_report.specs.declared.outcome.Outcome.{Outcome}
-use Rattle.rv_run.specs.Comparisons.{AgreesWith, IsBegun}
-use Rattle.rv_run.specs.declared.feeding.Fed.{Fed}
 
 module _ (model : MemoryModel) (fed : List Fed) (of copy : Verdict) (evidence : List Entry) (outcome : Outcome)
     (same : copy ≡ of) (out : outcome ≡ outcome_of copy) (own : model_of of ≡ model)

@@ -1,17 +1,10 @@
 -- An act of the code is the machine's.
-use Rattle.std.specs.Prelude.{Option, Some, None, unwrap_or, is_some}
-use Rattle.std.specs.List.{list_all}
-use Rattle.std.specs.Prelude.{nat_lt}
-use Rattle.std.proofs.Common.{◌≡◌, ◌<◌, ◌&&◌, Bool, true, ℕ, List, [], ◌∷◌, map, refl, ap}
-use Rattle.std.proofs.Common.{◌∙◌}
-use Rattle.std.proofs.Common.{arith}
-use Rattle.std.proofs.lemmas.Grind.{common_steps}
-use Rattle.rv_slotcore.specs.Machine.{Slot, Seat, with_slot, with_seat, with_both, Moved, if_fits}
-use Rattle.rv_slotcore.specs.Machine.{put_words, all_put}
+use Rattle.rv_slotcore.proofs.Common.{Option, Some, None, unwrap_or, is_some, list_all, nat_lt, ◌≡◌, ◌<◌, ◌&&◌}
+use Rattle.rv_slotcore.proofs.Common.{Bool, true, ℕ, List, [], ◌∷◌, map, refl, ap, ◌∙◌, arith, common_steps, Slot}
+use Rattle.rv_slotcore.proofs.Common.{Seat, with_slot, with_seat, with_both, Moved, if_fits, put_words, all_put}
+use Rattle.rv_slotcore.proofs.Common.{core_of, answer_of, Went, Parts}
 use Rattle.rv_slotcore.specs.Machine as machine
-use Rattle.rv_slotcore.specs.CoreIs.{core_of, answer_of, Went}
 use Rattle.rv_slotcore.specs.declared.step.Answer as coded
-use Rattle.rv_slotcore.specs.declared.parts.Parts.{Parts}
 
 -- a program's act is the machine's
 pub went : (h : Parts) (a : coded.Answer) (m n : Moved) → m ≡ n → core_of h ≡ n.0 → answer_of a
@@ -19,8 +12,7 @@ pub went : (h : Parts) (a : coded.Answer) (m n : Moved) → m ≡ n → core_of 
 went h a m n e core same = grind (arith, common_steps)
 
 -- a write of a slot and then of a seat
-pub two_writes : (c : machine.Core) (f g : Parts) (i s : ℕ) (y : Slot) (z : Seat → Seat)
-    → core_of f
+pub two_writes : (c : machine.Core) (f g : Parts) (i s : ℕ) (y : Slot) (z : Seat → Seat) → core_of f
     ≡ with_slot c i y → core_of g ≡ with_seat (core_of f) s (z ((core_of f).seats s)) → core_of g
     ≡ with_both c i y s (z (c.seats s))
 two_writes c f g i s y z e d = d ∙ ap (λ (x : machine.Core). with_seat x s (z (x.seats s))) e

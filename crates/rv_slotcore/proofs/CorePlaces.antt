@@ -1,17 +1,11 @@
 -- What the code reads and writes of a core, as the machine sees it.
-use Rattle.std.proofs.Common.{◌≡◌, ℕ, zero, suc, ◌<◌, List, [], ◌∷◌, length, get_or, set, map}
-use Rattle.std.proofs.Common.{sym, refl, ap, ◌∙◌}
-use Rattle.std.proofs.lemmas.List.{get_or-map, get_or-set_same, get_or-set_other, length-map}
-use Rattle.std.specs.Vec.{with_item}
-use Rattle.std.proofs.Common.{arith}
-use Rattle.std.proofs.lemmas.Grind.{common_steps}
-use Rattle.rv_slotcore.specs.Machine.{put_at, Slot, Seat, blank_slot, with_slot, with_seat}
-use Rattle.rv_slotcore.specs.Machine as machine
-use Rattle.rv_slotcore.specs.CoreIs.{core_of, slot_of, seat_of, idle_seat}
-use Rattle.rv_slotcore.specs.declared.parts.SlotState.{SlotState}
-use Rattle.rv_slotcore.specs.declared.parts.SeatEntry.{SeatEntry}
-use Rattle.rv_slotcore.specs.declared.parts.Parts.{Parts}
+use Rattle.rv_slotcore.proofs.Common.{◌≡◌, ℕ, zero, suc, ◌<◌, List, [], ◌∷◌, length, get_or, set, map, sym, refl}
+use Rattle.rv_slotcore.proofs.Common.{ap, ◌∙◌, get_or-map, get_or-set_same, get_or-set_other, length-map}
+use Rattle.rv_slotcore.proofs.Common.{with_item, arith, common_steps, put_at, Slot, Seat, blank_slot, with_slot}
+use Rattle.rv_slotcore.proofs.Common.{with_seat, core_of, slot_of, seat_of, idle_seat, SlotState, SeatEntry}
+use Rattle.rv_slotcore.proofs.Common.{Parts}
 use Rattle.rv_slotcore.proofs.Updates.{put_cases}
+use Rattle.rv_slotcore.specs.Machine as machine
 
 module _ {A B : Type 0} (f : A → B) (d : B) where
   -- what f reads of the item at a place

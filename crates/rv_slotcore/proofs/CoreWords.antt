@@ -1,26 +1,15 @@
 -- The state word under one exchange.
-use Rattle.std.proofs.Common.{◌≡◌, ◌≢◌, ℕ, zero, suc, ◌+◌, ◌*◌, ◌/◌, ◌%◌, ◌^◌, ◌<◌, ◌≤◌, Bool}
-use Rattle.std.proofs.Common.{true, false, ◌&&◌, ◌==◌, List, bit_and, bit_or, not, sym}
-use Rattle.std.proofs.Common.{refl, ap, ◌∙◌, subst, arith, ⊎_elim, eq-eqb, ne_eqb, zero-mul}
-use Rattle.std.proofs.lemmas.Bool.{ltb-true, eqb-true, cases_lt}
-use Rattle.std.specs.Prelude.{nat_lt, nat_eq}
-use Rattle.std.proofs.Common.{true≢false, w64}
-use Rattle.std.specs.Int.{bit_at, bit_not}
-use Rattle.std.specs.Int.Bits.{or_zero_r}
-use Rattle.std.proofs.Math.Nat.{div-eq_of_lt}
-use Rattle.std.proofs.lemmas.Nat.{or_shr, pow_below, pow_pos, and_le_l}
-use Rattle.std.proofs.lemmas.Nat.Bits.{bit_at_or, bit_at-pow_same, bit_at-pow_other, bit_at-lt}
-use Rattle.std.proofs.lemmas.Nat.Bits.{and_pow, bit_at_clear_same, bit_at_clear_other}
-use Rattle.std.proofs.lemmas.Nat.Bits.{bit_at_above}
-use Rattle.std.proofs.lemmas.Nat.Bits.{same_from_bits, bit_at_cat_low, bit_at-zero}
-use Rattle.std.proofs.lemmas.Grind.{common_steps}
-use Rattle.rv_slotcore.specs.Places.{seats_at_most, claimed_bit, full_bit, done_bit}
-use Rattle.rv_slotcore.specs.Places.{generation_bit}
-use Rattle.rv_slotcore.specs.Machine.{Slot, flag, word_of, put_at, claimed_slot, full_slot}
-use Rattle.rv_slotcore.specs.Machine.{done_slot, pinned_slot, freed_slot}
-use Rattle.rv_slotcore.specs.Word.{Reads}
+use Rattle.rv_slotcore.proofs.Common.{◌≡◌, ◌≢◌, ℕ, zero, suc, ◌+◌, ◌*◌, ◌/◌, ◌%◌, ◌^◌, ◌<◌, ◌≤◌, Bool, true}
+use Rattle.rv_slotcore.proofs.Common.{false, ◌&&◌, ◌==◌, List, bit_and, bit_or, not, sym, refl, ap, ◌∙◌, subst}
+use Rattle.rv_slotcore.proofs.Common.{arith, ⊎_elim, eq-eqb, ne_eqb, zero-mul, ltb-true, eqb-true, cases_lt}
+use Rattle.rv_slotcore.proofs.Common.{nat_lt, nat_eq, true≢false, w64, bit_at, bit_not, or_zero_r, div-eq_of_lt}
+use Rattle.rv_slotcore.proofs.Common.{or_shr, pow_below, pow_pos, and_le_l, bit_at_or, bit_at-pow_same}
+use Rattle.rv_slotcore.proofs.Common.{bit_at-pow_other, bit_at-lt, and_pow, bit_at_clear_same, bit_at_clear_other}
+use Rattle.rv_slotcore.proofs.Common.{bit_at_above, same_from_bits, bit_at_cat_low, bit_at-zero, common_steps}
+use Rattle.rv_slotcore.proofs.Common.{seats_at_most, claimed_bit, full_bit, done_bit, generation_bit, Slot, flag}
+use Rattle.rv_slotcore.proofs.Common.{word_of, put_at, claimed_slot, full_slot, done_slot, pinned_slot}
+use Rattle.rv_slotcore.proofs.Common.{freed_slot, Reads, slot_read}
 use Rattle.rv_slotcore.proofs.Words.{one_word, word_reads, high_bit}
-use Rattle.rv_slotcore.specs.CoreIs.{slot_read}
 
 -- the bit that was set
 pub or_here : (w k : ℕ) → bit_at (bit_or w (2 ^ k)) k ≡ 1
@@ -33,10 +22,8 @@ or_else w k i n = let a = bit_at_or w (2 ^ k) i in let b = bit_at-pow_other k i 
 -- the generation stays when a flag is set
 pub or_high : (w k : ℕ) → k < generation_bit → bit_or w (2 ^ k) / 2 ^ generation_bit
     ≡ w / 2 ^ generation_bit
-or_high w k h = or_shr w (2 ^ k) generation_bit ∙
-    (ap (λ (z : ℕ). bit_or (w / 2 ^ generation_bit) z)
-    (div-eq_of_lt (pow_below k generation_bit h)) ∙ or_zero_r
-    (w / 2 ^ generation_bit))
+or_high w k h = or_shr w (2 ^ k) generation_bit ∙ (ap (λ (z : ℕ). bit_or (w / 2 ^ generation_bit) z)
+    (div-eq_of_lt (pow_below k generation_bit h)) ∙ or_zero_r (w / 2 ^ generation_bit))
 
 one_is : (n : ℕ) → n ≡ 1 → (n == 1) ≡ true
 one_is n e = eq-eqb n 1 e
@@ -65,8 +52,7 @@ module _ (w : ℕ) (content : List ℕ) where
   -- a word with the flag full
   pub full_word : slot_read (bit_or w (2 ^ full_bit)) content ≡ full_slot (slot_read w content)
   full_word = same_slot _ _ (or_high w full_bit (omega arith))
-      (same _ _ (or_else w full_bit claimed_bit (λ e. omega arith)))
-      (one_is _ (or_here w full_bit))
+      (same _ _ (or_else w full_bit claimed_bit (λ e. omega arith))) (one_is _ (or_here w full_bit))
       (same _ _ (or_else w full_bit done_bit (λ e. omega arith)))
       (λ s. same_pin _ _ s (λ h. or_else w full_bit s (λ e. omega arith))) refl
 
@@ -131,8 +117,7 @@ pin_put w v s b f h here else k = grind (arith, common_steps)
 
 -- a word with a pin
 pub pinned_word : (w : ℕ) (content : List ℕ) (s : ℕ) → s < seats_at_most → slot_read
-    (bit_or w (2 ^ s)) content
-    ≡ pinned_slot (slot_read w content) s true
+    (bit_or w (2 ^ s)) content ≡ pinned_slot (slot_read w content) s true
 pinned_word w content s h = same_slot _ _ (or_high w s (omega arith))
     (same _ _ (or_else w s claimed_bit (λ e. omega arith)))
     (same _ _ (or_else w s full_bit (λ e. omega arith)))
@@ -164,8 +149,7 @@ le_then_lt : {a b c : ℕ} → a ≤ b → b < c → a < c
 le_then_lt l m = omega arith
 
 cleared_bit_high : (w k i : ℕ) → k < seats_at_most → w < 18446744073709551616 → bit_at
-    (cleared w k / 2 ^ generation_bit) i
-    ≡ bit_at (w / 2 ^ generation_bit) i
+    (cleared w k / 2 ^ generation_bit) i ≡ bit_at (w / 2 ^ generation_bit) i
 cleared_bit_high w k i h small = high_bit (cleared w k) i ∙ (⊎_elim
     (λ low. cleared_else w k (generation_bit + i) h low (λ e. omega arith))
     (λ high. let l = and_le_l w (bit_not w64 (2 ^ k)) in bit_at_above (cleared w k) 64
@@ -198,8 +182,7 @@ unpinned_word w content s h small = same_slot _ _
 -- ---- the next generation
 none_low : (g k : ℕ) → k < generation_bit → bit_at (g * 2 ^ generation_bit) k ≡ 0
 none_low g k h = let e : g * 2 ^ generation_bit + 0 ≡ g * 2 ^ generation_bit = omega arith in
-    subst
-    (λ (z : ℕ). bit_at z k ≡ 0) e (bit_at_cat_low g generation_bit 0 k h ∙ bit_at-zero k)
+    subst (λ (z : ℕ). bit_at z k ≡ 0) e (bit_at_cat_low g generation_bit 0 k h ∙ bit_at-zero k)
 
 guarded_none : (b c : Bool) → (b ≡ true → c ≡ false) → (b && c) ≡ false
 guarded_none true c e = e refl
@@ -207,7 +190,6 @@ guarded_none false c e = refl
 
 -- a word of the next generation
 pub freed_word : (w : ℕ) (content : List ℕ) → slot_read
-    ((w / 2 ^ generation_bit + 1) * 2 ^ generation_bit) content
-    ≡ freed_slot (slot_read w content)
+    ((w / 2 ^ generation_bit + 1) * 2 ^ generation_bit) content ≡ freed_slot (slot_read w content)
 freed_word w content =
     grind (arith, common_steps, same_slot, none_is, none_low, guarded_none, ltb-true)

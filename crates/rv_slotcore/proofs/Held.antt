@@ -1,16 +1,9 @@
 -- The slot that a seat's state names is one of the table, after every step.
-use Rattle.std.proofs.Common.{◌≡◌, ℕ, ◌<◌, Bool, true, false, ◌&&◌, refl, List, true≢false}
-use Rattle.std.specs.Prelude.{Option, nat_lt}
-use Rattle.std.proofs.lemmas.Bool.{ltb-true}
-use Rattle.std.proofs.Common.{arith}
-use Rattle.std.proofs.lemmas.Grind.{common_steps}
-use Rattle.rv_slotcore.specs.Machine.{Core, Seat, SeatState, Idle, Filling, Pinned, Stray}
+use Rattle.rv_slotcore.proofs.Common.{◌≡◌, ℕ, ◌<◌, Bool, true, false, ◌&&◌, refl, List, true≢false, Option}
+use Rattle.rv_slotcore.proofs.Common.{nat_lt, ltb-true, arith, common_steps, Core, Seat, SeatState, Idle, Filling}
+use Rattle.rv_slotcore.proofs.Common.{Pinned, Stray, put_at, claims, puts, publishes, publishes_if, pins_on}
+use Rattle.rv_slotcore.proofs.Common.{pins_as, gets, finishes, unpins, frees, frees_if, moves, names_slot_below}
 use Rattle.rv_slotcore.specs.Machine.{Act}
-use Rattle.rv_slotcore.specs.Machine.{put_at}
-use Rattle.rv_slotcore.specs.Machine.{claims, puts, publishes, publishes_if, pins_on, pins_as}
-use Rattle.rv_slotcore.specs.Machine.{gets}
-use Rattle.rv_slotcore.specs.Machine.{finishes, unpins, frees, frees_if, moves}
-use Rattle.rv_slotcore.specs.CoreIs.{names_slot_below}
 use Rattle.rv_slotcore.proofs.Updates.{put_cases}
 
 -- each seat's state names a slot that is there

@@ -1,12 +1,10 @@
 -- What every step keeps.
-use Rattle.rv_slotcore.specs.Places.{seats_at_most}
-use Rattle.std.proofs.Common.{◌≡◌, ◌⊎◌, ℕ, zero, suc, ◌<◌, ◌≤◌, Bool, true, false}
-use Rattle.std.proofs.Common.{◌==◌, List, [], ◌∷◌, length, get_or, replicate, slice_index_or}
-use Rattle.std.proofs.Common.{Option, Some, None, Contains, sym, refl, ap, ◌∙◌, arith, inl}
-use Rattle.std.proofs.Common.{inr}
-use Rattle.std.proofs.lemmas.Grind.{common_steps}
-use Rattle.rv_slotcore.specs.Machine.{Slot, SeatState, Idle, Filling, Pinned, Stray, Record, Seat}
-use Rattle.rv_slotcore.specs.Machine.{Core, put_at, all_put, put_words}
+use Rattle.rv_slotcore.proofs.Common.{seats_at_most, ◌≡◌, ◌⊎◌, ℕ, zero, suc, ◌<◌, ◌≤◌, Bool, true, false, ◌==◌}
+use Rattle.rv_slotcore.proofs.Common.{List, [], ◌∷◌, length, get_or, replicate, slice_index_or, Option, Some}
+use Rattle.rv_slotcore.proofs.Common.{None, Contains, sym, refl, ap, ◌∙◌, arith, inl, inr, common_steps, Slot}
+use Rattle.rv_slotcore.proofs.Common.{SeatState, Idle, Filling, Pinned, Stray, Seat, Core, put_at, all_put}
+use Rattle.rv_slotcore.proofs.Common.{put_words}
+use Rattle.rv_slotcore.specs.Machine.{Record}
 
 -- the seat's own bit is set on this slot
 abbrev pub on : SeatState → ℕ → Bool
@@ -35,8 +33,7 @@ pub record Fills (m : ℕ) (claimed full : ℕ → Bool) (content : ℕ → List
     (state : ℕ → SeatState) : Type 0 where
   pub fills : (s i : ℕ) (p : List (Option ℕ)) → state s ≡ Filling i p → (claimed i ≡ true) ×
       (full i ≡ false) × (length p ≡ 58) × PutIn p (content i)
-  pub one : (s t i : ℕ) (p q : List (Option ℕ)) → state s ≡ Filling i p → state t ≡ Filling i q
-      → s
+  pub one : (s t i : ℕ) (p q : List (Option ℕ)) → state s ≡ Filling i p → state t ≡ Filling i q → s
       ≡ t
   pub filled : (i : ℕ) → claimed i ≡ true → full i ≡ false → (s : ℕ) × (p : List (Option ℕ)) ×
       (s < m) × (state s ≡ Filling i p)
@@ -80,8 +77,7 @@ module _ (m : ℕ) (slots : ℕ → Slot) (seats : ℕ → Seat) where
 
   -- what the seats have recorded agrees with the slots
   abbrev pub RecordedOf : Type 0
-  RecordedOf = Recorded m (λ i. (slots i).full) (λ i. (slots i).generation)
-      (λ i. (slots i).content)
+  RecordedOf = Recorded m (λ i. (slots i).full) (λ i. (slots i).generation) (λ i. (slots i).content)
       (λ s. (seats s).records)
 
   -- all of these

@@ -1,23 +1,14 @@
 -- Each step keeps the invariant.
-use Rattle.std.proofs.Common.{◌≡◌, ◌≢◌, ◌⊎◌, ℕ, ◌<◌, ◌≤◌}
-use Rattle.std.proofs.Common.{Bool}
-use Rattle.std.proofs.Common.{true, false, List, ◌∷◌, length}
-use Rattle.std.proofs.Common.{get_or, set, Option, Some, None, Contains, sym, refl, ap}
-use Rattle.std.proofs.Common.{◌∙◌, subst, arith, ⊎_elim, true≢false, eq-eqb}
-use Rattle.std.proofs.Common.{ne_eqb, length-set}
-use Rattle.std.proofs.lemmas.Bool.{cases_Bool}
-use Rattle.std.proofs.lemmas.Grind.{common_steps}
-use Rattle.std.proofs.Common.{rules}
-use mathlib.Core.Logic.{dite}
-use Rattle.rv_slotcore.specs.Machine.{Slot, Idle, Filling, Pinned, Stray, Record, Seat}
-use Rattle.rv_slotcore.specs.Machine.{put_at, all_put, put_words, no_words, in_state}
-use Rattle.rv_slotcore.specs.Machine.{recorded, claimed_slot, written_slot, full_slot}
-use Rattle.rv_slotcore.specs.Machine.{pinned_slot}
+use Rattle.rv_slotcore.proofs.Common.{◌≡◌, ◌≢◌, ◌⊎◌, ℕ, ◌<◌, ◌≤◌, Bool, true, false, List, ◌∷◌, length, get_or}
+use Rattle.rv_slotcore.proofs.Common.{set, Option, Some, None, Contains, sym, refl, ap, ◌∙◌, subst, arith, ⊎_elim}
+use Rattle.rv_slotcore.proofs.Common.{true≢false, eq-eqb, ne_eqb, length-set, cases_Bool, common_steps, rules}
+use Rattle.rv_slotcore.proofs.Common.{dite, Slot, Idle, Filling, Pinned, Stray, Seat, put_at, all_put, put_words}
+use Rattle.rv_slotcore.proofs.Common.{no_words, in_state, recorded, claimed_slot, written_slot, full_slot}
+use Rattle.rv_slotcore.proofs.Common.{pinned_slot}
+use Rattle.rv_slotcore.specs.Machine.{Record}
 use Rattle.rv_slotcore.proofs.Updates.{put_cases, put_here}
-use Rattle.rv_slotcore.proofs.Invariant.{on, PutIn, Fills, Holds, Recorded, FlagsOf}
-use Rattle.rv_slotcore.proofs.Invariant.{PinsOf, FillsOf, HoldsOf, RecordedOf, SafeOf}
-use Rattle.rv_slotcore.proofs.Invariant.{in_head, in_tail, none_put, whole_is}
-use Rattle.rv_slotcore.proofs.Invariant.{same_map}
+use Rattle.rv_slotcore.proofs.Invariant.{on, PutIn, Fills, Holds, Recorded, FlagsOf, PinsOf, FillsOf, HoldsOf}
+use Rattle.rv_slotcore.proofs.Invariant.{RecordedOf, SafeOf, in_head, in_tail, none_put, whole_is, same_map}
 
 module _ (m : ℕ) (slots : ℕ → Slot) (seats : ℕ → Seat) (safe : SafeOf m slots seats) (s i : ℕ)
     (small : s < m) where
@@ -35,8 +26,7 @@ module _ (m : ℕ) (slots : ℕ → Slot) (seats : ℕ → Seat) (safe : SafeOf 
   records_same : (y : Slot) (r : Seat) → y.full ≡ x.full → y.generation ≡ x.generation → y.content
       ≡ x.content → r.records ≡ q.records → RecordedOf m (put_at slots i y) (put_at seats s r)
   records_same y r a b d e = subst
-      (λ (z : (ℕ → Bool) × (ℕ → ℕ) × (ℕ → List ℕ) × (ℕ → List Record)). Recorded m z.0 z.1 z.2
-      z.3)
+      (λ (z : (ℕ → Bool) × (ℕ → ℕ) × (ℕ → List ℕ) × (ℕ → List Record)). Recorded m z.0 z.1 z.2 z.3)
       (λ k. (
         same_map (λ z. z.full) slots i y a k,
         same_map (λ z. z.generation) slots i y b k,
@@ -52,21 +42,17 @@ module _ (m : ℕ) (slots : ℕ → Slot) (seats : ℕ → Seat) (safe : SafeOf 
 
   -- a slot keeps what pins read of it; a seat gets a state that is not pinned
   holds_same : (y : Slot) (r : Seat) →
-      (x.full ≡ true → (y.full ≡ true) × (y.generation ≡ x.generation) × (y.content ≡ x.content))
-      →
+      (x.full ≡ true → (y.full ≡ true) × (y.generation ≡ x.generation) × (y.content ≡ x.content)) →
       ((k g : ℕ) (w : List ℕ) → r.state ≢ Pinned k g w) → HoldsOf m (put_at slots i y)
       (put_at seats s r)
   holds_same y r a b = record {
-    pinned = λ t k g w. put_cases
-        (λ z. z.state ≡ Pinned k g w → ((put_at slots i y k).full ≡ true)
+    pinned = λ t k g w. put_cases (λ z. z.state ≡ Pinned k g w → ((put_at slots i y k).full ≡ true)
         × ((put_at slots i y k).generation ≡ g) × ((put_at slots i y k).content ≡ w) ×
         (rest : List Record) × (z.records ≡ record { slot = k; generation = g; content = w }
-        ∷ rest)) seats s t r
-        (λ _ e. absurd (b k g w e))
+        ∷ rest)) seats s t r (λ _ e. absurd (b k g w e))
         (λ _ e. let old = safe.holding.pinned t k g w e in put_cases
         (λ z. (z.full ≡ true) × (z.generation ≡ g) × (z.content ≡ w) × (rest : List Record) ×
-        ((seats t).records ≡ record { slot = k; generation = g; content = w } ∷ rest)) slots i k
-        y
+        ((seats t).records ≡ record { slot = k; generation = g; content = w } ∷ rest)) slots i k y
         (λ d. let was = a (subst (λ (u : ℕ). (slots u).full ≡ true) d old.0) in (
           was.0,
           was.1 ∙ (ap (λ (u : ℕ). (slots u).generation) (sym d) ∙ old.1),
@@ -107,31 +93,25 @@ module _ (m : ℕ) (slots : ℕ → Slot) (seats : ℕ → Seat) (safe : SafeOf 
                   λ j w h. absurd
                       (none_put 58 j w (ap (λ (l : List (Option ℕ)). get_or l j None) p_is ∙ h)),
                 ))
-                (λ ne. absurd (ne k_is)))
-                (λ _ e. let old = safe.filling.fills t k p e in
+                (λ ne. absurd (ne k_is))) (λ _ e. let old = safe.filling.fills t k p e in
                 put_cases (λ z. (z.claimed ≡ true) × (z.full ≡ false) × (length p ≡ 58)
-                × PutIn p z.content) slots i k y
-                (λ d. absurd
+                × PutIn p z.content) slots i k y (λ d. absurd
                 (true≢false (sym old.0 ∙ (ap (λ (u : ℕ). (slots u).claimed) d ∙ free))))
                 (λ _. old));
             one = λ t u k p p'. put_cases (λ z. z.state ≡ Filling k p → (put_at seats s r u).state
                 ≡ Filling k p' → t ≡ u) seats s t r
                 (λ d e. put_cases (λ z. z.state ≡ Filling k p' → t ≡ u) seats s u r
-                (λ d' _. d ∙ sym d')
-                (λ _ e'. let k_is : k ≡ i = cc in absurd
-                (true≢false
+                (λ d' _. d ∙ sym d') (λ _ e'. let k_is : k ≡ i = cc in absurd (true≢false
                 (sym (safe.filling.fills u k p' e').0 ∙
                 (ap (λ (v : ℕ). (slots v).claimed) k_is ∙ free)))))
                 (λ _ e. put_cases (λ z. z.state ≡ Filling k p' → t ≡ u) seats s u r
-                (λ _ e'. let k_is : k ≡ i = cc in absurd
-                (true≢false
+                (λ _ e'. let k_is : k ≡ i = cc in absurd (true≢false
                 (sym (safe.filling.fills t k p e).0 ∙
                 (ap (λ (v : ℕ). (slots v).claimed) k_is ∙ free))))
                 (λ _ e'. safe.filling.one t u k p p' e e'));
             filled = λ k. put_cases (λ z. z.claimed ≡ true → z.full ≡ false → (t : ℕ) ×
                 (p : List (Option ℕ)) × (t < m) × ((put_at seats s r t).state ≡ Filling k p))
-                slots i k
-                y
+                slots i k y
                 (λ d _ _. (
                   s,
                   no_words,
@@ -209,8 +189,7 @@ module _ (m : ℕ) (slots : ℕ → Slot) (seats : ℕ → Seat) (safe : SafeOf 
   -- a record of slot i, of its generation and content, is added
   records_added : (y : Slot) (r : Seat) (w : Record) → r.records ≡ w ∷ q.records → w.slot ≡ i
       → w.generation ≡ x.generation → w.content ≡ x.content → y.full ≡ true → y.generation
-      ≡ x.generation → y.content ≡ x.content
-      → RecordedOf m (put_at slots i y) (put_at seats s r)
+      ≡ x.generation → y.content ≡ x.content → RecordedOf m (put_at slots i y) (put_at seats s r)
   records_added y r w more at gen is a b d =
       let still : (z : Record) → IsDated slots z → IsDated (put_at slots i y) z =
       grind (arith, common_steps) in
@@ -229,16 +208,14 @@ module _ (m : ℕ) (slots : ℕ → Slot) (seats : ℕ → Seat) (safe : SafeOf 
             (λ h. ⊎_elim (λ h'. ap (λ (v : Record). v.content) (sym h ∙ h'))
             (λ old'. ap (λ (v : Record). v.content) (sym h) ∙ meets z' old'.0 old'.1
             (ap (λ (v : Record). v.slot) h ∙ e) (ap (λ (v : Record). v.generation) h ∙ g))
-            (origin u z' c'))
-            (λ old. ⊎_elim
+            (origin u z' c')) (λ old. ⊎_elim
             (λ h'. sym (ap (λ (v : Record). v.content) (sym h') ∙ meets z old.0 old.1
             (ap (λ (v : Record). v.slot) h' ∙ sym e)
             (ap (λ (v : Record). v.generation) h' ∙ sym g)))
             (λ old'. safe.records.agree old.0 old'.0 z z' old.1 old'.1 e g) (origin u z' c'))
             (origin t z c);
         kept = λ k. put_cases (λ v. v.full ≡ true → (t : ℕ) × (z : Record) × (t < m) × Contains
-            (put_at seats s r t).records z × (z.slot ≡ k) × (z.generation ≡ v.generation)) slots i
-            k
+            (put_at seats s r t).records z × (z.slot ≡ k) × (z.generation ≡ v.generation)) slots i k
             y
             (λ e _. (
               s,
@@ -267,8 +244,7 @@ module _ (m : ℕ) (slots : ℕ → Slot) (seats : ℕ → Seat) (safe : SafeOf 
   -- ---- pin
   module _ (idle : q.state ≡ Idle) where
     -- a pin does
-    pub pin_keeps : x.full ≡ true → SafeOf m (put_at slots i (pinned_slot x s true))
-        (put_at seats s
+    pub pin_keeps : x.full ≡ true → SafeOf m (put_at slots i (pinned_slot x s true)) (put_at seats s
         (recorded q (Pinned i x.generation x.content)
         (record { slot = i; generation = x.generation; content = x.content })))
     pin_keeps full = let y : Slot = pinned_slot x s true in let w : Record =
@@ -307,8 +283,7 @@ module _ (m : ℕ) (slots : ℕ → Slot) (seats : ℕ → Seat) (safe : SafeOf 
 
   -- ---- publish
   pub publish_keeps : (p : List (Option ℕ)) → q.state ≡ Filling i p → all_put p ≡ true
-      → SafeOf m (put_at slots i (full_slot x))
-      (put_at seats s
+      → SafeOf m (put_at slots i (full_slot x)) (put_at seats s
       (recorded q Idle (record { slot = i; generation = x.generation; content = put_words p })))
   publish_keeps p was all = let y : Slot = full_slot x in let w : Record =
       record { slot = i; generation = x.generation; content = put_words p } in let r : Seat =
@@ -320,11 +295,9 @@ module _ (m : ℕ) (slots : ℕ → Slot) (seats : ℕ → Seat) (safe : SafeOf 
           fills = λ t k p'. put_cases
               (λ z. z.state ≡ Filling k p' → ((put_at slots i y k).claimed ≡ true) ×
               ((put_at slots i y k).full ≡ false) × (length p' ≡ 58) × PutIn p'
-              (put_at slots i y k).content) seats s t r
-              (λ _ e. absurd (cc))
+              (put_at slots i y k).content) seats s t r (λ _ e. absurd (cc))
               (λ ne e. put_cases (λ z. (z.claimed ≡ true) × (z.full ≡ false) × (length p' ≡ 58)
-              × PutIn p' z.content) slots i k y
-              (λ d. absurd
+              × PutIn p' z.content) slots i k y (λ d. absurd
               (ne (safe.filling.one t s i p' p (e ∙ ap (λ (u : ℕ). Filling u p') d) was)))
               (λ _. safe.filling.fills t k p' e));
           one = search (put_cases, rules);
@@ -336,8 +309,7 @@ module _ (m : ℕ) (slots : ℕ → Slot) (seats : ℕ → Seat) (safe : SafeOf 
       }
 
   -- a slot that is not full has no record of its generation
-  quiet : (z : Record) → IsDated slots z → x.full ≡ false → (y : Slot) → y.generation
-      ≡ x.generation
+  quiet : (z : Record) → IsDated slots z → x.full ≡ false → (y : Slot) → y.generation ≡ x.generation
       → y.full ≡ x.full → IsDated (put_at slots i y) z
   quiet z old empty y gen same = grind (arith, common_steps)
 
@@ -375,14 +347,12 @@ module _ (m : ℕ) (slots : ℕ → Slot) (seats : ℕ → Seat) (safe : SafeOf 
               ))
               (λ ne. absurd (ne k_is)))
               (λ ne e. put_cases (λ z. (z.claimed ≡ true) × (z.full ≡ false) × (length a ≡ 58)
-              × PutIn a z.content) slots i k y
-              (λ d. absurd
+              × PutIn a z.content) slots i k y (λ d. absurd
               (ne (safe.filling.one t s i a p (e ∙ ap (λ (u : ℕ). Filling u a) d) was)))
               (λ _. safe.filling.fills t k a e));
           one = search rules;
           filled = λ k. put_cases (λ z. z.claimed ≡ true → z.full ≡ false → (t : ℕ) ×
-              (a : List (Option ℕ)) × (t < m) × ((put_at seats s r t).state ≡ Filling k a)) slots
-              i
+              (a : List (Option ℕ)) × (t < m) × ((put_at seats s r t).state ≡ Filling k a)) slots i
               k y
               (λ d _ _. (
                 s,
@@ -405,17 +375,14 @@ module _ (m : ℕ) (slots : ℕ → Slot) (seats : ℕ → Seat) (safe : SafeOf 
         };
         holding = holds_same y r (λ h. absurd (true≢false (sym h ∙ old.1))) (λ k g w e. cc);
         records = record {
-          dated = λ t z. put_cases (λ u. Contains u.records z → IsDated (put_at slots i y) z)
-              seats
+          dated = λ t z. put_cases (λ u. Contains u.records z → IsDated (put_at slots i y) z) seats
               s t r (λ d c. quiet z (safe.records.dated s z c) old.1 y refl refl)
               (λ _ c. quiet z (safe.records.dated t z c) old.1 y refl refl);
           agree = λ t u z z' c c'. safe.records.agree t u z z' (unmoved r refl t z c)
               (unmoved r refl u z' c');
           kept = λ k. put_cases (λ u. u.full ≡ true → (t : ℕ) × (z : Record) × (t < m) × Contains
-              (put_at seats s r t).records z × (z.slot ≡ k) × (z.generation ≡ u.generation)) slots
-              i
-              k y
-              (λ _ h. absurd (true≢false (sym h ∙ old.1)))
+              (put_at seats s r t).records z × (z.slot ≡ k) × (z.generation ≡ u.generation)) slots i
+              k y (λ _ h. absurd (true≢false (sym h ∙ old.1)))
               (λ _ h. let o = safe.records.kept k h in (
                 o.0,
                 o.1,

@@ -1,3 +1,4 @@
+pub mod Common
 pub mod Updates
 pub mod Invariant
 pub mod Law

@@ -1,26 +1,18 @@
 -- Every list of steps keeps the invariant.
-use Rattle.rv_slotcore.specs.Places.{seats_at_most, generation_bit, last_generation}
-use Rattle.std.proofs.Common.{◌≡◌, ℕ, ◌/◌, ◌^◌, ◌<◌, ◌≤◌, Bool}
-use Rattle.std.proofs.Common.{true, false, not, ◌&&◌, ◌==◌, nat_lt, List, [], ◌∷◌, length}
-use Rattle.std.proofs.Common.{Option, Contains, sym, refl, ap, ◌∙◌, subst, arith}
-use Rattle.std.proofs.Common.{⊎_elim, true≢false, eqb-true, ne_eqb, eq-eqb, ltb-true}
-use Rattle.std.proofs.lemmas.Bool.{cases_Bool}
-use Rattle.std.proofs.lemmas.Grind.{common_steps}
-use Rattle.rv_slotcore.specs.Machine.{Slot, SeatState, Idle, Filling, Pinned, Stray, Record, Seat}
-use Rattle.rv_slotcore.specs.Machine.{Core, Act, Claim, Put, Publish, Pin, Get, Done, Unpin, Free}
-use Rattle.rv_slotcore.specs.Machine.{Moved, Step, start, after, run, moves, put_at}
-use Rattle.rv_slotcore.specs.Machine.{all_put, put_words, done_slot, freed_slot}
-use Rattle.rv_slotcore.specs.Machine.{claims, puts, publishes, publishes_if, pins_as}
-use Rattle.rv_slotcore.specs.Machine.{pins_on, gets, finishes, unpins, is_free_word, frees}
-use Rattle.rv_slotcore.specs.Machine.{frees_if, if_fits, word_of}
-use Rattle.rv_chunk.specs.Chunks.{is_chunk_text}
-use Rattle.rv_slotcore.specs.Safe.{Protected, Agreeing, Dated}
+use Rattle.rv_slotcore.proofs.Common.{seats_at_most, generation_bit, last_generation, ◌≡◌, ℕ, ◌/◌, ◌^◌, ◌<◌, ◌≤◌}
+use Rattle.rv_slotcore.proofs.Common.{Bool, true, false, not, ◌&&◌, ◌==◌, nat_lt, List, [], ◌∷◌, length, Option}
+use Rattle.rv_slotcore.proofs.Common.{Contains, sym, refl, ap, ◌∙◌, subst, arith, ⊎_elim, true≢false, eqb-true}
+use Rattle.rv_slotcore.proofs.Common.{ne_eqb, eq-eqb, ltb-true, common_steps, Slot, SeatState, Idle}
+use Rattle.rv_slotcore.proofs.Common.{Filling, Pinned, Stray, Seat, Core, Claim, Put, Publish, Pin, Get, Done}
+use Rattle.rv_slotcore.proofs.Common.{Unpin, Free, Moved, start, after, run, moves, put_at, all_put, put_words}
+use Rattle.rv_slotcore.proofs.Common.{done_slot, freed_slot, claims, puts, publishes, publishes_if, pins_as}
+use Rattle.rv_slotcore.proofs.Common.{pins_on, gets, finishes, unpins, is_free_word, frees, frees_if, if_fits}
+use Rattle.rv_slotcore.proofs.Common.{word_of, is_chunk_text, Protected, Agreeing, Dated}
+use Rattle.rv_slotcore.specs.Machine.{Record, Act, Step}
 use Rattle.rv_slotcore.proofs.Updates.{put_cases}
 use Rattle.rv_slotcore.proofs.Words.{word_reads, free_word, both_true}
-use Rattle.rv_slotcore.proofs.Invariant.{on, PutIn, Fills, Holds, Recorded, SafeOf}
-use Rattle.rv_slotcore.proofs.Invariant.{Safe, same_map}
-use Rattle.rv_slotcore.proofs.Law.{claim_keeps, put_keeps, publish_keeps, pin_keeps, stray_keeps}
-use Rattle.rv_slotcore.proofs.Law.{unpin_keeps}
+use Rattle.rv_slotcore.proofs.Invariant.{on, PutIn, Fills, Holds, Recorded, SafeOf, Safe, same_map}
+use Rattle.rv_slotcore.proofs.Law.{claim_keeps, put_keeps, publish_keeps, pin_keeps, stray_keeps, unpin_keeps}
 
 module _ (m : ℕ) (slots : ℕ → Slot) (seats : ℕ → Seat) (safe : SafeOf m slots seats) (i : ℕ) where
   done_keeps : (slots i).full ≡ true → SafeOf m (put_at slots i (done_slot (slots i))) seats
@@ -61,10 +53,8 @@ module _ (m : ℕ) (slots : ℕ → Slot) (seats : ℕ → Seat) (safe : SafeOf 
     pins = grind (arith, common_steps);
     filling = record {
       fills = λ t k p e. let o = safe.filling.fills t k p e in put_cases
-          (λ z. (z.claimed ≡ true) × (z.full ≡ false) × (length p ≡ 58) × PutIn p z.content) slots
-          i
-          k y
-          (λ d. absurd (true≢false (sym full ∙ (ap (λ (u : ℕ). (slots u).full) (sym d) ∙ o.1))))
+          (λ z. (z.claimed ≡ true) × (z.full ≡ false) × (length p ≡ 58) × PutIn p z.content) slots i
+          k y (λ d. absurd (true≢false (sym full ∙ (ap (λ (u : ℕ). (slots u).full) (sym d) ∙ o.1))))
           (λ _. o);
       one = safe.filling.one;
       filled = grind (arith, common_steps);
@@ -73,11 +63,8 @@ module _ (m : ℕ) (slots : ℕ → Slot) (seats : ℕ → Seat) (safe : SafeOf 
     holding = record {
       pinned = λ t k g w e. let o = safe.holding.pinned t k g w e in put_cases
           (λ z. (z.full ≡ true) × (z.generation ≡ g) × (z.content ≡ w) × (rest : List Record) ×
-          ((seats t).records ≡ record { slot = k; generation = g; content = w } ∷ rest)) slots i k
-          y
-          (λ d. absurd
-          (true≢false
-          (sym (eq-eqb i k (sym d)) ∙
+          ((seats t).records ≡ record { slot = k; generation = g; content = w } ∷ rest)) slots i k y
+          (λ d. absurd (true≢false (sym (eq-eqb i k (sym d)) ∙
           (sym (ap (λ z. on z i) e) ∙ (sym (safe.pins.each i t) ∙ bare t))))) (λ _. o);
     };
     records = record {
@@ -112,8 +99,7 @@ module _ (c : Core) (safe : Safe c) (s : ℕ) where
 
   by_publish_if : (i : ℕ) (p : List (Option ℕ)) (b : Bool) → s < c.seat_count → (c.seats s).state
       ≡ Filling i p → (b ≡ true → all_put p ≡ true) → Safe (publishes_if c s i p b).0
-  by_publish_if i p true h e f = publish_keeps c.seat_count c.slots c.seats safe s i h p e
-      (f refl)
+  by_publish_if i p true h e f = publish_keeps c.seat_count c.slots c.seats safe s i h p e (f refl)
   by_publish_if i p false h e f = safe
 
   by_publish : (st : SeatState) → s < c.seat_count → (c.seats s).state ≡ st → Safe
@@ -194,12 +180,10 @@ module _ (c : Core) (safe : Safe c) (s : ℕ) where
       (c.seats s).state (seated d.0) (ltb-true j 58 d.1) refl)
   moves_keep Publish = guarded _ (publishes c s (c.seats s).state)
       (λ e. by_publish (c.seats s).state (seated e) refl)
-  moves_keep (Pin i) = guarded _ (pins_on c s i (c.seats s).state)
-      (λ e. by_pin i (c.seats s).state
+  moves_keep (Pin i) = guarded _ (pins_on c s i (c.seats s).state) (λ e. by_pin i (c.seats s).state
       (seated (both_true (nat_lt s c.seat_count) (nat_lt i c.slot_count) e).0) refl)
   moves_keep (Get j) = guarded _ (gets c s j (c.seats s).state) (λ e. by_get j (c.seats s).state)
-  moves_keep Done = guarded _ (finishes c s (c.seats s).state)
-      (λ e. by_done (c.seats s).state refl)
+  moves_keep Done = guarded _ (finishes c s (c.seats s).state) (λ e. by_done (c.seats s).state refl)
   moves_keep Unpin = guarded _ (unpins c s (c.seats s).state)
       (λ e. by_unpin (c.seats s).state (seated e) refl)
   moves_keep (Free i seen) = guarded _ (frees c s i seen (c.seats s).state)

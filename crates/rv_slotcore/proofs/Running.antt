@@ -1,14 +1,9 @@
 -- A run of the code is a run of the machine.
-use Rattle.std.proofs.Common.{◌≡◌, ℕ, ◌+◌, ◌<◌, List, [], ◌∷◌, ◌++◌, length, map, take, get_or}
-use Rattle.std.proofs.Common.{refl, ap, ◌∙◌}
-use Rattle.std.proofs.lemmas.List.{take_more, map-append}
-use Rattle.std.proofs.Common.{arith}
-use Rattle.std.proofs.lemmas.Grind.{common_steps}
-use Rattle.rv_slotcore.specs.Machine.{run, answers, after, answer, moves}
-use Rattle.rv_slotcore.specs.Machine as machine
-use Rattle.rv_slotcore.specs.CoreIs.{step_of, answer_of}
+use Rattle.rv_slotcore.proofs.Common.{◌≡◌, ℕ, ◌+◌, ◌<◌, List, [], ◌∷◌, ◌++◌, length, map, take, get_or, refl, ap}
+use Rattle.rv_slotcore.proofs.Common.{◌∙◌, take_more, map-append, arith, common_steps, run, answers, after}
+use Rattle.rv_slotcore.proofs.Common.{answer, step_of, answer_of, Answer}
 use Rattle.rv_slotcore.specs.declared.step.Step.{Step}
-use Rattle.rv_slotcore.specs.declared.step.Answer.{Answer}
+use Rattle.rv_slotcore.specs.Machine as machine
 
 answers-append : (es fs : List machine.Step) (c : machine.Core) → answers (es ++ fs) c
     ≡ answers es c ++ answers fs (run es c)
@@ -30,7 +25,6 @@ module _ (all : List Step) (k : ℕ) (d : Step) (from : machine.Core) where
   pub told_more : k < length all → (c : machine.Core) (told more : List Answer) (a : Answer) → c
       ≡ run first from
       → map answer_of told ≡ answers first from → answer_of a ≡ answer c next → more ≡ told ++ a
-      ∷ []
-      → map answer_of more ≡ answers (map step_of (take (k + 1) all)) from
+      ∷ [] → map answer_of more ≡ answers (map step_of (take (k + 1) all)) from
   told_more low c told more a ran old is added =
       grind (arith, common_steps, map-append, answers-append, one_more)

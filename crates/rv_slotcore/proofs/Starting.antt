@@ -1,14 +1,8 @@
 -- A table of empty slots and idle seats is the machine's first state.
-use Rattle.std.specs.Prelude.{true, false, ◌==◌, ◌&&◌}
-use Rattle.std.proofs.Common.{◌≡◌, ℕ, zero, suc, Bool, List, map, replicate, [], ◌++◌}
-use Rattle.std.proofs.Common.{◌-◌}
-use Rattle.std.proofs.Common.{take, get_or, refl, ap, arith}
-use Rattle.std.proofs.lemmas.List.{length-map, length-replicate}
-use Rattle.std.proofs.lemmas.Grind.{common_steps}
-use Rattle.rv_slotcore.specs.Machine.{blank_slot, start}
-use Rattle.rv_slotcore.specs.CoreIs.{core_of, slot_of, seat_of, idle_seat}
-use Rattle.rv_slotcore.specs.declared.parts.Parts.{Parts}
-use Rattle.rv_slotcore.specs.declared.parts.SlotState.{SlotState}
+use Rattle.rv_slotcore.proofs.Common.{true, false, ◌==◌, ◌&&◌, ◌≡◌, ℕ, zero, suc, Bool, List, map, replicate, []}
+use Rattle.rv_slotcore.proofs.Common.{◌++◌, ◌-◌, take, get_or, refl, ap, arith, length-map, length-replicate}
+use Rattle.rv_slotcore.proofs.Common.{common_steps, blank_slot, start, core_of, slot_of, seat_of, idle_seat}
+use Rattle.rv_slotcore.proofs.Common.{Parts, SlotState}
 
 -- a slot's state and words at the start
 abbrev pub empty_slot : SlotState
@@ -33,6 +27,5 @@ starts h n m slots idle = grind (arith, common_steps, length-replicate, length-m
 
 -- what is filled up from nothing
 pub filled : (xs ys : List SlotState) (n k : ℕ) → xs ≡ take n ys ++ replicate (n - k) empty_slot
-    → ys ≡ [] → k ≡ 0
-    → xs ≡ replicate n empty_slot
+    → ys ≡ [] → k ≡ 0 → xs ≡ replicate n empty_slot
 filled xs ys n k is none zero_is = grind (arith, common_steps)

@@ -1,14 +1,11 @@
 -- A function with one value changed, and runs.
-use Rattle.std.proofs.Common.{◌≡◌, ◌≢◌, ℕ, List, [], ◌∷◌}
-use Rattle.std.proofs.Common.{◌++◌, refl}
-use Rattle.std.proofs.Common.{arith}
-use Rattle.std.proofs.lemmas.Grind.{common_steps}
-use Rattle.rv_slotcore.specs.Machine.{Core, Step, put_at, run, after}
+use Rattle.rv_slotcore.proofs.Common.{◌≡◌, ◌≢◌, ℕ, List, [], ◌∷◌, ◌++◌, refl, arith, common_steps, Core, put_at}
+use Rattle.rv_slotcore.proofs.Common.{run, after}
+use Rattle.rv_slotcore.specs.Machine.{Step}
 
 module _ {A : Type 0} where
   -- a value after a write is the new one or an old one
-  pub put_cases : (P : A → Type 0) (f : ℕ → A) (i k : ℕ) (x : A) → (k ≡ i → P x) →
-      (k ≢ i → P (f k))
+  pub put_cases : (P : A → Type 0) (f : ℕ → A) (i k : ℕ) (x : A) → (k ≡ i → P x) → (k ≢ i → P (f k))
       → P (put_at f i x k)
   put_cases P f i k x same other = grind (arith, common_steps)
 

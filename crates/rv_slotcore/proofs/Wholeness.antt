@@ -1,15 +1,9 @@
 -- A core stays whole under every step.
-use Rattle.std.specs.Prelude.{Result, Ok, Err, IfOk, OnErr}
-use Rattle.std.proofs.Common.{◌≡◌, ◌≤◌, ℕ, sym, subst}
-use Rattle.rv_slotcore.specs.Places.{seats_at_most}
-use Rattle.rv_slotcore.specs.Machine.{moves, start}
-use Rattle.rv_slotcore.specs.Machine as machine
-use Rattle.rv_slotcore.specs.CoreIs.{core_of, act_of, Went, IsWhole}
-use Rattle.rv_slotcore.specs.declared.parts.Parts.{Parts}
+use Rattle.rv_slotcore.proofs.Common.{Result, Ok, Err, IfOk, OnErr, ◌≡◌, ◌≤◌, ℕ, sym, subst, seats_at_most, moves}
+use Rattle.rv_slotcore.proofs.Common.{start, core_of, act_of, Went, IsWhole, Parts, Answer, NoMemory}
 use Rattle.rv_slotcore.specs.declared.step.Act.{Act}
-use Rattle.rv_slotcore.specs.declared.step.Answer.{Answer}
-use Rattle.rv_event.specs.declared.no_memory.NoMemory.{NoMemory}
 use Rattle.rv_slotcore.proofs.Held.{AllNamed, moves_keep_named, moves_keep_count}
+use Rattle.rv_slotcore.specs.Machine as machine
 
 whole_by : (h : Parts) (c : machine.Core) → core_of h ≡ c → c.seat_count ≤ seats_at_most
     → AllNamed c → IsWhole h

@@ -1,20 +1,11 @@
 -- The state word and its bits.
-use Rattle.rv_slotcore.specs.Places.{seats_at_most, claimed_bit, full_bit, done_bit}
-use Rattle.rv_slotcore.specs.Places.{generation_bit}
-use Rattle.std.proofs.Common.{◌≡◌, ◌≢◌, ℕ, zero, suc, ◌+◌, ◌-◌, ◌*◌, ◌/◌, ◌%◌, ◌^◌, ◌<◌, ◌≤◌}
-use Rattle.std.proofs.Common.{Bool, true, false, ◌&&◌, sym, refl, ap, ◌∙◌}
-use Rattle.std.proofs.Common.{subst, arith, shr-shr, ⊎_elim, pow-suc, eqb-true}
-use Rattle.std.specs.Int.{bit_at}
-use Rattle.std.proofs.lemmas.Bool.{cases_lt, cases_eq}
-use Rattle.std.proofs.lemmas.Nat.{or_shr, and_shr, pow_below, shr_high, pow_pos}
-use Rattle.std.proofs.lemmas.Nat.Bits.{bit_at_or, bit_at_and, bit_at-pow_same, bit_at-pow_other}
-use Rattle.std.proofs.lemmas.Nat.Bits.{bit_at-lt, bit_at_clear_same, bit_at_clear_other}
-use Rattle.std.proofs.lemmas.Nat.Bits.{same_from_bits, bit_at_above, bit_at_cat_low}
-use Rattle.std.proofs.lemmas.Nat.Bits.{bit_at_cat_high}
-use Rattle.std.proofs.lemmas.Grind.{common_steps}
-use Rattle.rv_slotcore.specs.Machine.{Slot, flag, pin_bits, word_of}
-use Rattle.rv_slotcore.specs.Machine.{is_free_word}
-use Rattle.rv_slotcore.specs.Word.{Reads}
+use Rattle.rv_slotcore.proofs.Common.{seats_at_most, claimed_bit, full_bit, done_bit, generation_bit, ◌≡◌, ◌≢◌, ℕ}
+use Rattle.rv_slotcore.proofs.Common.{zero, suc, ◌+◌, ◌-◌, ◌*◌, ◌/◌, ◌%◌, ◌^◌, ◌<◌, ◌≤◌, Bool, true, false, ◌&&◌}
+use Rattle.rv_slotcore.proofs.Common.{sym, refl, ap, ◌∙◌, subst, arith, shr-shr, ⊎_elim, pow-suc, eqb-true}
+use Rattle.rv_slotcore.proofs.Common.{bit_at, cases_lt, cases_eq, shr_high}
+use Rattle.rv_slotcore.proofs.Common.{same_from_bits}
+use Rattle.rv_slotcore.proofs.Common.{bit_at_cat_low, bit_at_cat_high, common_steps, Slot, flag, pin_bits}
+use Rattle.rv_slotcore.proofs.Common.{word_of, is_free_word, Reads}
 
 flag_bit : (b : Bool) → bit_at (flag b) 0 ≡ flag b
 flag_bit true = refl
@@ -42,14 +33,12 @@ pin_bit f (suc k) s h = ⊎_elim
     (λ (z : ℕ). bit_at (flag (f k) * 2 ^ k + pin_bits f k) z ≡ flag (f z)) (sym is)
     (bit_at_cat_high (flag (f k)) k (pin_bits f k) k (pin_bits_small f k) (omega arith) ∙
     (ap (λ (z : ℕ). bit_at (flag (f k)) z) (let e : k - k ≡ 0 = omega arith in e) ∙ flag_bit
-    (f k))))
-    (cases_lt s k)
+    (f k)))) (cases_lt s k)
 
 abbrev flags : Bool → Bool → Bool → ℕ
 flags d f c = flag d * 4 + (flag f * 2 + flag c)
 
-flags_are : (d f c : Bool) → (bit_at (flags d f c) 0 ≡ flag c) × (bit_at (flags d f c) 1 ≡ flag f)
-    ×
+flags_are : (d f c : Bool) → (bit_at (flags d f c) 0 ≡ flag c) × (bit_at (flags d f c) 1 ≡ flag f) ×
     (bit_at (flags d f c) 2 ≡ flag d) × (flags d f c < 8)
 flags_are d f c = grind (arith, common_steps)
 
@@ -82,8 +71,7 @@ between i a b c d e = omega arith
 
 same_bit : (a b : ℕ) (x : Slot) → Reads a x → Reads b x → (i : ℕ) → bit_at a i ≡ bit_at b i
 same_bit a b x r t i = ⊎_elim (λ pin. r.pins i pin ∙ sym (t.pins i pin)) (λ over. ⊎_elim
-    (λ low. ⊎_elim
-    (λ at_claimed. subst (λ (z : ℕ). bit_at a z ≡ bit_at b z) (sym at_claimed)
+    (λ low. ⊎_elim (λ at_claimed. subst (λ (z : ℕ). bit_at a z ≡ bit_at b z) (sym at_claimed)
     (r.claimed ∙ sym t.claimed))
     (λ not. ⊎_elim (λ at_full. subst (λ (z : ℕ). bit_at a z ≡ bit_at b z) (sym at_full)
     (r.full ∙ sym t.full))
@@ -91,11 +79,9 @@ same_bit a b x r t i = ⊎_elim (λ pin. r.pins i pin ∙ sym (t.pins i pin)) (�
     (r.done ∙ sym t.done)) (λ neither. absurd (between i over not nor neither low))
     (cases_eq i done_bit)) (cases_eq i full_bit)) (cases_eq i claimed_bit))
     (λ high. let e : generation_bit + (i - generation_bit) ≡ i = omega arith in subst
-    (λ (z : ℕ). bit_at a z ≡ bit_at b z) e
-    (sym (high_bit a (i - generation_bit)) ∙
+    (λ (z : ℕ). bit_at a z ≡ bit_at b z) e (sym (high_bit a (i - generation_bit)) ∙
     (ap (λ (z : ℕ). bit_at z (i - generation_bit)) (r.generation ∙ sym t.generation) ∙ high_bit b
-    (i - generation_bit))))
-    (cases_lt i generation_bit)) (cases_lt i seats_at_most)
+    (i - generation_bit)))) (cases_lt i generation_bit)) (cases_lt i seats_at_most)
 
 -- one slot has one word
 pub one_word : (a b : ℕ) (x : Slot) → Reads a x → Reads b x → a ≡ b
@@ -122,8 +108,7 @@ low_clear n t e h = let a : ℕ = n / 2 ^ claimed_bit in let is : a * 2 ^ claime
     (bit_at_cat_low a claimed_bit 0 t h ∙ Rattle.std.proofs.lemmas.Nat.Bits.bit_at-zero t)
 
 -- a word that may be freed says claimed, full, done and no pin
-pub free_word : (seen : ℕ) (x : Slot) → is_free_word seen ≡ true → Reads seen x →
-    (x.claimed ≡ true)
+pub free_word : (seen : ℕ) (x : Slot) → is_free_word seen ≡ true → Reads seen x → (x.claimed ≡ true)
     × (x.full ≡ true) × (x.done ≡ true) × ((t : ℕ) → t < seats_at_most → x.pins t ≡ false)
 free_word seen x e r =
     grind (arith, common_steps, both_true, flag_one, eqb-true, flag_none, low_clear)

@@ -1,29 +1,15 @@
 -- A claim keeps the rule, and is the step of the machine.
-use Rattle.rv_slotcore.specs.Places.{claimed_bit, slot_words}
-use Rattle.std.proofs.Common.{◌≡◌, ℕ, ◌*◌, ◌^◌, ◌<◌, Bool, true}
-use Rattle.std.proofs.Common.{false, ◌&&◌, nat_lt, [], get_or}
-use Rattle.std.proofs.Common.{bit_or, sym, refl, ap, ◌∙◌, subst, arith, ⊎_elim}
-use Rattle.std.proofs.Common.{lt-ltb}
-use Rattle.std.proofs.lemmas.Bool.{cases_Bool}
-use Rattle.std.proofs.lemmas.Grind.{common_steps}
-use mathlib.Core.Option.{none}
-use Rattle.atomic_table.specs.Table.{Me, step, Allows}
-use Rattle.rv_slotcore.specs.Machine.{Core, Step, Slot, Seat, Act, Claim, Moved, put_at}
-use Rattle.rv_slotcore.specs.Machine.{with_both, in_state, claimed_slot, claims, if_fits, moves}
-use Rattle.rv_slotcore.specs.Machine.{after, flag, no_words}
-use Rattle.rv_slotcore.specs.Machine as core
-use Rattle.rv_slotcore.proofs.Updates.{put_here, put_else}
-use Rattle.rv_slots.specs.declared.views.View.{View}
-use Rattle.rv_slots.specs.declared.views.SeatView.{SeatView}
-use Rattle.rv_slots.specs.Lines.{the_view, claimed, claim_state, claim_told}
-use Rattle.rv_slots.specs.Steps.{ClaimIsStep, of_seat}
-use Rattle.rv_slots.specs.Knows.{IsIdle}
-use Rattle.rv_slots.specs.Rule.{Fits, Kept}
-use Rattle.rv_slotcore.specs.Word.{Reads}
+use Rattle.rv_slots.proofs.Common.{claimed_bit, slot_words, ◌≡◌, ℕ, ◌*◌, ◌^◌, ◌<◌, Bool, true, false, ◌&&◌}
+use Rattle.rv_slots.proofs.Common.{nat_lt, [], get_or, bit_or, sym, refl, ap, ◌∙◌, subst, arith, ⊎_elim, lt-ltb}
+use Rattle.rv_slots.proofs.Common.{cases_Bool, common_steps, none, Me, step, Allows, Core, Slot, Claim}
+use Rattle.rv_slots.proofs.Common.{Moved, put_at, with_both, in_state, claimed_slot, claims, if_fits, moves}
+use Rattle.rv_slots.proofs.Common.{flag, no_words, put_here, put_else, View, SeatView, the_view, claimed}
+use Rattle.rv_slots.proofs.Common.{claim_state, claim_told, ClaimIsStep, of_seat, IsIdle, Fits, Kept, Reads}
+use Rattle.rv_slotcore.specs.Machine.{Seat}
 use Rattle.rv_slots.proofs.Words.{state_changes, state_stays, reads_claimed}
 use Rattle.rv_slots.proofs.Knowing.{knows}
-use Rattle.rv_slots.proofs.Seating.{Goes, allows_of, one, keeps_by, marked_same}
-use Rattle.rv_slots.proofs.Seating.{whole_same, slot_same}
+use Rattle.rv_slots.proofs.Seating.{Goes, allows_of, one, keeps_by, marked_same, whole_same, slot_same}
+use Rattle.rv_slotcore.specs.Machine as core
 
 -- the machine's claim, where it fits
 pub moves_claim : (c : Core) (s i : ℕ) (b : Bool) → nat_lt s c.seat_count ≡ true
@@ -46,10 +32,8 @@ claims_go n slots id q i me idle below s k at small =
     let in_slots : nat_lt i c.slot_count ≡ true = lt-ltb i c.slot_count (omega arith) in
     let reads = k.table.states i below in
     let kept : Goes n s k (record { seat = p.number; act = core.Claim i }) (slot_words * i)
-    (bit_or w (2 ^ claimed_bit)) id [] p' = ⊎_elim
-    (λ busy. keeps_by n s id (slot_words * i)
-    (bit_or w (2 ^ claimed_bit)) p p' k f.here refl c
-    (record { seat = p.number; act = Claim i })
+    (bit_or w (2 ^ claimed_bit)) id [] p' = ⊎_elim (λ busy. keeps_by n s id (slot_words * i)
+    (bit_or w (2 ^ claimed_bit)) p p' k f.here refl c (record { seat = p.number; act = Claim i })
     (ap (λ (m : Moved). m.0)
     (moves_claim c p.number i true in_seats in_slots resting busy)) (refl, refl)
     (state_stays n s.words c.slots i (bit_or w (2 ^ claimed_bit)) k.table below
@@ -59,10 +43,8 @@ claims_go n slots id q i me idle below s k at small =
       state = ap (claim_state p i) (reads.claimed ∙ ap flag busy) ∙ f.fits.state;
       records = f.fits.records;
     })
-    (λ t ne. refl)
-    (marked_same c.slots c.slots k.seat p.number p' k.marked (λ j. refl) (λ j. refl)
-    (ap (λ (z : SeatView). z.dones) (sym f.is))
-    (ap (λ (z : SeatView). z.frees) (sym f.is)))
+    (λ t ne. refl) (marked_same c.slots c.slots k.seat p.number p' k.marked (λ j. refl) (λ j. refl)
+    (ap (λ (z : SeatView). z.dones) (sym f.is)) (ap (λ (z : SeatView). z.frees) (sym f.is)))
     (whole_same k.seat p.number p' k.whole (ap (λ (z : SeatView). z.records) (sym f.is))))
     (λ won. let x : Slot = claimed_slot (c.slots i) in let r : Seat = in_state
     (c.seats p.number) (core.Filling i no_words) in
@@ -79,10 +61,8 @@ claims_go n slots id q i me idle below s k at small =
     }))
     (λ t ne. put_else c.seats p.number t r ne)
     (marked_same c.slots (put_at c.slots i x) k.seat p.number p' k.marked
-    (slot_same (λ z. z.done) c.slots i x refl)
-    (slot_same (λ z. z.generation) c.slots i x refl)
-    (ap (λ (z : SeatView). z.dones) (sym f.is))
-    (ap (λ (z : SeatView). z.frees) (sym f.is)))
+    (slot_same (λ z. z.done) c.slots i x refl) (slot_same (λ z. z.generation) c.slots i x refl)
+    (ap (λ (z : SeatView). z.dones) (sym f.is)) (ap (λ (z : SeatView). z.frees) (sym f.is)))
     (whole_same k.seat p.number p' k.whole (ap (λ (z : SeatView). z.records) (sym f.is))))
     (cases_Bool (c.slots i).claimed) in
     let bare : me.1 ≡ [] = ap (λ (m : Me (Unit {0}) View). m.1) a.one in

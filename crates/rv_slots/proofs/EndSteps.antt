@@ -1,37 +1,18 @@
 -- A done and a free keep the rule, and are the steps of the machine.
-use Rattle.rv_slotcore.specs.Places.{done_bit, generation_bit, last_generation, seats_at_most}
-use Rattle.rv_slotcore.specs.Places.{slot_words}
-use Rattle.std.proofs.Common.{◌≡◌, ◌≢◌, ◌⊎◌, ℕ, ◌+◌, ◌*◌, ◌/◌, ◌^◌, ◌<◌, ◌≤◌, Bool}
-use Rattle.std.proofs.Common.{true, false, nat_lt, List, [], ◌∷◌, get_or}
-use Rattle.std.proofs.Common.{bit_or, Contains, sym, refl, ap, ◌∙◌}
-use Rattle.std.proofs.Common.{subst, arith, ⊎_elim, lt-ltb}
-use mathlib.Core.Option.{none}
-use Rattle.atomic_table.specs.Table.{Me, step, Allows}
-use Rattle.rv_slotcore.specs.Machine.{Core, Step, Slot, Seat, Act, Moved, put_at, with_both}
-use Rattle.rv_slotcore.specs.Machine.{with_slot, in_state, if_fits, moves, after, flag, no_words}
+use Rattle.rv_slots.proofs.Common.{done_bit, generation_bit, last_generation, seats_at_most, slot_words, ◌≡◌, ◌≢◌}
+use Rattle.rv_slots.proofs.Common.{◌⊎◌, ℕ, ◌+◌, ◌*◌, ◌/◌, ◌^◌, ◌<◌, ◌≤◌, Bool, true, false, nat_lt, List, [], ◌∷◌}
+use Rattle.rv_slots.proofs.Common.{get_or, bit_or, Contains, sym, refl, ap, ◌∙◌, subst, arith, ⊎_elim, lt-ltb}
+use Rattle.rv_slots.proofs.Common.{none, Me, step, Allows, Core, Slot, Moved, put_at}
+use Rattle.rv_slots.proofs.Common.{with_slot, if_fits, moves, put_cases}
+use Rattle.rv_slots.proofs.Common.{put_here, View, Mark, SeatView, Kept, Marked, HasMark, eqb, ◌==◌, true≢false}
+use Rattle.rv_slots.proofs.Common.{eq-eqb, ne_eqb, cases_lt, common_steps, rules, either, exchanged, one_word}
+use Rattle.rv_slots.proofs.Common.{word_reads, the_view, finished, freed, done_told, free_told, DoneIsStep}
+use Rattle.rv_slots.proofs.Common.{FreeIsStep, of_seat, IsIdle, IsPinned}
+use Rattle.rv_slotcore.specs.Machine.{Seat}
+use Rattle.rv_slots.proofs.Words.{state_changes, loads, reads_done, reads_free}
+use Rattle.rv_slots.proofs.Knowing.{knows, shown_pinned, in_head, in_tail}
+use Rattle.rv_slots.proofs.Seating.{Goes, allows_of, one, keeps_by, marked_same, whole_same, field_same}
 use Rattle.rv_slotcore.specs.Machine as core
-use Rattle.rv_slotcore.proofs.Updates.{put_cases, put_here}
-use Rattle.rv_slots.specs.declared.views.View.{View}
-use Rattle.rv_slots.specs.declared.views.Mark.{Mark}
-use Rattle.rv_slots.specs.declared.views.SeatView.{SeatView}
-use Rattle.rv_slots.specs.Rule.{Kept, Marked}
-use Rattle.rv_slots.specs.Rule.{HasMark}
-use Rattle.rv_slots.proofs.Words.{state_changes, loads}
-use Rattle.rv_slots.proofs.Words.{reads_done, reads_free}
-use Rattle.rv_slots.proofs.Knowing.{knows, shown_pinned}
-use Rattle.rv_slots.proofs.Knowing.{in_head, in_tail}
-use Rattle.rv_slots.proofs.Seating.{Goes, allows_of, one, keeps_by, marked_same}
-use Rattle.rv_slots.proofs.Seating.{whole_same, field_same}
-use Rattle.std.proofs.Common.{eqb, ◌==◌, true≢false, eq-eqb, ne_eqb}
-use Rattle.std.proofs.lemmas.Bool.{cases_lt}
-use Rattle.std.proofs.lemmas.Grind.{common_steps}
-use Rattle.std.proofs.Common.{rules}
-use prog.Atomic.{either}
-use Rattle.atomic_table.proofs.Lists.{exchanged}
-use Rattle.rv_slotcore.proofs.Words.{one_word, word_reads}
-use Rattle.rv_slots.specs.Lines.{the_view, finished, freed, done_told, free_told}
-use Rattle.rv_slots.specs.Steps.{DoneIsStep, FreeIsStep, of_seat}
-use Rattle.rv_slots.specs.Knows.{IsIdle, IsPinned}
 
 moves_done : (c : Core) (s i g : ℕ) (v : List ℕ) → nat_lt s c.seat_count ≡ true →
     (c.seats s).state ≡ core.Pinned i g v → moves c s core.Done ≡ core.finishes c s
@@ -123,8 +104,7 @@ finishes_go n slots id q i me holds below s k at small = let a = holds.alone in
 moves_free : (c : Core) (s i seen : ℕ) (b : Bool) → nat_lt s c.seat_count ≡ true
     → nat_lt i c.slot_count ≡ true → (c.seats s).state ≡ core.Idle → core.is_free_word seen ≡ true
     → (seen / 2 ^ generation_bit == last_generation) ≡ false → (core.word_of (c.slots i) == seen)
-    ≡ b
-    → moves c s (core.Free i seen) ≡ core.frees_if c s i true false b
+    ≡ b → moves c s (core.Free i seen) ≡ core.frees_if c s i true false b
 moves_free c s i seen b h g e fit low same = grind (arith, common_steps)
 
 -- a freeing exchange is the machine's step
@@ -149,14 +129,12 @@ frees_go n slots id q i seen me idle below fit low s k at small = let a = idle.a
     (λ hit. let x : Slot = core.freed_slot (c.slots i) in let g : ℕ = (c.slots i).generation
     in
     let gen : seen / 2 ^ generation_bit ≡ g = grind (arith, common_steps) in
-    let frees : p'.frees ≡ mark i g ∷ (k.seat p.number).frees =
-    search (eq-eqb, rules) in
+    let frees : p'.frees ≡ mark i g ∷ (k.seat p.number).frees = search (eq-eqb, rules) in
     let still = mark_still (λ z. z.frees) k.seat p.number p' (mark i g) frees in let new =
     mark_new (λ z. z.frees) k.seat p.number p' (mark i g) frees in let origin =
     mark_origin (λ z. z.frees) k.seat p.number p' (mark i g) frees in
     let dones : (t : ℕ) → (put_at k.seat p.number p' t).dones ≡ (k.seat t).dones =
-    field_same (λ z. z.dones) k.seat p.number p'
-    (ap (λ (z : SeatView). z.dones) (sym f.is)) in
+    field_same (λ z. z.dones) k.seat p.number p' (ap (λ (z : SeatView). z.dones) (sym f.is)) in
     let marked : Marked (put_at c.slots i x) (put_at k.seat p.number p') = record {
       marks = λ m. put_cases (λ z. z.done ≡ true → (t : ℕ) × (t < seats_at_most) × HasMark
           (put_at k.seat p.number p' t).dones m z.generation) c.slots i m x
@@ -173,8 +151,7 @@ frees_go n slots id q i seen me idle below fit low s k at small = let a = idle.a
           (λ e. let is : (c.slots m).generation ≡ g = grind (arith, common_steps) in let most = o.0 in
           (omega arith, λ d. absurd (omega arith))) (λ _. o);
       freed = λ m h. put_cases (λ z. h < z.generation → (t : ℕ) × (t < seats_at_most)
-          × HasMark (put_at k.seat p.number p' t).frees m h) c.slots i m x
-          (λ e d. ⊎_elim
+          × HasMark (put_at k.seat p.number p' t).frees m h) c.slots i m x (λ e d. ⊎_elim
           (λ lower. let o = k.marked.freed i h lower in (
             o.0,
             o.1,
@@ -184,13 +161,11 @@ frees_go n slots id q i seen me idle below fit low s k at small = let a = idle.a
           (λ equal. let is : g ≡ h = omega arith in (
             p.number,
             f.small,
-            subst
-                (λ (z : Mark). Contains (put_at k.seat p.number p' p.number).frees z)
+            subst (λ (z : Mark). Contains (put_at k.seat p.number p' p.number).frees z)
                 (λ j. mark (sym e j) (is j)) new,
           )) (cases_lt h g))
           (λ _ d. let o = k.marked.freed m h d in (o.0, o.1, still o.0 (mark m h) o.2));
-      older = λ t m h l c'. ⊎_elim
-          (λ d. put_cases (λ z. h < z.generation) c.slots i m x
+      older = λ t m h l c'. ⊎_elim (λ d. put_cases (λ z. h < z.generation) c.slots i m x
           (λ e. let hg : g ≡ h = ap (λ (z : Mark). z.generation) d in omega arith)
           (λ ne. absurd (ne (sym (ap (λ (z : Mark). z.slot) d)))))
           (λ old. let o = k.marked.older t m h l old in put_cases
@@ -199,8 +174,7 @@ frees_go n slots id q i seen me idle below fit low s k at small = let a = idle.a
           (origin t (mark m h) c');
     } in
     keeps_by n s id (slot_words * i) next p p' k f.here refl (with_slot c i x)
-    (record { seat = p.number; act = core.Free i seen })
-    (ap (λ (m : Moved). m.0)
+    (record { seat = p.number; act = core.Free i seen }) (ap (λ (m : Moved). m.0)
     (moves_free c p.number i seen true in_seats in_slots resting fit last
     (eq-eqb (core.word_of (c.slots i)) seen (own ∙ hit)))) (refl, refl)
     (state_changes n s.words c.slots i next x k.table below
@@ -209,15 +183,13 @@ frees_go n slots id q i seen me idle below fit low s k at small = let a = idle.a
     (whole_same k.seat p.number p' k.whole (ap (λ (z : SeatView). z.records) (sym f.is))))
     (λ miss. let frees : p'.frees ≡ p.frees = search (ne_eqb, rules) in
     keeps_by n s id (slot_words * i) w p p' k f.here refl c
-    (record { seat = p.number; act = core.Free i seen })
-    (ap (λ (m : Moved). m.0)
+    (record { seat = p.number; act = core.Free i seen }) (ap (λ (m : Moved). m.0)
     (moves_free c p.number i seen false in_seats in_slots resting fit last
     (ne_eqb (core.word_of (c.slots i)) seen (λ e. miss (sym own ∙ e))))) (refl, refl)
     (loads n s.words c.slots (slot_words * i) k.table)
     (record { state = f.fits.state; records = f.fits.records }) (λ t ne. refl)
     (marked_same c.slots c.slots k.seat p.number p' k.marked (λ j. refl) (λ j. refl)
-    (ap (λ (z : SeatView). z.dones) (sym f.is))
-    (frees ∙ ap (λ (z : SeatView). z.frees) (sym f.is)))
+    (ap (λ (z : SeatView). z.dones) (sym f.is)) (frees ∙ ap (λ (z : SeatView). z.frees) (sym f.is)))
     (whole_same k.seat p.number p' k.whole (ap (λ (z : SeatView). z.records) (sym f.is))))
     in
     let bare : me.1 ≡ [] = ap (λ (m : Me (Unit {0}) View). m.1) a.one in
@@ -238,14 +210,12 @@ finishes_by n slots id q i me holds below = allows_of n slots id (slot_words * i
 pub frees_by : (n slots id q i seen : ℕ) (me : Me (Unit {0}) View) → IsIdle q me → i < n
     → core.is_free_word seen ≡ true → seen / 2 ^ generation_bit ≢ last_generation
     → Allows (Kept n) slots id me (slot_words * i)
-    (λ w. either (eqb w seen) ((seen / 2 ^ generation_bit + 1) * 2 ^ generation_bit) w)
-    (free_told
+    (λ w. either (eqb w seen) ((seen / 2 ^ generation_bit + 1) * 2 ^ generation_bit) w) (free_told
     (step slots (slot_words * i) seen
     ((seen / 2 ^ generation_bit + 1) * 2 ^ generation_bit) none) me)
 frees_by n slots id q i seen me idle below fit low = allows_of n slots id (slot_words * i) me
     (λ w. either (eqb w seen) ((seen / 2 ^ generation_bit + 1) * 2 ^ generation_bit) w)
-    (of_seat me (core.Free i seen))
-    (free_told
+    (of_seat me (core.Free i seen)) (free_told
     (step slots (slot_words * i) seen ((seen / 2 ^ generation_bit + 1) * 2 ^ generation_bit) none)
     me) (frees_go n slots id q i seen me idle below fit low)
 

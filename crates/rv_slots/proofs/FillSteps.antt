@@ -1,32 +1,18 @@
 -- A put and a publish keep the rule, and are the steps of the machine.
-use Rattle.rv_slotcore.specs.Places.{full_bit, generation_bit, slot_words}
-use Rattle.rv_chunk.specs.Chunks.{is_chunk_text}
-use Rattle.std.proofs.Common.{◌≡◌, ℕ, zero, suc, ◌+◌, ◌*◌, ◌/◌, ◌^◌, ◌<◌}
-use Rattle.std.proofs.Common.{true, ◌&&◌, nat_lt, List, [], ◌∷◌, get_or}
-use Rattle.std.proofs.Common.{set, bit_or, Option, Some, None, Contains, sym, refl, ap, ◌∙◌}
-use Rattle.std.proofs.Common.{subst, arith, lt-ltb}
-use Rattle.std.proofs.Common.{rules}
-use Rattle.std.proofs.lemmas.Grind.{common_steps}
-use mathlib.Core.Option.{none}
-use Rattle.atomic_table.specs.Table.{Me, step, Allows}
-use Rattle.rv_slotcore.specs.Machine.{Core, Step, Slot, Seat, Act, Moved, put_at, with_both}
-use Rattle.rv_slotcore.specs.Machine.{with_slot, in_state, if_fits, moves, after, flag, no_words}
-use Rattle.rv_slotcore.specs.Machine as core
-use Rattle.rv_slotcore.proofs.Updates.{put_here, put_else}
-use Rattle.rv_slots.specs.declared.views.View.{View}
-use Rattle.rv_slots.specs.declared.views.Record.{Record}
-use Rattle.rv_slots.specs.declared.views.SeatView.{SeatView}
-use Rattle.rv_slots.specs.Rule.{Fits, Kept}
-use Rattle.rv_slots.specs.Rule.{WordsFit}
+use Rattle.rv_slots.proofs.Common.{full_bit, generation_bit, slot_words, is_chunk_text, ◌≡◌, ℕ, zero, suc, ◌+◌}
+use Rattle.rv_slots.proofs.Common.{◌*◌, ◌/◌, ◌^◌, ◌<◌, true, ◌&&◌, nat_lt, List, [], ◌∷◌, get_or, set, bit_or}
+use Rattle.rv_slots.proofs.Common.{Option, Some, None, Contains, sym, refl, ap, ◌∙◌, subst, arith, lt-ltb, rules}
+use Rattle.rv_slots.proofs.Common.{common_steps, none, Me, step, Allows, Core, Slot, Moved, put_at}
+use Rattle.rv_slots.proofs.Common.{with_both, in_state, if_fits, moves}
+use Rattle.rv_slots.proofs.Common.{put_here, put_else, View, Record, SeatView, Fits, Kept, WordsFit, the_view}
+use Rattle.rv_slots.proofs.Common.{put_line, published, put_in, put_told, publish_told, PutIsStep, PublishIsStep}
+use Rattle.rv_slots.proofs.Common.{of_seat, IsFilling}
+use Rattle.rv_slotcore.specs.Machine.{Seat}
 use Rattle.rv_slots.proofs.Words.{state_changes, content_changes, reads_full}
-use Rattle.rv_slots.proofs.Knowing.{knows}
-use Rattle.rv_slots.proofs.Knowing.{safe_of, in_head}
-use Rattle.rv_slots.proofs.Seating.{Goes, allows_of, one, keeps_by, marked_same}
-use Rattle.rv_slots.proofs.Seating.{whole_same, slot_same}
-use Rattle.rv_slots.specs.Lines.{the_view, put_line, published, put_in, put_told, publish_told}
-use Rattle.rv_slots.specs.Steps.{PutIsStep, PublishIsStep, of_seat}
-use Rattle.rv_slots.specs.Knows.{IsFilling}
+use Rattle.rv_slots.proofs.Knowing.{knows, safe_of, in_head}
+use Rattle.rv_slots.proofs.Seating.{Goes, allows_of, one, keeps_by, marked_same, whole_same, slot_same}
 use Rattle.rv_slots.proofs.PinSteps.{whole_more}
+use Rattle.rv_slotcore.specs.Machine as core
 
 moves_put : (c : Core) (s i j v : ℕ) (p : List (Option ℕ)) → nat_lt s c.seat_count ≡ true
     → nat_lt j 58 ≡ true → (c.seats s).state ≡ core.Filling i p → moves c s (core.Put j v)
@@ -48,18 +34,14 @@ puts_go n slots id q i j v me fills below within s k at small = let a = fills.al
     let kept : Goes n s k (record { seat = p.number; act = core.Put j v })
     (slot_words * i + (1 + j)) v id [] p' = keeps_by n s id
     (slot_words * i + (1 + j)) v p p' k f.here refl (with_both c i x p.number r)
-    (record { seat = p.number; act = core.Put j v })
-    (ap (λ (m : Moved). m.0)
+    (record { seat = p.number; act = core.Put j v }) (ap (λ (m : Moved). m.0)
     (moves_put c p.number i j v pp in_seats (lt-ltb j 58 within) was)) (refl, refl)
     (content_changes n s.words c.slots i j v k.table below within)
     (subst (λ z. Fits p' z) (sym (put_here c.seats p.number r))
-    (record { state = refl; records = f.fits.records }))
-    (λ t ne. put_else c.seats p.number t r ne)
+    (record { state = refl; records = f.fits.records })) (λ t ne. put_else c.seats p.number t r ne)
     (marked_same c.slots (put_at c.slots i x) k.seat p.number p' k.marked
-    (slot_same (λ z. z.done) c.slots i x refl)
-    (slot_same (λ z. z.generation) c.slots i x refl)
-    (ap (λ (z : SeatView). z.dones) (sym f.is))
-    (ap (λ (z : SeatView). z.frees) (sym f.is)))
+    (slot_same (λ z. z.done) c.slots i x refl) (slot_same (λ z. z.generation) c.slots i x refl)
+    (ap (λ (z : SeatView). z.dones) (sym f.is)) (ap (λ (z : SeatView). z.frees) (sym f.is)))
     (whole_same k.seat p.number p' k.whole (ap (λ (z : SeatView). z.records) (sym f.is))) in
     let bare : me.1 ≡ [] = ap (λ (m : Me (Unit {0}) View). m.1) a.one in
     let goes = subst (λ l. Goes n s k (record { seat = p.number; act = core.Put j v })
@@ -103,8 +85,7 @@ publishes_go n slots id q i me fills all text below s k at small = let a = fills
     (bit_or w (2 ^ full_bit)) id [] p' = keeps_by n s id (slot_words * i)
     (bit_or w (2 ^ full_bit)) p p' k f.here refl (with_both c i x p.number r)
     (record { seat = p.number; act = core.Publish })
-    (ap (λ (m : Moved). m.0) (moves_publish c p.number i pp in_seats was all text))
-    (refl, refl)
+    (ap (λ (m : Moved). m.0) (moves_publish c p.number i pp in_seats was all text)) (refl, refl)
     (state_changes n s.words c.slots i (bit_or w (2 ^ full_bit)) x k.table below
     (reads_full w (c.slots i) reads) refl)
     (subst (λ z. Fits p' z) (sym (put_here c.seats p.number r))
@@ -114,10 +95,8 @@ publishes_go n slots id q i me fills all text below s k at small = let a = fills
     }))
     (λ t ne. put_else c.seats p.number t r ne)
     (marked_same c.slots (put_at c.slots i x) k.seat p.number p' k.marked
-    (slot_same (λ z. z.done) c.slots i x refl)
-    (slot_same (λ z. z.generation) c.slots i x refl)
-    (ap (λ (z : SeatView). z.dones) (sym f.is))
-    (ap (λ (z : SeatView). z.frees) (sym f.is)))
+    (slot_same (λ z. z.done) c.slots i x refl) (slot_same (λ z. z.generation) c.slots i x refl)
+    (ap (λ (z : SeatView). z.dones) (sym f.is)) (ap (λ (z : SeatView). z.frees) (sym f.is)))
     (whole_more k.seat p.number p' new k.whole f.small
     (ap (λ (z : SeatView). new ∷ z.records) (sym f.is)) (
       p.number,
@@ -136,8 +115,7 @@ publishes_go n slots id q i me fills all text below s k at small = let a = fills
     (one p', goes.0, goes.1, (i, refl, λ u. (one p', bare u)))
 
 -- so a putting exchange is allowed
-pub puts_by : (n slots id q i j v : ℕ) (me : Me (Unit {0}) View) → IsFilling q i me → i < n
-    → j < 58
+pub puts_by : (n slots id q i j v : ℕ) (me : Me (Unit {0}) View) → IsFilling q i me → i < n → j < 58
     → Allows (Kept n) slots id me (slot_words * i + (1 + j)) (λ _. v)
     (λ _. put_told (step slots (slot_words * i + (1 + j)) v 0 none) me v)
 puts_by n slots id q i j v me fills below within = allows_of n slots id

@@ -1,36 +1,18 @@
 -- A get keeps the rule, and is the step of the machine.
-use Rattle.rv_slotcore.specs.Places.{seats_at_most, slot_words}
-use Rattle.rv_chunk.specs.Chunks.{is_chunk_text}
-use Rattle.std.proofs.Common.{◌≡◌, ◌⊎◌, ℕ, zero, suc, ◌+◌, ◌*◌, ◌<◌}
-use Rattle.std.proofs.Common.{true, ◌&&◌, nat_lt, List, [], ◌∷◌, length, get_or}
-use Rattle.std.proofs.Common.{set, Option, Some, None, Contains, sym, refl, ap, ◌∙◌}
-use Rattle.std.proofs.Common.{subst, arith, ⊎_elim, lt-ltb}
-use Rattle.std.proofs.lemmas.Bool.{cases_Bool}
-use mathlib.Core.Option.{none}
-use Rattle.atomic_table.specs.Table.{Me, step, Allows}
-use Rattle.rv_slotcore.specs.Machine.{Core, Step, Slot, Seat, Act, Moved, put_at, with_both}
-use Rattle.rv_slotcore.specs.Machine.{with_slot, in_state, if_fits, moves, after, flag, no_words}
-use Rattle.rv_slotcore.specs.Machine as core
-use Rattle.rv_slotcore.proofs.Updates.{put_cases}
-use Rattle.rv_slots.specs.declared.views.View.{View}
-use Rattle.rv_slots.specs.declared.views.Record.{Record}
-use Rattle.rv_slots.specs.declared.views.SeatView.{SeatView}
-use Rattle.rv_slots.specs.Rule.{Kept, Whole, RecordsFit}
-use Rattle.rv_slots.specs.Rule.{RecordFits}
+use Rattle.rv_slots.proofs.Common.{seats_at_most, slot_words, is_chunk_text, ◌≡◌, ◌⊎◌, ℕ, zero, suc, ◌+◌, ◌*◌}
+use Rattle.rv_slots.proofs.Common.{◌<◌, true, ◌&&◌, nat_lt, List, [], ◌∷◌, length, get_or, set, Option, Some}
+use Rattle.rv_slots.proofs.Common.{None, Contains, sym, refl, ap, ◌∙◌, subst, arith, ⊎_elim, lt-ltb}
+use Rattle.rv_slots.proofs.Common.{none, Me, step, Allows, Core, Moved, put_at}
+use Rattle.rv_slots.proofs.Common.{if_fits, moves, put_cases, View}
+use Rattle.rv_slots.proofs.Common.{Record, SeatView, Kept, Whole, RecordsFit, RecordFits, length-set}
+use Rattle.rv_slots.proofs.Common.{get_or-set_other, drop, rules, common_steps, dite, ℕ_discrete, whole_is}
+use Rattle.rv_slots.proofs.Common.{the_view, got, get_told, known, pin_words, IsText, GetIsStep, of_seat}
+use Rattle.rv_slots.proofs.Common.{IsPinned, pin_record, pinned_at}
+use Rattle.rv_slotcore.specs.Machine.{Seat}
 use Rattle.rv_slots.proofs.Words.{loads}
-use Rattle.rv_slots.proofs.Knowing.{knows, shown_pinned}
-use Rattle.rv_slots.proofs.Knowing.{safe_of, in_head, in_tail, in_cons}
-use Rattle.rv_slots.proofs.Knowing.{fit_there}
+use Rattle.rv_slots.proofs.Knowing.{knows, shown_pinned, safe_of, in_head, in_tail, in_cons, fit_there}
 use Rattle.rv_slots.proofs.Seating.{Goes, allows_of, one, keeps_by, marked_same}
-use Rattle.std.proofs.Common.{length-set, get_or-set_other, drop}
-use Rattle.std.proofs.Common.{rules}
-use Rattle.std.proofs.lemmas.Grind.{common_steps}
-use mathlib.Core.Logic.{dite}
-use native.Mathlib.Decide.{ℕ_discrete}
-use Rattle.rv_slotcore.proofs.Invariant.{whole_is}
-use Rattle.rv_slots.specs.Lines.{the_view, got, get_told, known, pin_words, IsText}
-use Rattle.rv_slots.specs.Steps.{GetIsStep, of_seat}
-use Rattle.rv_slots.specs.Knows.{IsPinned, pin_record, pinned_at}
+use Rattle.rv_slotcore.specs.Machine as core
 
 moves_get : (c : Core) (s j i g : ℕ) (v : List ℕ) → nat_lt s c.seat_count ≡ true → nat_lt j 58
     ≡ true → (c.seats s).state ≡ core.Pinned i g v → moves c s (core.Get j) ≡ core.gets c s j
@@ -51,11 +33,9 @@ fits_more r q j w f e = let wide = f.long in record {
   slot = f.slot;
   generation = f.generation;
   long = length-set r.words j (Some w) ∙ f.long;
-  words = λ k v h. dite (ℕ_discrete k j)
-      (λ d. ⊎_elim
+  words = λ k v h. dite (ℕ_discrete k j) (λ d. ⊎_elim
       (λ low. let s : Some w ≡ Some v = grind (arith, common_steps) in let same : w ≡ v = cc in
-      ap (λ (u : ℕ). get_or q.content u 0) d ∙ (e ∙ same))
-      (λ high. f.words k v
+      ap (λ (u : ℕ). get_or q.content u 0) d ∙ (e ∙ same)) (λ high. f.words k v
       (sym (ap (λ (l : List (Option ℕ)). get_or l k None)
       (Rattle.std.proofs.lemmas.List.set_past r.words j (Some w) high)) ∙ h))
       (Rattle.std.proofs.lemmas.Bool.cases_lt j (length r.words)))
@@ -84,8 +64,7 @@ whole_with seat s p' r r' rs m l was is slot gen all text =
     (y : Record) × Contains (put_at seat s p' t).records y × (y.slot ≡ z.slot) ×
     (y.generation ≡ z.generation) × (core.all_put y.words ≡ true) =
     λ t z c h. put_cases (λ v. (y : Record) × Contains v.records y × (y.slot ≡ z.slot) ×
-    (y.generation ≡ z.generation) × (core.all_put y.words ≡ true)) seat s t p'
-    (λ e. ⊎_elim
+    (y.generation ≡ z.generation) × (core.all_put y.words ≡ true)) seat s t p' (λ e. ⊎_elim
     (λ d. (
       r',
       subst (λ (y : List Record). Contains y r') (sym is) (in_head r' rs),
@@ -102,10 +81,8 @@ whole_with seat s p' r r' rs m l was is slot gen all text =
       refl,
       h,
     ))
-    (in_cons r z rs
-    (subst (λ (y : List Record). Contains y z) was
-    (subst (λ (u : ℕ). Contains (seat u).records z) e c))))
-    (λ _. (z, c, refl, refl, h)) in
+    (in_cons r z rs (subst (λ (y : List Record). Contains y z) was
+    (subst (λ (u : ℕ). Contains (seat u).records z) e c)))) (λ _. (z, c, refl, refl, h)) in
     record {
       whole = λ t z h c. ⊎_elim
           (λ d. let o = m.whole s r l (subst (λ (y : List Record). Contains y r) (sym was)
@@ -151,25 +128,21 @@ gets_go n slots id q i j me holds below within s k at small = let a = holds.alon
     let records_are : p'.records ≡ with_word r j w ∷ rs = grind (arith, common_steps) in
     let text : core.all_put (set r.words j (Some w)) ≡ true → is_chunk_text
     (core.put_words (set r.words j (Some w))) ≡ true = λ all.
-    let o = k.whole.whole p.number r f.small
-    (subst (λ (l : List Record). Contains l r)
+    let o = k.whole.whole p.number r f.small (subst (λ (l : List Record). Contains l r)
     (sym (ap (λ (z : SeatView). z.records) f.is ∙ holds.records)) (in_head r rs)) in
     let there = fit_there (k.seat o.0).records (c.seats o.0).records o.1
     (k.fits o.0 o.2).records o.3 in
     let agree = safe.records.agree o.0 p.number there.0 made there.1
     (subst (λ (l : List core.Record). Contains l made) (sym law.4) (in_head made law.3))
-    (sym there.2.slot ∙ (o.4 ∙ both.0.slot))
-    (sym there.2.generation ∙ (o.5 ∙ both.0.generation)) in
+    (sym there.2.slot ∙ (o.4 ∙ both.0.slot)) (sym there.2.generation ∙ (o.5 ∙ both.0.generation)) in
     let wide : length was.0 ≡ 58 = search rules in
     let mine : core.put_words (set r.words j (Some w)) ≡ was.0 = search (whole_is, rules) in
-    let theirs : core.put_words o.1.words ≡ there.0.content =
-    whole_is o.1.words there.0.content o.6
+    let theirs : core.put_words o.1.words ≡ there.0.content = whole_is o.1.words there.0.content o.6
     (there.2.long ∙ sym (ap (λ (l : List ℕ). length l) agree ∙ wide)) there.2.words in
     ap is_chunk_text (mine ∙ (sym agree ∙ sym theirs)) ∙ k.whole.text o.0 o.1 o.2 o.3 o.6 in
     let kept : Goes n s k (record { seat = p.number; act = core.Get j })
     (slot_words * i + (1 + j)) w id [] p' = keeps_by n s id
-    (slot_words * i + (1 + j)) w p p' k f.here refl c
-    (record { seat = p.number; act = core.Get j })
+    (slot_words * i + (1 + j)) w p p' k f.here refl c (record { seat = p.number; act = core.Get j })
     (ap (λ (m : Moved). m.0) (moves_get c p.number j i (pinned_at p.state) was.0 in_seats
     (lt-ltb j 58 within) was.1)) (refl, refl)
     (loads n s.words c.slots (slot_words * i + (1 + j)) k.table)
@@ -177,10 +150,8 @@ gets_go n slots id q i j me holds below within s k at small = let a = holds.alon
       state = f.fits.state;
       records = grind (arith, common_steps);
     })
-    (λ t ne. refl)
-    (marked_same c.slots c.slots k.seat p.number p' k.marked (λ u. refl) (λ u. refl)
-    (ap (λ (z : SeatView). z.dones) (sym f.is))
-    (ap (λ (z : SeatView). z.frees) (sym f.is)))
+    (λ t ne. refl) (marked_same c.slots c.slots k.seat p.number p' k.marked (λ u. refl) (λ u. refl)
+    (ap (λ (z : SeatView). z.dones) (sym f.is)) (ap (λ (z : SeatView). z.frees) (sym f.is)))
     (whole_with k.seat p.number p' r (with_word r j w) rs k.whole f.small
     (ap (λ (z : SeatView). z.records) f.is ∙ holds.records) records_are refl refl
     (all_more r.words j w) text) in

@@ -1,24 +1,12 @@
 -- What the rule says of the seat that steps.
-use Rattle.rv_slotcore.specs.Places.{seats_at_most}
-use Rattle.std.proofs.Common.{◌≡◌, ◌⊎◌, ℕ, zero, suc, ◌<◌, List, [], ◌∷◌}
-use Rattle.std.proofs.Common.{length, slice_index_or, Contains, Option, refl, ap, subst}
-use Rattle.std.proofs.Common.{arith, inl, inr, ⊎_elim}
-use Rattle.std.proofs.lemmas.Grind.{common_steps}
-use mathlib.Core.Option.{some}
-use lib.ListN.{get_elem?}
-use Rattle.atomic_table.specs.Table.{State, Me}
-use Rattle.rv_slotcore.specs.Machine.{Core, run, start}
-use Rattle.rv_slotcore.specs.Machine as core
-use Rattle.rv_slotcore.proofs.Invariant.{Safe}
-use Rattle.rv_slotcore.proofs.Run.{run_keeps, start_safe}
-use Rattle.rv_slots.specs.declared.views.View.{View}
-use Rattle.rv_slots.specs.declared.views.Record.{Record}
-use Rattle.rv_slots.specs.declared.views.SeatView.{SeatView}
-use Rattle.rv_slots.specs.declared.views.SeatState.TheVariants.{Idle, Filling, Pinned, Stray}
-use Rattle.rv_slots.specs.Lines.{the_view}
-use Rattle.rv_slots.specs.Knows.{IsAlone}
-use Rattle.rv_slots.specs.Rule.{Fits, Kept, RecordFits, RecordsFit, shown}
+use Rattle.rv_slots.proofs.Common.{seats_at_most, ◌≡◌, ◌⊎◌, ℕ, zero, suc, ◌<◌, List, [], ◌∷◌, length}
+use Rattle.rv_slots.proofs.Common.{slice_index_or, Contains, Option, refl, ap, subst, arith, inl, inr, ⊎_elim}
+use Rattle.rv_slots.proofs.Common.{common_steps, some, get_elem?, State, Me, start, Safe, run_keeps}
+use Rattle.rv_slots.proofs.Common.{start_safe, View, Record, SeatView, Idle, Filling, Stray, the_view, IsAlone}
+use Rattle.rv_slots.proofs.Common.{Fits, Kept, RecordFits, RecordsFit, shown}
+use Rattle.rv_slots.specs.declared.views.SeatState.TheVariants.{Pinned}
 use Rattle.rv_slots.proofs.Seating.{one, seat_is}
+use Rattle.rv_slotcore.specs.Machine as core
 
 -- who is shown as idle is idle
 pub shown_idle : (st : core.SeatState) → Idle ≡ shown st → st ≡ core.Idle

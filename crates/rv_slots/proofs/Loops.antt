@@ -1,17 +1,9 @@
 -- What the calls of a carrier come to: the loops that put and get 58 words, and a pin let go.
-use Rattle.std.proofs.Common.{◌≡◌, ℕ, suc, ◌+◌, ◌<◌, ◌≤◌, true, List, []}
-use Rattle.std.proofs.Common.{◌∷◌, length, get_or, set, Option, Some, None, sym, refl, ap, ◌∙◌}
-use Rattle.std.proofs.Common.{subst, arith, drop}
-use Rattle.std.proofs.lemmas.Grind.{common_steps}
-use Rattle.rv_slotcore.specs.Machine.{all_put, put_words}
-use Rattle.rv_slots.specs.declared.views.Record.{Record}
-use Rattle.rv_slots.specs.declared.views.SeatView.{SeatView}
-use Rattle.rv_slots.specs.Lines.{pin_words, got_in}
-use Rattle.rv_slots.specs.Knows.{pin_record}
+use Rattle.rv_slots.proofs.Common.{◌≡◌, ℕ, suc, ◌+◌, ◌<◌, ◌≤◌, true, List, [], ◌∷◌, length, get_or, set, Option}
+use Rattle.rv_slots.proofs.Common.{Some, None, sym, refl, ap, ◌∙◌, subst, arith, drop, common_steps, all_put}
+use Rattle.rv_slots.proofs.Common.{put_words, Record, SeatView, pin_words, got_in, pin_record, Free, IsUnpin}
+use Rattle.rv_slots.proofs.Common.{IsFree, IsLetGo}
 use Rattle.rv_slots.specs.declared.seats.Seat.{Seat}
-use Rattle.rv_slots.specs.declared.seats.Free.{Free}
-use Rattle.rv_slots.specs.Calls.{IsUnpin, IsFree}
-use Rattle.rv_slots.specs.Carried.{IsLetGo}
 
 -- the words below j are there
 abbrev pub HasWords : List (Option ℕ) → List ℕ → ℕ → Type 0

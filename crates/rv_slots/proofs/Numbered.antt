@@ -1,6 +1,5 @@
 -- The numbers of the seats.
-use Rattle.std.proofs.Common.{◌≡◌, ℕ, ◌+◌, suc, zero, [], ◌∷◌, ◌++◌, ap, arith}
-use Rattle.std.specs.List.{range_with_len}
+use Rattle.rv_slots.proofs.Common.{◌≡◌, ℕ, ◌+◌, suc, zero, [], ◌∷◌, ◌++◌, ap, arith, range_with_len}
 
 -- one number more
 pub range-more : (a n next : ℕ) → a + n ≡ next → range_with_len a (suc n) ≡ range_with_len a n ++ next ∷ []

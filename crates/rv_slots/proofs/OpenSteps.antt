@@ -1,17 +1,9 @@
 -- The loop of `new`.
-use Rattle.rv_slotcore.specs.Places.{last_seat, seats_at_most}
-use Rattle.std.proofs.Common.{◌≡◌, ◌⊎◌, ℕ, zero, suc, ◌+◌, ◌-◌, ◌*◌, ◌<◌, ◌≤◌, List, [], ◌∷◌}
-use Rattle.std.proofs.Common.{◌++◌, length, sym, refl, ap, ◌∙◌, subst, arith, ⊎_elim}
-use Rattle.std.proofs.Common.{length-append, replicate}
-use Rattle.std.proofs.lemmas.Grind.{common_steps}
-use Rattle.atomic_table.specs.Table.{Me, Splits}
-use Rattle.atomic_table.specs.Seated.{TableId}
-use Rattle.rv_slots.specs.declared.views.View.{View}
+use Rattle.rv_slots.proofs.Common.{last_seat, seats_at_most, ◌≡◌, ℕ, zero, suc, ◌+◌, ◌-◌, ◌<◌, ◌≤◌}
+use Rattle.rv_slots.proofs.Common.{List, [], ◌∷◌, ◌++◌, length, refl, ap, ◌∙◌, arith, ⊎_elim}
+use Rattle.rv_slots.proofs.Common.{length-append, common_steps, Me, Splits, TableId, View, fresh}
+use Rattle.rv_slots.proofs.Common.{fresh_seats, cut_left, cut_right, only, IsIdle, AreSeats, Kept}
 use Rattle.rv_slots.specs.declared.seats.Seat.{Seat}
-use Rattle.rv_slots.specs.Lines.{fresh, fresh_seats, cut_left, cut_right, only}
-use Rattle.rv_slots.specs.Knows.{IsIdle}
-use Rattle.rv_slots.specs.Opening.{AreSeats}
-use Rattle.rv_slots.specs.Rule.{Kept}
 use Rattle.rv_slots.proofs.Places.{cuts, in_longer}
 
 -- what one thread knows: a view
@@ -65,7 +57,6 @@ at_default (x ∷ l) (suc j) d h = at_default l j d (omega arith)
 -- all seats are of the table
 pub all_ours : (t : TableId) (l : List Seat) (k : ℕ) → AreSeats t l k
     → Rattle.std.proofs.Common.All (λ (s : Seat). s.place.table_id ≡ t) l
-all_ours t l k a j d h =
-    (a.1 j (Rattle.std.proofs.Common.get_or l j d)
+all_ours t l k a j d h = (a.1 j (Rattle.std.proofs.Common.get_or l j d)
     (Rattle.atomic_table.proofs.Lists.at_index l j (Rattle.std.proofs.Common.get_or l j d) h
     (at_default l j d h))).0

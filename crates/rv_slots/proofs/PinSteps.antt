@@ -1,36 +1,18 @@
 -- A pin keeps the rule, and is the step of the machine.
-use Rattle.rv_slotcore.specs.Places.{generation_bit, seats_at_most, slot_words}
-use Rattle.rv_chunk.specs.Chunks.{is_chunk_text}
-use Rattle.std.proofs.Common.{◌≡◌, ◌⊎◌, ℕ, ◌*◌, ◌/◌, ◌^◌, ◌<◌}
-use Rattle.std.proofs.Common.{Bool, true, false, not, ◌&&◌, nat_lt, List, [], ◌∷◌}
-use Rattle.std.proofs.Common.{get_or, bit_or, Contains, sym, refl, ap}
-use Rattle.std.proofs.Common.{◌∙◌, subst, arith, ⊎_elim, lt-ltb}
-use Rattle.std.proofs.lemmas.Bool.{cases_Bool}
-use Rattle.std.proofs.Common.{rules}
-use Rattle.std.proofs.lemmas.Grind.{common_steps}
-use mathlib.Core.Option.{none}
-use Rattle.atomic_table.specs.Table.{Me, step, Allows}
-use Rattle.rv_slotcore.specs.Machine.{Core, Step, Slot, Seat, Act, Moved, put_at, with_both}
-use Rattle.rv_slotcore.specs.Machine.{with_slot, in_state, if_fits, moves, after, flag, no_words}
+use Rattle.rv_slots.proofs.Common.{generation_bit, seats_at_most, slot_words, is_chunk_text, ◌≡◌, ◌⊎◌, ℕ, ◌*◌}
+use Rattle.rv_slots.proofs.Common.{◌/◌, ◌^◌, ◌<◌, Bool, true, false, not, ◌&&◌, nat_lt, List, [], ◌∷◌, get_or}
+use Rattle.rv_slots.proofs.Common.{bit_or, Contains, sym, refl, ap, ◌∙◌, subst, arith, ⊎_elim, lt-ltb, cases_Bool}
+use Rattle.rv_slots.proofs.Common.{rules, common_steps, none, Me, step, Allows, Core, Slot, Moved}
+use Rattle.rv_slots.proofs.Common.{put_at, with_both, in_state, if_fits, moves, flag, no_words}
+use Rattle.rv_slots.proofs.Common.{Reads, put_cases, put_here, put_else, none_put, View, Record, SeatView, Stray}
+use Rattle.rv_slots.proofs.Common.{Fits, Kept, Whole, RecordsFit, the_view, pinned, pin_state, pin_records}
+use Rattle.rv_slots.proofs.Common.{pin_told, IsNewest, PinIsStep, of_seat, IsIdle}
+use Rattle.rv_slotcore.specs.Machine.{Seat}
+use Rattle.rv_slots.specs.declared.views.SeatState.TheVariants.{Pinned}
+use Rattle.rv_slots.proofs.Words.{state_changes, reads_pin}
+use Rattle.rv_slots.proofs.Knowing.{knows, safe_of, in_tail, fit_back, fit_there}
+use Rattle.rv_slots.proofs.Seating.{Goes, allows_of, one, keeps_by, marked_same, whole_same, slot_same}
 use Rattle.rv_slotcore.specs.Machine as core
-use Rattle.rv_slotcore.specs.Word.{Reads}
-use Rattle.rv_slotcore.proofs.Updates.{put_cases, put_here, put_else}
-use Rattle.rv_slotcore.proofs.Invariant.{none_put}
-use Rattle.rv_slots.specs.declared.views.View.{View}
-use Rattle.rv_slots.specs.declared.views.Record.{Record}
-use Rattle.rv_slots.specs.declared.views.SeatView.{SeatView}
-use Rattle.rv_slots.specs.declared.views.SeatState.TheVariants.{Pinned, Stray}
-use Rattle.rv_slots.specs.Rule.{Fits, Kept, Whole, RecordsFit}
-use Rattle.rv_slots.proofs.Words.{state_changes}
-use Rattle.rv_slots.proofs.Words.{reads_pin}
-use Rattle.rv_slots.proofs.Knowing.{knows}
-use Rattle.rv_slots.proofs.Knowing.{safe_of, in_tail, fit_back}
-use Rattle.rv_slots.proofs.Knowing.{fit_there}
-use Rattle.rv_slots.proofs.Seating.{Goes, allows_of, one, keeps_by, marked_same}
-use Rattle.rv_slots.proofs.Seating.{whole_same, slot_same}
-use Rattle.rv_slots.specs.Lines.{the_view, pinned, pin_state, pin_records, pin_told, IsNewest}
-use Rattle.rv_slots.specs.Steps.{PinIsStep, of_seat}
-use Rattle.rv_slots.specs.Knows.{IsIdle}
 
 moves_pin : (c : Core) (s i : ℕ) (b : Bool) → nat_lt s c.seat_count ≡ true → nat_lt i c.slot_count
     ≡ true → (c.seats s).state ≡ core.Idle → (c.slots i).full && not (c.slots i).done ≡ b
@@ -47,11 +29,9 @@ pub whole_more : (seat : ℕ → SeatView) (s : ℕ) (p' : SeatView) (w : Record
     (put_at seat s p')
 whole_more seat s p' w m l more has text =
     let still : (t : ℕ) (r : Record) → Contains (seat t).records r → Contains
-    (put_at seat s p' t).records r = λ t r c. put_cases
-    (λ z. Contains z.records r) seat s t p'
+    (put_at seat s p' t).records r = λ t r c. put_cases (λ z. Contains z.records r) seat s t p'
     (λ e. subst (λ (z : List Record). Contains z r) (sym more)
-    (in_tail w r (seat s).records (subst (λ (u : ℕ). Contains (seat u).records r) e c)))
-    (λ _. c) in
+    (in_tail w r (seat s).records (subst (λ (u : ℕ). Contains (seat u).records r) e c))) (λ _. c) in
     let origin : (t : ℕ) (r : Record) → Contains (put_at seat s p' t).records r → (w ≡ r)
     ⊎ Contains (seat t).records r = grind (arith, common_steps) in
     record {
@@ -89,26 +69,21 @@ pins_go n slots id q i me idle below s k at small =
     let in_slots : nat_lt i c.slot_count ≡ true = lt-ltb i c.slot_count (omega arith) in
     let reads = k.table.states i below in
     let x : Slot = core.pinned_slot (c.slots i) p.number true in
-    let reads' : Reads (bit_or w (2 ^ q)) x = subst
-    (λ (z : ℕ). Reads (bit_or w (2 ^ z)) x) a.named
+    let reads' : Reads (bit_or w (2 ^ q)) x = subst (λ (z : ℕ). Reads (bit_or w (2 ^ z)) x) a.named
     (reads_pin w p.number (c.slots i) f.small reads) in
     let table = state_changes n s.words c.slots i (bit_or w (2 ^ q)) x k.table below reads' refl
     in
     let marked = marked_same c.slots (put_at c.slots i x) k.seat p.number p' k.marked
-    (slot_same (λ z. z.done) c.slots i x refl)
-    (slot_same (λ z. z.generation) c.slots i x refl)
+    (slot_same (λ z. z.done) c.slots i x refl) (slot_same (λ z. z.generation) c.slots i x refl)
     (ap (λ (z : SeatView). z.dones) (sym f.is)) (ap (λ (z : SeatView). z.frees) (sym f.is)) in
     let stray : (full done : Bool) → (c.slots i).full ≡ full → (c.slots i).done ≡ done →
     (full && not done ≡ false) → (pin_state i (w / 2 ^ generation_bit) (flag full) (flag done)
-    ≡ Stray i) → (pin_records p i (w / 2 ^ generation_bit) (flag full) (flag done)
-    ≡ p.records)
+    ≡ Stray i) → (pin_records p i (w / 2 ^ generation_bit) (flag full) (flag done) ≡ p.records)
     → Goes n s k (record { seat = p.number; act = core.Pin i }) (slot_words * i)
     (bit_or w (2 ^ q)) id [] p' = λ full done hf hd none_here st rs.
     let r : Seat = in_state (c.seats p.number) (core.Stray i) in
-    let state_is : p'.state ≡ Stray i =
-    grind (arith, common_steps) in
-    let records_are : p'.records ≡ p.records =
-    grind (arith, common_steps) in
+    let state_is : p'.state ≡ Stray i = grind (arith, common_steps) in
+    let records_are : p'.records ≡ p.records = grind (arith, common_steps) in
     keeps_by n s id (slot_words * i) (bit_or w (2 ^ q)) p p' k f.here refl
     (with_both c i x p.number r) (record { seat = p.number; act = core.Pin i })
     (ap (λ (m : Moved). m.0) (moves_pin c p.number i false in_seats in_slots resting
@@ -118,8 +93,7 @@ pins_go n slots id q i me idle below s k at small =
       state = state_is;
       records = grind (arith, common_steps);
     }))
-    (λ t ne. put_else c.seats p.number t r ne) marked
-    (whole_same k.seat p.number p' k.whole
+    (λ t ne. put_else c.seats p.number t r ne) marked (whole_same k.seat p.number p' k.whole
     (records_are ∙ ap (λ (z : SeatView). z.records) (sym f.is))) in
     let held : (c.slots i).full ≡ true → (c.slots i).done ≡ false → Goes n s k
     (record { seat = p.number; act = core.Pin i }) (slot_words * i)
@@ -128,12 +102,9 @@ pins_go n slots id q i me idle below s k at small =
     let new : Record = record { slot = i; generation = g; words = no_words } in
     let made : core.Record =
     record { slot = i; generation = g; content = (c.slots i).content } in
-    let r : Seat = core.recorded (c.seats p.number)
-    (core.Pinned i g (c.slots i).content) made in
-    let state_is : p'.state ≡ Pinned i g =
-    grind (arith, common_steps) in
-    let records_are : p'.records ≡ new ∷ p.records =
-    grind (arith, common_steps) in
+    let r : Seat = core.recorded (c.seats p.number) (core.Pinned i g (c.slots i).content) made in
+    let state_is : p'.state ≡ Pinned i g = grind (arith, common_steps) in
+    let records_are : p'.records ≡ new ∷ p.records = grind (arith, common_steps) in
     let old = safe.records.kept i hf in let few : old.0 < seats_at_most =
     (let l = old.2 in omega arith) in
     let view = fit_back (k.seat old.0).records (c.seats old.0).records old.1
@@ -146,8 +117,7 @@ pins_go n slots id q i me idle below s k at small =
     (subst (λ z. Fits p' z) (sym (put_here c.seats p.number r))
     (record {
       state = state_is;
-      records = subst
-          (λ (l : List Record). RecordsFit l (made ∷ (c.seats p.number).records))
+      records = subst (λ (l : List Record). RecordsFit l (made ∷ (c.seats p.number).records))
           (sym records_are) (
             record {
               slot = refl;
@@ -164,11 +134,9 @@ pins_go n slots id q i me idle below s k at small =
       full_one.0,
       full_one.1,
       full_one.2,
-      put_cases
-          (λ z. Contains z.records full_one.1) k.seat p.number full_one.0 p'
+      put_cases (λ z. Contains z.records full_one.1) k.seat p.number full_one.0 p'
           (λ e. subst (λ (l : List Record). Contains l full_one.1) (sym records_are)
-          (in_tail new full_one.1 p.records
-          (subst (λ (z : SeatView). Contains z.records full_one.1)
+          (in_tail new full_one.1 p.records (subst (λ (z : SeatView). Contains z.records full_one.1)
           (ap k.seat e ∙ f.is) full_one.3))) (λ _. full_one.3),
       full_one.4 ∙ (view.2.slot ∙ old.4),
       full_one.5 ∙ (view.2.generation ∙ old.5),
@@ -178,8 +146,7 @@ pins_go n slots id q i me idle below s k at small =
     let kept : Goes n s k (record { seat = p.number; act = core.Pin i }) (slot_words * i)
     (bit_or w (2 ^ q)) id [] p' = ⊎_elim
     (λ hf. ⊎_elim (λ hd. stray true true hf hd refl refl refl) (λ hd. held hf hd)
-    (cases_Bool (c.slots i).done))
-    (λ hf. ⊎_elim (λ hd. stray false true hf hd refl refl refl)
+    (cases_Bool (c.slots i).done)) (λ hf. ⊎_elim (λ hd. stray false true hf hd refl refl refl)
     (λ hd. stray false false hf hd refl refl refl) (cases_Bool (c.slots i).done))
     (cases_Bool (c.slots i).full) in
     let bare : me.1 ≡ [] = ap (λ (m : Me (Unit {0}) View). m.1) a.one in

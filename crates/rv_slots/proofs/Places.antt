@@ -1,36 +1,20 @@
 -- How `new` and `meet` move seats between views.
-use Rattle.rv_slotcore.specs.Places.{last_seat, seats_at_most, slot_words}
-use Rattle.std.proofs.Common.{◌≡◌, ◌≢◌, ◌⊎◌, ℕ, zero, suc, ◌+◌, ◌*◌, ◌/◌, ◌^◌, ◌<◌, ◌≤◌, Bool}
-use Rattle.std.proofs.Common.{true, false, not, ◌&&◌, nat_lt, List, [], ◌∷◌, ◌++◌, length, get_or}
-use Rattle.std.proofs.Common.{set, bit_or, Option, Some, None, Contains, sym, refl, ap, ◌∙◌}
-use Rattle.std.proofs.Common.{subst, arith, inl, inr, ⊎_elim, lt-ltb}
-use mathlib.Core.Option.{some, none}
-use lib.ListN.{get_elem?}
-use Rattle.atomic_table.specs.Table.{Me, step, Allows, keeps}
-use Rattle.rv_slotcore.specs.Machine.{Core, Step, Slot, Seat, Act, Moved, put_at, with_both}
-use Rattle.rv_slotcore.specs.Machine.{with_slot, in_state, if_fits, moves, after, flag, no_words}
+use Rattle.rv_slots.proofs.Common.{last_seat, seats_at_most, slot_words, ◌≡◌, ◌≢◌, ◌⊎◌, ℕ, zero, suc, ◌+◌, ◌*◌}
+use Rattle.rv_slots.proofs.Common.{◌<◌, ◌≤◌, List, [], ◌∷◌, ◌++◌}
+use Rattle.rv_slots.proofs.Common.{length, get_or, set, Contains, sym, refl, ap, ◌∙◌}
+use Rattle.rv_slots.proofs.Common.{subst, arith, inl, inr, ⊎_elim, some, none, get_elem?, Me, step}
+use Rattle.rv_slots.proofs.Common.{Allows, keeps, put_at}
+use Rattle.rv_slots.proofs.Common.{after, put_here, put_else, View}
+use Rattle.rv_slots.proofs.Common.{SeatView, At, Kept, RecordsFit, ◌-◌, pred}
+use Rattle.rv_slots.proofs.Common.{◌==◌, if◌then◌else◌, eq-eqb, ne_eqb, replicate, cases_eq, common_steps, rules}
+use Rattle.rv_slots.proofs.Common.{some-injective, some-ne-none, dite, ℕ_discrete, Splits, Joins, opening, at_set}
+use Rattle.rv_slots.proofs.Common.{set_here, set_else, set_again, at_longer, at_last, IsSeated, opening_view}
+use Rattle.rv_slots.proofs.Common.{the_view, cut_left, cut_right, joined, spent, fresh, fresh_seats, Meet}
+use Rattle.rv_slots.proofs.Common.{meet_told}
+use Rattle.rv_slotcore.specs.Machine.{Seat}
+use Rattle.rv_slots.proofs.Knowing.{safe_of, in_head, in_tail, fit_there}
+use Rattle.rv_slots.proofs.Seating.{one, seat_is, there_below, at_one, only_first}
 use Rattle.rv_slotcore.specs.Machine as core
-use Rattle.rv_slotcore.proofs.Updates.{put_here, put_else}
-use Rattle.rv_slots.specs.declared.views.View.{View}
-use Rattle.rv_slots.specs.declared.views.SeatView.{SeatView}
-use Rattle.rv_slots.specs.Rule.{At, Kept, RecordsFit}
-use Rattle.rv_slots.proofs.Knowing.{safe_of, in_head, in_tail}
-use Rattle.rv_slots.proofs.Knowing.{fit_there}
-use Rattle.rv_slots.proofs.Seating.{one, seat_is}
-use Rattle.std.proofs.Common.{◌-◌, pred, slice_index_or, take, drop, eqb, ◌==◌, if◌then◌else◌}
-use Rattle.std.proofs.Common.{eq-eqb, ne_eqb, replicate}
-use Rattle.std.proofs.lemmas.Bool.{cases_eq}
-use Rattle.std.proofs.lemmas.Grind.{common_steps}
-use Rattle.std.proofs.Common.{rules}
-use mathlib.Core.Option.{some-injective, some-ne-none}
-use mathlib.Core.Logic.{dite}
-use native.Mathlib.Decide.{ℕ_discrete}
-use Rattle.atomic_table.specs.Table.{Splits, Joins, opening}
-use Rattle.atomic_table.proofs.Lists.{at_set, set_here, set_else, set_again, at_longer, at_last}
-use Rattle.rv_slots.specs.Rule.{IsSeated, opening_view}
-use Rattle.rv_slots.specs.Lines.{the_view, cut_left, cut_right, joined, spent, fresh, fresh_seats}
-use Rattle.rv_slots.specs.Lines.{Meet, meet_told}
-use Rattle.rv_slots.proofs.Seating.{there_below, at_one, only_first}
 
 -- the list is longer by one: where an element of it stands
 pub in_longer : {A : Type 0} (l : List A) (a b : A) (k : ℕ) → get_elem? (l ++ a ∷ []) k ≡ some b →
@@ -105,8 +89,7 @@ module _ (views : List View) (seat : ℕ → SeatView) (row column : ℕ → ℕ
           if sym (eq-eqb (row t) id e) j then pred
               (column t) else column t,
         ))
-        (split_here (column t) (seat t)
-        (at_here (column t) (seat t)
+        (split_here (column t) (seat t) (at_here (column t) (seat t)
         (subst (λ (z : ℕ). At views z (column t) (seat t)) e a))))
         (λ n. subst (λ (z : ℕ × ℕ). At after_cut z.0 z.1 (seat t))
         (λ j. (
@@ -117,8 +100,7 @@ module _ (views : List View) (seat : ℕ → SeatView) (row column : ℕ → ℕ
         ))
         (in_others (row t) (column t) (seat t) n a));
     named = d.named;
-    only = λ k m p a. ⊎_elim
-        (λ last. let e = ap (λ (v : View). get_elem? v.seats m) last.1 ∙ a.2 in
+    only = λ k m p a. ⊎_elim (λ last. let e = ap (λ (v : View). get_elem? v.seats m) last.1 ∙ a.2 in
         let old = d.only id (suc m) p (record { seats = x ∷ xs }, here, e) in (
           old.0,
           (λ j. if eq-eqb (row p.number) id old.1 j then first_or (old.2 j) id
@@ -207,8 +189,7 @@ module _ (views : List View) (seat : ℕ → SeatView) (row column : ℕ → ℕ
       (λ e. let f = single id (column t) (seat t) p here
       (subst (λ (z : ℕ). At views z (column t) (seat t)) e a) in
       subst (λ (z : ℕ × ℕ × SeatView). At after_glue z.0 z.1 z.2)
-      (λ j. (sym e j, sym f.0 j, f.1 j)) (pair, pair_at, refl))
-      (λ ne. ⊎_elim
+      (λ j. (sym e j, sym f.0 j, f.1 j)) (pair, pair_at, refl)) (λ ne. ⊎_elim
       (λ e. let f = single other (column t) (seat t) q there
       (subst (λ (z : ℕ). At views z (column t) (seat t)) e a) in absurd
       (n (sym (d.named t h) ∙ sym (ap (λ (z : SeatView). z.number) f.1))))
@@ -218,8 +199,7 @@ module _ (views : List View) (seat : ℕ → SeatView) (row column : ℕ → ℕ
             (set_else views id (row t) pair ne ∙ a.1),
         a.2,
       ))
-      (cases_eq (row t) other))
-      (cases_eq (row t) id)
+      (cases_eq (row t) other)) (cases_eq (row t) id)
 
   two_there : (k m : ℕ) (z : SeatView) → k ≡ id → get_elem? (p ∷ q ∷ []) m ≡ some z →
       (z.number < seats_at_most) × (put_at row q.number id z.number ≡ k) ×
@@ -242,10 +222,8 @@ module _ (views : List View) (seat : ℕ → SeatView) (row column : ℕ → ℕ
         (λ j. (sym (put_else row q.number t id n) j, sym (put_else column q.number t 1 n) j))
         (kept_place t h n));
     named = d.named;
-    only = λ k m z a. ⊎_elim
-        (λ gone. absurd
-        (some-ne-none z (sym (ap (λ (v : View). get_elem? v.seats m) gone.1 ∙ a.2))))
-        (λ was. ⊎_elim
+    only = λ k m z a. ⊎_elim (λ gone. absurd
+        (some-ne-none z (sym (ap (λ (v : View). get_elem? v.seats m) gone.1 ∙ a.2)))) (λ was. ⊎_elim
         (λ new. two_there k m z new.0 (ap (λ (v : View). get_elem? v.seats m) new.1 ∙ a.2))
         (λ old. let o = d.only k m z (a.0, old.1, a.2) in let n : z.number ≢ q.number =
         (λ g. was.0 (sym o.1 ∙ (ap row g ∙ second.1))) in (
@@ -287,8 +265,7 @@ glues n id other v w p q is its s k at apart there' =
     })
 
 -- ---- what a view of several seats knows
-contains_at : {A : Type 0} (l : List A) (a : A) → Contains l a → (k : ℕ) ×
-    (get_elem? l k ≡ some a)
+contains_at : {A : Type 0} (l : List A) (a : A) → Contains l a → (k : ℕ) × (get_elem? l k ≡ some a)
 contains_at l a c = (c.0, Rattle.atomic_table.proofs.Lists.at_index l c.0 a c.1 (sym c.2))
 
 -- an exchange on two seats tells that their records agree
@@ -298,8 +275,7 @@ learns n slots id me s k homes at small = let safe = safe_of n s k in (
   me.0,
   keeps,
   tt,
-  subst (λ (z : List ℕ × List View). Kept n
-      (record { words = z.0; homes = s.homes; views = z.1 }))
+  subst (λ (z : List ℕ × List View). Kept n (record { words = z.0; homes = s.homes; views = z.1 }))
       (λ j. (
         sym (Rattle.std.proofs.lemmas.List.set-get_or s.words 0 0) j,
         sym
@@ -429,12 +405,10 @@ met q t m w joint a b e f = let is : joint.0.seats ≡ the_view m.0 ∷ the_view
 
 -- the first seat, split off again
 pub first_again : (q t : ℕ) (m w x y : Me (Unit {0}) View)
-    → Rattle.rv_slots.specs.Knows.IsAlone q m → x ≡ (two m w, []) → y ≡ (cut_left x.0, x.1) → y
-    ≡ m
+    → Rattle.rv_slots.specs.Knows.IsAlone q m → x ≡ (two m w, []) → y ≡ (cut_left x.0, x.1) → y ≡ m
 first_again q t m w x y a e f = f ∙ ((λ j. (cut_left (e j).0, (e j).1)) ∙ sym a.one)
 
 -- and the second
 pub second_again : (q t : ℕ) (m w x y : Me (Unit {0}) View)
-    → Rattle.rv_slots.specs.Knows.IsAlone t w → x ≡ (two m w, []) → y ≡ (cut_right x.0, []) → y
-    ≡ w
+    → Rattle.rv_slots.specs.Knows.IsAlone t w → x ≡ (two m w, []) → y ≡ (cut_right x.0, []) → y ≡ w
 second_again q t m w x y a e f = f ∙ ((λ j. (cut_right (e j).0, [])) ∙ sym a.one)

@@ -1,24 +1,13 @@
 -- The rule says what is promised of the running table.
-use Rattle.rv_slotcore.specs.Places.{generation_bit, seats_at_most, slot_words}
-use Rattle.std.proofs.Common.{◌≡◌, ℕ, ◌*◌, ◌/◌, ◌^◌, ◌<◌}
-use Rattle.std.proofs.Common.{true, List, get_or}
-use Rattle.std.proofs.Common.{Contains, sym, ap, ◌∙◌, subst, arith}
-use Rattle.std.proofs.Common.{true≢false, eqb-true, eq-eqb}
-use Rattle.std.proofs.Common.{rules}
-use Rattle.std.proofs.lemmas.Grind.{common_steps}
-use Rattle.atomic_table.specs.Table.{State}
-use Rattle.rv_slotcore.specs.Machine.{Core, Slot, Seat, flag}
-use Rattle.rv_slotcore.specs.Machine as core
-use Rattle.rv_slotcore.proofs.Words.{flag_one, flag_none}
-use Rattle.rv_slotcore.proofs.Invariant.{Safe, on}
-use Rattle.rv_slotcore.proofs.Run.{safe_means}
-use Rattle.rv_slots.specs.declared.views.View.{View}
-use Rattle.rv_slots.specs.declared.views.Record.{Record}
-use Rattle.rv_slots.specs.declared.views.SeatView.{SeatView}
-use Rattle.rv_slots.specs.Rule.{At, Kept, Fits, RecordFits, shown, HasMark}
-use Rattle.rv_slots.specs.Says.{Stands, IsOn, Says, RuleSays}
+use Rattle.rv_slots.proofs.Common.{generation_bit, seats_at_most, slot_words, ◌≡◌, ℕ, ◌*◌, ◌/◌, ◌^◌, ◌<◌, true}
+use Rattle.rv_slots.proofs.Common.{List, get_or, Contains, sym, ap, ◌∙◌, subst, arith, true≢false, eqb-true}
+use Rattle.rv_slots.proofs.Common.{eq-eqb, rules, common_steps, State, flag, flag_one, flag_none}
+use Rattle.rv_slots.proofs.Common.{Safe, on, safe_means, View, Record, SeatView, At, Kept, Fits, RecordFits}
+use Rattle.rv_slots.proofs.Common.{shown, HasMark, Stands, IsOn, Says, RuleSays}
+use Rattle.rv_slotcore.specs.Machine.{Seat}
 use Rattle.rv_slots.proofs.Seating.{at_one}
 use Rattle.rv_slots.proofs.Knowing.{safe_of, shown_filling, shown_pinned, fit_back, fit_there}
+use Rattle.rv_slotcore.specs.Machine as core
 
 on_is : (st : core.SeatState) (i : ℕ) → on st i ≡ true → IsOn (shown st) i
 on_is core.Idle i e = true≢false (sym e)
@@ -71,8 +60,7 @@ module _ (n : ℕ) (s : State (Unit {0}) View) (k : Kept n s) where
     );
     pins = grind (arith, common_steps, safe, flag_one, stands, on_is, stood, is_on);
     filling = λ i h. let r = k.table.states i h in (
-      λ e. let o = safe.filling.filled i
-          (flag_one (k.core.slots i).claimed (sym r.claimed ∙ e.0))
+      λ e. let o = safe.filling.filled i (flag_one (k.core.slots i).claimed (sym r.claimed ∙ e.0))
           (flag_none (k.core.slots i).full (sym r.full ∙ e.1)) in
           let few : o.0 < seats_at_most = (let l = o.2 in let c = k.counts.1 in omega arith) in
           (k.seat o.0, o.1, stands o.0 few, (k.fits o.0 few).state ∙ ap shown o.3),
@@ -101,15 +89,13 @@ module _ (n : ℕ) (s : State (Unit {0}) View) (k : Kept n s) where
                 (o.5 ∙ sym r.generation),
           ),
       λ w. let b = behind w.0 w.1 w.2 w.3 in let here : b.0.slot ≡ i = sym b.2.slot ∙ w.4 in
-          let d = (safe.records.dated w.0.number b.0 b.1).1
-          (sym b.2.generation ∙
+          let d = (safe.records.dated w.0.number b.0 b.1).1 (sym b.2.generation ∙
           (w.5 ∙ (r.generation ∙ ap (λ (z : ℕ). (k.core.slots z).generation) (sym here))))
           in r.full ∙ ap flag (ap (λ (z : ℕ). (k.core.slots z).full) (sym here) ∙ d.0),
     );
     words = λ i j w p r h l a c e g f. let b = behind p r a c in let here : b.0.slot ≡ i =
         sym b.2.slot ∙ e in
-        let d = (safe.records.dated p.number b.0 b.1).1
-        (sym b.2.generation ∙
+        let d = (safe.records.dated p.number b.0 b.1).1 (sym b.2.generation ∙
         (g ∙ (same_generation i h ∙ ap (λ (z : ℕ). (k.core.slots z).generation) (sym here))))
         in
         k.table.contents i j h l ∙ (ap (λ (z : ℕ). get_or (k.core.slots z).content j 0) (sym here)
@@ -144,8 +130,7 @@ module _ (n : ℕ) (s : State (Unit {0}) View) (k : Kept n s) where
           (get_or s.words (slot_words * i) 0 / 2 ^ generation_bit)) (sym o.1) w.2) in r.done
           ∙ ap flag (m.1 r.generation),
     );
-    none_later = λ i g p h a c. let o = stood p a in let m =
-        (k.marked.marked p.number i g o.0
+    none_later = λ i g p h a c. let o = stood p a in let m = (k.marked.marked p.number i g o.0
         (subst (λ (z : SeatView). HasMark z.dones i g) (sym o.1) c)).0 in let same =
         same_generation i h in omega arith;
     freed = λ i g h. let same = same_generation i h in (

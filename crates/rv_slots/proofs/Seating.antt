@@ -1,29 +1,17 @@
 -- A step by the one seat of a view.
-use Rattle.rv_slotcore.specs.Places.{seats_at_most}
-use Rattle.std.proofs.Common.{◌≡◌, ◌≢◌, ℕ, zero, suc, ◌<◌, Bool}
-use Rattle.std.proofs.Common.{List, [], ◌∷◌, ◌++◌, length, set, sym, refl, ap, ◌∙◌, subst, arith}
-use Rattle.std.proofs.Common.{⊎_elim}
-use Rattle.std.proofs.lemmas.Grind.{common_steps}
-use mathlib.Core.Option.{some, some-injective, some-ne-none}
-use lib.ListN.{get_elem?}
-use Rattle.atomic_table.specs.Table.{State, stepped, keeps}
-use Rattle.atomic_table.proofs.Lists.{at_set, set_here, set_else}
-use Rattle.rv_slotcore.specs.Machine.{Core, Step, Slot, put_at, after, start}
-use Rattle.rv_slotcore.proofs.Updates.{put_cases, run-append}
-use Rattle.rv_slots.specs.declared.views.View.{View}
-use Rattle.rv_slots.specs.declared.views.Mark.{Mark}
-use Rattle.rv_slots.specs.declared.views.Record.{Record}
-use Rattle.rv_slots.specs.declared.views.SeatView.{SeatView}
-use Rattle.rv_slots.specs.Rule.{At, IsSeated, IsReached, IsTable, IsMarked, Marked, AreWhole}
-use Rattle.rv_slots.specs.Rule.{Whole, Fits, Kept}
+use Rattle.rv_slots.proofs.Common.{seats_at_most, ◌≡◌, ◌≢◌, ℕ, zero, suc, ◌<◌, Bool, List, [], ◌∷◌, ◌++◌, length}
+use Rattle.rv_slots.proofs.Common.{set, sym, refl, ap, ◌∙◌, subst, arith, ⊎_elim, common_steps, some}
+use Rattle.rv_slots.proofs.Common.{some-injective, some-ne-none, get_elem?, State, stepped, keeps, at_set}
+use Rattle.rv_slots.proofs.Common.{set_here, set_else, Core, Step, Slot, put_at, after, start, put_cases}
+use Rattle.rv_slots.proofs.Common.{run-append, View, Mark, Record, SeatView, At, IsSeated, IsReached, IsTable}
+use Rattle.rv_slots.proofs.Common.{IsMarked, Marked, AreWhole, Whole, Fits, Kept}
 
 -- a view of one seat
 abbrev pub one : SeatView → View
 one p = record { seats = p ∷ [] }
 
 -- what is there is below the length
-pub there_below : {A : Type 0} (l : List A) (i : ℕ) (a : A) → get_elem? l i ≡ some a
-    → i < length l
+pub there_below : {A : Type 0} (l : List A) (i : ℕ) (a : A) → get_elem? l i ≡ some a → i < length l
 there_below [] i a e = absurd (some-ne-none a (sym e))
 there_below (x ∷ xs) zero a e = omega arith
 there_below (x ∷ xs) (suc i) a e = let r = there_below xs i a e in omega arith
@@ -67,8 +55,7 @@ module _ (views : List View) (seat : ℕ → SeatView) (row column : ℕ → ℕ
   pub seated_after : (q : SeatView) → q.number ≡ p.number → IsSeated (set views id (one q))
       (put_at seat p.number q) row column
   seated_after q same = record {
-    there = λ t h. put_cases (λ z. At (set views id (one q)) (row t) (column t) z) seat p.number t
-        q
+    there = λ t h. put_cases (λ z. At (set views id (one q)) (row t) (column t) z) seat p.number t q
         (λ e. let is = seat_is in subst (λ (z : ℕ × ℕ). At (set views id (one q)) z.0 z.1 q)
         (λ i. (sym (ap row e ∙ is.1) i, sym (ap column e ∙ is.2) i))
         (one q, set_here views id (one q) (there_below views id (one p) here), refl))
@@ -79,8 +66,7 @@ module _ (views : List View) (seat : ℕ → SeatView) (row column : ℕ → ℕ
           a.2,
         ));
     named = grind (arith, common_steps);
-    only = λ k m r a. ⊎_elim
-        (λ new. let is = seat_is in let f = only_first q r m
+    only = λ k m r a. ⊎_elim (λ new. let is = seat_is in let f = only_first q r m
         (ap (λ (v : View). get_elem? v.seats m) new.1 ∙ a.2) in let name : p.number
         ≡ r.number = sym same ∙ ap (λ (z : SeatView). z.number) f.1 in (
           subst (λ (z : ℕ). z < seats_at_most) name is.0,
@@ -142,8 +128,7 @@ Goes n s k e i w id l q = (k' : Kept n (stepped s i w id l (one q) keeps)) ×
 
 -- a step of the machine that keeps the rule is allowed
 pub allows_of : (n slots id i : ℕ) (me : Rattle.atomic_table.specs.Table.Me (Unit {0}) View)
-    (f : ℕ → ℕ) (e : Step) (told : ℕ → Rattle.atomic_table.specs.Table.Me (Unit {0}) View
-    → Type 0)
+    (f : ℕ → ℕ) (e : Step) (told : ℕ → Rattle.atomic_table.specs.Table.Me (Unit {0}) View → Type 0)
     → Rattle.rv_slots.specs.Steps.Refines n id me i f e told
     → Rattle.atomic_table.specs.Table.Allows (Kept n) slots id me i f told
 allows_of n slots id i me f e told r s k homes at small = let o = r s k at small in

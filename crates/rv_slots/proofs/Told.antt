@@ -1,22 +1,9 @@
 -- What a step told, for the type that the seat becomes.
-use Rattle.rv_slotcore.specs.Places.{last_generation, claimed_bit, done_bit, full_bit}
-use Rattle.rv_slotcore.specs.Places.{generation_bit, slot_words}
-use Rattle.std.proofs.Common.{◌≡◌, ◌≢◌, ℕ, zero, suc, ◌+◌, ◌*◌, ◌/◌, ◌^◌, ◌<◌, ◌≤◌, Contains}
-use Rattle.std.proofs.Common.{Bool, false, [], bit_and}
-use Rattle.std.proofs.Common.{sym, refl, ap, ◌∙◌, arith}
-use Rattle.std.specs.Int.{bit_at}
-use Rattle.std.proofs.lemmas.Nat.Bits.{and_pow, bit_at-lt}
-use Rattle.atomic_table.specs.Table.{Me}
-use Rattle.atomic_table.specs.Seated.{TableId}
-use Rattle.rv_slots.specs.declared.views.View.{View}
-use Rattle.rv_slots.specs.declared.views.SeatView.{SeatView}
-use Rattle.rv_slots.specs.declared.views.SeatState.TheVariants.{Idle, Stray}
-use Rattle.std.proofs.Common.{◌==◌, eq-eqb, true≢false}
-use Rattle.std.proofs.lemmas.Grind.{common_steps}
-use Rattle.rv_slots.specs.declared.views.Record.{Record}
-use Rattle.rv_slots.specs.Lines.{pin_state, IsNewest, the_view}
-use Rattle.rv_slots.specs.Lines.{ToldFor}
-use Rattle.rv_slots.specs.Knows.{IsAlone, IsIdle}
+use Rattle.rv_slots.proofs.Common.{last_generation, claimed_bit, done_bit, full_bit, generation_bit, slot_words}
+use Rattle.rv_slots.proofs.Common.{◌≡◌, ◌≢◌, ℕ, zero, suc, ◌+◌, ◌*◌, ◌/◌, ◌^◌, ◌<◌, ◌≤◌, Contains, Bool, false}
+use Rattle.rv_slots.proofs.Common.{[], bit_and, sym, refl, ap, ◌∙◌, arith, bit_at, and_pow, bit_at-lt, Me}
+use Rattle.rv_slots.proofs.Common.{TableId, View, SeatView, Idle, Stray, ◌==◌, eq-eqb, true≢false, common_steps}
+use Rattle.rv_slots.proofs.Common.{Record, pin_state, IsNewest, the_view, ToldFor, IsAlone, IsIdle}
 use Rattle.rv_slots.proofs.Seating.{one}
 
 -- what one thread knows: a view

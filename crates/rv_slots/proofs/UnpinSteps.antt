@@ -1,32 +1,15 @@
 -- An unpin keeps the rule, and is the step of the machine.
-use Rattle.rv_slotcore.specs.Places.{slot_words}
-use Rattle.std.proofs.Common.{◌≡◌, ℕ, ◌*◌, ◌^◌, ◌<◌}
-use Rattle.std.proofs.Common.{true, false, nat_lt, [], get_or}
-use Rattle.std.proofs.Common.{sym, refl, ap, ◌∙◌}
-use Rattle.std.proofs.Common.{subst, arith}
-use mathlib.Core.Option.{none}
-use Rattle.atomic_table.specs.Table.{Me, step, Allows}
-use Rattle.rv_slotcore.specs.Machine.{Core, Step, Slot, Seat, Act, Moved, put_at, with_both}
-use Rattle.rv_slotcore.specs.Machine.{with_slot, in_state, if_fits, moves, after, flag, no_words}
-use Rattle.rv_slotcore.specs.Machine as core
-use Rattle.rv_slotcore.specs.Word.{Reads}
-use Rattle.rv_slotcore.proofs.Updates.{put_here, put_else}
-use Rattle.rv_slots.specs.declared.views.View.{View}
-use Rattle.rv_slots.specs.declared.views.SeatView.{SeatView}
-use Rattle.rv_slots.specs.Rule.{Fits, Kept}
-use Rattle.rv_slots.specs.Rule.{shown}
-use Rattle.rv_slotcore.proofs.CoreWords.{cleared}
-use Rattle.rv_slots.proofs.Words.{state_changes}
-use Rattle.rv_slots.proofs.Words.{reads_unpin}
+use Rattle.rv_slots.proofs.Common.{slot_words, ◌≡◌, ℕ, ◌*◌, ◌^◌, ◌<◌, true, false, nat_lt, [], get_or, sym, refl}
+use Rattle.rv_slots.proofs.Common.{ap, ◌∙◌, subst, arith, none, Me, step, Allows, Core, Slot, Moved}
+use Rattle.rv_slots.proofs.Common.{put_at, with_both, in_state, if_fits, moves}
+use Rattle.rv_slots.proofs.Common.{Reads, put_here, put_else, View, SeatView, Fits, Kept, shown, cleared}
+use Rattle.rv_slots.proofs.Common.{the_view, unpinned, unpin_told, Refines, UnpinIsStep, UnpinStrayIsStep}
+use Rattle.rv_slots.proofs.Common.{of_seat, IsAlone, IsPinned, IsStray, bit_not, w64, bit_and, common_steps}
+use Rattle.rv_slotcore.specs.Machine.{Seat}
+use Rattle.rv_slots.proofs.Words.{state_changes, reads_unpin}
 use Rattle.rv_slots.proofs.Knowing.{knows, shown_pinned, shown_stray}
-use Rattle.rv_slots.proofs.Seating.{Goes, allows_of, one, keeps_by, marked_same}
-use Rattle.rv_slots.proofs.Seating.{whole_same, slot_same}
-use Rattle.rv_slots.specs.Lines.{the_view, unpinned, unpin_told}
-use Rattle.rv_slots.specs.Steps.{Refines, UnpinIsStep, UnpinStrayIsStep, of_seat}
-use Rattle.rv_slots.specs.Knows.{IsAlone, IsPinned, IsStray}
-use Rattle.std.specs.Int.{bit_not, w64}
-use Rattle.std.proofs.Common.{bit_and}
-use Rattle.std.proofs.lemmas.Grind.{common_steps}
+use Rattle.rv_slots.proofs.Seating.{Goes, allows_of, one, keeps_by, marked_same, whole_same, slot_same}
+use Rattle.rv_slotcore.specs.Machine as core
 
 -- all bits but the seat's
 abbrev pub bit_not_of : ℕ → ℕ
@@ -52,23 +35,18 @@ unpins_by n slots id q i mask me a holds below s k at small =
     let x : Slot = core.pinned_slot (c.slots i) p.number false in let r : Seat = in_state
     (c.seats p.number) core.Idle in
     let kept : Goes n s k (record { seat = p.number; act = core.Unpin }) (slot_words * i)
-    (cleared w q) id [] p' =
-    keeps_by n s id (slot_words * i) (cleared w q) p p' k f.here refl
+    (cleared w q) id [] p' = keeps_by n s id (slot_words * i) (cleared w q) p p' k f.here refl
     (with_both c i x p.number r) (record { seat = p.number; act = core.Unpin })
-    (ap (λ (m : Moved). m.0)
-    (moves_unpin c p.number i (c.seats p.number).state in_seats refl
+    (ap (λ (m : Moved). m.0) (moves_unpin c p.number i (c.seats p.number).state in_seats refl
     (holds c (c.seats p.number).state f.fits.state))) (refl, refl)
     (state_changes n s.words c.slots i (cleared w q) x k.table below
     (subst (λ (z : ℕ). Reads (cleared w z) x) a.named
     (reads_unpin w p.number (c.slots i) f.small small reads)) refl)
     (subst (λ z. Fits p' z) (sym (put_here c.seats p.number r))
-    (record { state = refl; records = f.fits.records }))
-    (λ t ne. put_else c.seats p.number t r ne)
+    (record { state = refl; records = f.fits.records })) (λ t ne. put_else c.seats p.number t r ne)
     (marked_same c.slots (put_at c.slots i x) k.seat p.number p' k.marked
-    (slot_same (λ z. z.done) c.slots i x refl)
-    (slot_same (λ z. z.generation) c.slots i x refl)
-    (ap (λ (z : SeatView). z.dones) (sym f.is))
-    (ap (λ (z : SeatView). z.frees) (sym f.is)))
+    (slot_same (λ z. z.done) c.slots i x refl) (slot_same (λ z. z.generation) c.slots i x refl)
+    (ap (λ (z : SeatView). z.dones) (sym f.is)) (ap (λ (z : SeatView). z.frees) (sym f.is)))
     (whole_same k.seat p.number p' k.whole (ap (λ (z : SeatView). z.records) (sym f.is)))
     in
     let bare : me.1 ≡ [] = ap (λ (m : Me (Unit {0}) View). m.1) a.one in

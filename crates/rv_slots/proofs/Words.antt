@@ -1,23 +1,11 @@
 -- A change of one word of the table.
-use Rattle.rv_slotcore.specs.Places.{claimed_bit, done_bit, full_bit, generation_bit}
-use Rattle.rv_slotcore.specs.Places.{seats_at_most, slot_words}
-use Rattle.std.proofs.Common.{◌≡◌, ℕ, ◌+◌, ◌*◌, ◌^◌, ◌<◌}
-use Rattle.std.proofs.Common.{true, false, List, get_or, set, bit_or, sym, ap, ◌∙◌}
-use Rattle.std.proofs.Common.{subst, arith, length-set, get_or-set_other}
-use Rattle.std.proofs.lemmas.Grind.{get_or-set_at}
-use Rattle.std.specs.Int.{bit_at}
-use Rattle.rv_slotcore.specs.Machine.{Slot, put_at, claimed_slot, written_slot, full_slot}
-use Rattle.rv_slotcore.specs.Machine.{done_slot, pinned_slot, freed_slot}
-use Rattle.rv_slotcore.proofs.Updates.{put_cases}
-use Rattle.rv_slotcore.specs.Word.{Reads}
-use Rattle.rv_slots.specs.Rule.{IsTable}
-use Rattle.rv_slotcore.proofs.CoreWords.{or_here, or_else, or_high, cleared, cleared_here}
-use Rattle.rv_slotcore.proofs.CoreWords.{cleared_else, cleared_high}
-use Rattle.std.proofs.lemmas.List.{set-get_or}
-use mathlib.Core.Logic.{dite}
-use native.Mathlib.Decide.{ℕ_discrete}
-use Rattle.std.proofs.lemmas.Nat.Bits.{bit_at_cat_low, bit_at-zero}
-use Rattle.std.proofs.lemmas.Grind.{common_steps}
+use Rattle.rv_slots.proofs.Common.{claimed_bit, done_bit, full_bit, generation_bit, seats_at_most, slot_words}
+use Rattle.rv_slots.proofs.Common.{◌≡◌, ℕ, ◌+◌, ◌*◌, ◌^◌, ◌<◌, true, false, List, get_or, set, bit_or, sym, ap}
+use Rattle.rv_slots.proofs.Common.{◌∙◌, subst, arith, length-set, get_or-set_other, get_or-set_at, bit_at, Slot}
+use Rattle.rv_slots.proofs.Common.{put_at, claimed_slot, written_slot, full_slot, done_slot, pinned_slot}
+use Rattle.rv_slots.proofs.Common.{freed_slot, put_cases, Reads, IsTable, or_here, or_else, or_high, cleared}
+use Rattle.rv_slots.proofs.Common.{cleared_here, cleared_else, cleared_high, set-get_or, dite, ℕ_discrete}
+use Rattle.rv_slots.proofs.Common.{bit_at_cat_low, bit_at-zero, common_steps}
 
 -- a slot with the claim is read
 pub reads_claimed : (w : ℕ) (x : Slot) → Reads w x → Reads (bit_or w (2 ^ claimed_bit))
@@ -109,8 +97,7 @@ content_changes n words slots i j v t h l = let wide = t.sized in let x : Slot =
       states = grind (arith, common_steps);
       contents = λ k m below within. let long = t.long i h in put_cases
           (λ z. get_or (set words at v) (slot_words * k + (1 + m)) 0 ≡ get_or z.content m 0) slots i k
-          y
-          (λ e. dite (ℕ_discrete m j)
+          y (λ e. dite (ℕ_discrete m j)
           (λ d. get_or-set_at words at (slot_words * k + (1 + m)) v 0 (omega arith) (omega arith)
           ∙ sym (get_or-set_at x.content j m v 0 d (omega arith)))
           (λ nd. get_or-set_other words at (slot_words * k + (1 + m)) v 0 (λ e'. nd (omega arith)) ∙
@@ -124,5 +111,4 @@ content_changes n words slots i j v t h l = let wide = t.sized in let x : Slot =
 -- a load changes nothing
 pub loads : (n : ℕ) (words : List ℕ) (slots : ℕ → Slot) (at : ℕ) → IsTable n words slots
     → IsTable n (set words at (get_or words at 0)) slots
-loads n words slots at t = subst (λ (l : List ℕ). IsTable n l slots)
-    (sym (set-get_or words at 0)) t
+loads n words slots at t = subst (λ (l : List ℕ). IsTable n l slots) (sym (set-get_or words at 0)) t

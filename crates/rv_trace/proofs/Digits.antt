@@ -12,8 +12,7 @@ unfoldable pub decimal_from : ℕ → List ℕ → Option ℕ
 decimal_from n [] = Some n
 decimal_from n (b ∷ bs) = if is_digit b then decimal_from (n * 10 + (b - 48)) bs else None
 
-from-digit : (n b : ℕ) (bs : List ℕ) (is : Bool)
-    → decimal_from (n * 10 + (b - 48)) bs ≡
+from-digit : (n b : ℕ) (bs : List ℕ) (is : Bool) → decimal_from (n * 10 + (b - 48)) bs ≡
     (if list_all is_digit bs then Some (decimal_after (n * 10 + (b - 48)) bs) else None)
     → (if is then decimal_from (n * 10 + (b - 48)) bs else None) ≡
     (if is && list_all is_digit bs then Some (decimal_after n (b ∷ bs)) else None)

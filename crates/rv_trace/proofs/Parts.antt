@@ -36,8 +36,7 @@ at-part columns ps i p at = let below = at.0 in rw (add-one, drop-cons ps i p, s
 pub part-read : (columns : Columns) (ps : List (List ℕ)) (i : ℕ) (p : List ℕ) (front next : List Dep) (d : Dep)
     (all : Read) → IsPart ps i p
     → with_front front (each_dependency columns (drop i ps)) ≡ all → dependency columns p ≡ Ok d
-    → next ≡ front ++ (d ∷ [])
-    → with_front next (each_dependency columns (drop (i + 1) ps)) ≡ all
+    → next ≡ front ++ (d ∷ []) → with_front next (each_dependency columns (drop (i + 1) ps)) ≡ all
 part-read columns ps i p front next d all at said is n =
     rw n (sym (with_front-more front d (each_dependency columns (drop (i + 1) ps)))
     ∙ (rw (at-part columns ps i p at, is) at said))

@@ -28,8 +28,7 @@ takes-bytes cfg s f g (c ∷ rest) p e = by (is_end (step cfg s c).1) refl e
   where
     by : (b : Bool) → is_end (step cfg s c).1 ≡ b → next_record cfg s f g (c ∷ rest) ≡ Some p
         → (next_record cfg (step cfg s c).0 (fields_after (step cfg s c).1 f g) (field_after (step cfg s c).1 c g)
-        rest ≡ Some p → Shorter rest p)
-        → Shorter (c ∷ rest) p
+        rest ≡ Some p → Shorter rest p) → Shorter (c ∷ rest) p
     by true t e more =
         let q : ◌≡◌ {A = Option Read} (Some (fields_after (step cfg s c).1 f g, (step cfg s c).0, rest)) (Some p) =
         rw t at e in

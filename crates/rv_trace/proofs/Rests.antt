@@ -1,9 +1,8 @@
 -- What a read of a record does to the records that are left.
-use Rattle.std.proofs.Common.{rules}
-use Rattle.std.proofs.Common.{◌≡◌, ℕ, List, Option, None, Some, true, false, refl, option_map}
+use Rattle.std.proofs.Common.{rules, ◌≡◌, ℕ, List, Option, None, Some, true, false, refl, option_map}
 use Rattle.csv.specs.Machine.{Read}
-use Rattle.csv.specs.Reading.{NextIs, ReadRecord, ReadsNext, default_config, reader_config}
-use Rattle.csv.specs.Reading.{reader_state, source_of, strip_bom}
+use Rattle.csv.specs.Reading.{NextIs, ReadRecord, ReadsNext, default_config, reader_config, reader_state}
+use Rattle.csv.specs.Reading.{source_of, strip_bom}
 use Rattle.csv.specs.Records.{Row, fields_of}
 use Rattle.csv.specs.declared.parser.State.{State}
 use Rattle.csv.specs.declared.parser.State.TheVariants as st

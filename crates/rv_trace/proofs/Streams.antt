@@ -1,7 +1,6 @@
 -- What a row does to the stream that is left.
-use Rattle.std.proofs.Common.{rules}
-use Rattle.std.proofs.Common.{◌≡◌, ◌≢◌, ◌∙◌, inl, inr, ◌∷◌, [], ℕ, ◌+◌, ◌<◌, ◌≤◌, List, Option, None, Some, Ok, Err}
-use Rattle.std.proofs.Common.{true, false, refl, option_map, nat_lt, arith}
+use Rattle.std.proofs.Common.{rules, ◌≡◌, ◌≢◌, ◌∙◌, inl, inr, ◌∷◌, [], ℕ, ◌+◌, ◌<◌, ◌≤◌, List, Option, None, Some}
+use Rattle.std.proofs.Common.{Ok, Err, true, false, refl, option_map, nat_lt, arith}
 use Rattle.csv.specs.Records.{Row, fields_of}
 use Rattle.rv_trace.specs.declared.fault.FaultKind.{FaultKind}
 use Rattle.rv_trace.specs.declared.fault.FaultKind.TheVariants as fault
@@ -9,8 +8,8 @@ use Rattle.rv_event.specs.declared.event.Event.{Event}
 use Rattle.rv_trace.specs.Faults.{IsOfTextOrMemory, is_of_text}
 use Rattle.rv_trace.specs.Row.{Fields, event_of}
 use Rattle.rv_trace.specs.Rows.{NoRow, TakesRow}
-use Rattle.rv_trace.specs.Source.{Stream, after_row, fault_at, fails_at, is_header, records_say, row_says, rows_say}
-use Rattle.rv_trace.specs.Source.{whole}
+use Rattle.rv_trace.specs.Source.{Stream, after_row, fault_at, fails_at, is_header, records_say, row_says}
+use Rattle.rv_trace.specs.Source.{rows_say, whole}
 use Rattle.rv_trace.specs.Trace.{GoesOn, IsFaultOf, IsWhole, TakesEvent}
 
 header-goes : (rs ts : List Fields) (h : Fields) → rs ≡ h ∷ ts → is_header h ≡ true → records_say rs ≡ rows_say 1 ts
@@ -98,8 +97,7 @@ outside (Some s) k n m = inr (inr m)
 
 -- the same of a row that memory may have refused
 pub row-refused : (old new : Option (List Fields)) (row : Row) (n : ℕ) (k : FaultKind) → TakesRow old new row
-    → n ≤ 65536
-    → (k ≢ fault.NoMemory → event_of (fields_of row) ≡ Err k) → IsOfTextOrMemory k
+    → n ≤ 65536 → (k ≢ fault.NoMemory → event_of (fields_of row) ≡ Err k) → IsOfTextOrMemory k
     → IsFaultOf (option_map (rows_say n) old) (fault_at k n)
 row-refused old new row n k t h s (inl own) = row-fault old new row n k t h (s (λ m. own-memory k own m)) own
 row-refused old new row n k t h s (inr m) = outside _ k n m

@@ -66,7 +66,6 @@ module _ {M : Type 1} {𝓤 : Ura M} (𝓛 : Logic 𝓤) (V : RattleType) where
         use1 𝓛 (‵ (cell_at share (NoteOf V).mir found block offset) ⊛ ‵ owned)
         (told_out 𝓛 (NoteOf V) (values V) (note_tells V) share known block offset) $
         split ! $ move ! (1 ∷ []) $ use1 𝓛 (‵ owned ⊛ ‵ owned) (note_copy.twice known found) $ split ! $
-        fsplit ! $ drop ! $ move ! (2 ∷ 1 ∷ []) $
-        use2 𝓛 (‵ (part share))
+        fsplit ! $ drop ! $ move ! (2 ∷ 1 ∷ []) $ use2 𝓛 (‵ (part share))
         (told_in 𝓛 (NoteOf V) (values V) (note_tells V) share known block offset found) $
         move ! (2 ∷ 0 ∷ []) $ shr_Shut ! tt $ move ! (1 ∷ 0 ∷ []) $ now ! $ done !)

@@ -1,33 +1,12 @@
 -- The links are edges.
-use Rattle.std.proofs.Common.{rules}
-use Rattle.std.proofs.Common.{◌≡◌, ◌≢◌, ℕ, List, [], ◌∷◌, ◌++◌, Contains, Option, Some, None, refl, sym}
-use Rattle.std.proofs.Common.{ap, ◌∙◌, arith, subst}
-use Rattle.std.proofs.lemmas.Option.{same_Some, none-some}
-use Rattle.std.proofs.lemmas.List.Elements.{Contains-push}
-use Rattle.std.proofs.lemmas.Grind.{common_steps}
-use Rattle.rv_event.proofs.Indexed.{Indexed, Sound, indexed-push}
-use Rattle.rv_event.proofs.Names.{writer-is}
-use Rattle.rv_event.specs.Operations.{is_memory, IsLoad, IsStore, IsMemory}
-use Rattle.rv_event.specs.Log.{writer}
-use Rattle.rv_event.specs.Edges.{HasReason, IsEdge}
-use Rattle.rv_event.specs.declared.event.Event.{Event}
-use Rattle.rv_event.specs.declared.event.Id.{Id}
-use Rattle.rv_event.specs.declared.event.Op.TheVariants.{Sc}
-use Rattle.rv_event.specs.declared.memory_model.MemoryModel.{MemoryModel}
-use Rattle.rv_event.specs.declared.reason.Link.{Link}
-use Rattle.rv_event.specs.declared.reason.Reason.{Reason}
-use Rattle.rv_event.specs.declared.reason.Reason.TheVariants.{Preserved, Coherence, ReadsFrom, FromRead}
-use Rattle.rv_event.specs.declared.reason.Reason.TheVariants.{AtomicIn, AtomicOut}
-use Rattle.rv_cover.proofs.Covering.{edge_of}
-use Rattle.rv_versions.specs.Indexes.{IsPair}
-use Rattle.rv_versions.specs.Accesses.{id_of}
-use Rattle.rv_versions.specs.Linked.{stored, returned, held, ComesBefore, ComesAfter, AreTheirs}
-use Rattle.rv_versions.specs.Linked.{AreBefore, AreAfter}
-use Rattle.rv_versions.specs.VersionLinks.{IsOfVersions}
-use Rattle.rv_versions.specs.Reserved.{IsPartner, IsReserved}
-use Rattle.rv_versions.specs.declared.accesses.Access.{Access}
-use Rattle.rv_versions.specs.declared.accesses.Accesses.{Accesses}
-use Rattle.rv_versions.specs.declared.reservation.Reservation.{Reservation}
+use Rattle.rv_versions.proofs.Common.{rules, ◌≡◌, ◌≢◌, ℕ, List, [], ◌∷◌, ◌++◌, Contains, Option, Some, None, refl}
+use Rattle.rv_versions.proofs.Common.{sym, ap, ◌∙◌, arith, subst, same_Some, none-some, Contains-push}
+use Rattle.rv_versions.proofs.Common.{common_steps, Indexed, Sound, indexed-push, writer-is, is_memory, IsLoad}
+use Rattle.rv_versions.proofs.Common.{IsStore, IsMemory, writer, HasReason, IsEdge, Event, Id, Sc, MemoryModel}
+use Rattle.rv_versions.proofs.Common.{Link, Reason, Preserved, Coherence, ReadsFrom, FromRead, AtomicIn}
+use Rattle.rv_versions.proofs.Common.{AtomicOut, edge_of, IsPair, id_of, stored, returned, held, ComesBefore}
+use Rattle.rv_versions.proofs.Common.{ComesAfter, AreTheirs, AreBefore, AreAfter, IsOfVersions, IsPartner}
+use Rattle.rv_versions.proofs.Common.{IsReserved, Access, Accesses, Reservation}
 use Rattle.rv_versions.proofs.Found.{store_found, load_found, pair_found}
 use Rattle.rv_versions.proofs.Paired.{one_partner, is_new, in_new, none_after, grown, partner_of, pair_of_partner}
 

@@ -1,9 +1,7 @@
 -- Events beside what their LRs returned.
-use Rattle.std.proofs.Common.{◌≡◌, List, [], ◌∷◌, ◌++◌, length, Contains, Option, inl, inr, refl, ap, arith}
-use Rattle.rv_event.proofs.Names.{Contains-cons, Contains-here, Contains-there}
-use Rattle.rv_event.specs.declared.event.Event.{Event}
-use Rattle.rv_versions.specs.Indexes.{beside}
-use Rattle.rv_versions.specs.declared.reservation.Reservation.{Reservation}
+use Rattle.rv_versions.proofs.Common.{◌≡◌, List, [], ◌∷◌, ◌++◌, length, Contains, Option, inl, inr, refl, ap}
+use Rattle.rv_versions.proofs.Common.{arith, Contains-cons, Contains-here, Contains-there, Event, beside}
+use Rattle.rv_versions.proofs.Common.{Reservation}
 use Rattle.rv_versions.proofs.Members.{Contains-none}
 
 -- one event more beside its reservation

@@ -1,32 +1,15 @@
 -- Each edge of the new event is linked, or another event splits it.
-use Rattle.std.proofs.Common.{◌≡◌, ◌≢◌, ◌<◌, List, [], ◌∷◌, ◌++◌, Bool, cond, Contains, Option, Some, None}
-use Rattle.std.proofs.Common.{◌⊎◌, inl, inr, refl, sym, ap, ◌∙◌, arith, rules}
-use Rattle.std.proofs.lemmas.Bool.{cases_lt}
-use Rattle.std.proofs.lemmas.Option.{none-some}
-use Rattle.std.proofs.lemmas.Grind.{common_steps}
-use Rattle.rv_event.proofs.Indexed.{Indexed, Sound}
-use Rattle.rv_event.proofs.Names.{writer-is}
-use Rattle.rv_event.specs.Operations.{IsLoad, IsStore}
-use Rattle.rv_event.specs.Edges.{IsCoherence, IsReadsFrom, IsFromRead, IsAtomicIn, IsAtomicOut, HasReason}
-use Rattle.rv_event.specs.declared.event.Event.{Event}
-use Rattle.rv_event.specs.declared.event.Id.{Id}
-use Rattle.rv_event.specs.declared.memory_model.MemoryModel.{MemoryModel}
-use Rattle.rv_event.specs.declared.reason.Link.{Link}
-use Rattle.rv_event.specs.declared.reason.Reason.{Reason}
-use Rattle.rv_event.specs.declared.reason.Reason.TheVariants.{Preserved, Coherence, ReadsFrom, FromRead}
-use Rattle.rv_event.specs.declared.reason.Reason.TheVariants.{AtomicIn, AtomicOut}
-use Rattle.rv_cover.specs.Carries.{IsSplit}
-use Rattle.rv_cover.specs.Thinned.{Names}
-use Rattle.rv_versions.specs.Accesses.{access, id_of}
-use Rattle.rv_versions.specs.Indexes.{IsPair}
-use Rattle.rv_versions.specs.Linked.{link, stored, returned, held, ComesBefore, ComesAfter, AreBefore, AreAfter}
-use Rattle.rv_versions.specs.Reserved.{IsReserved}
-use Rattle.rv_versions.specs.VersionLinks.{IsOfVersions}
-use Rattle.rv_versions.specs.declared.accesses.Access.{Access}
-use Rattle.rv_versions.specs.declared.reservation.Reservation.{Reservation}
+use Rattle.rv_versions.proofs.Common.{◌≡◌, ◌≢◌, ◌<◌, List, [], ◌∷◌, ◌++◌, Bool, cond, Contains, Option, Some}
+use Rattle.rv_versions.proofs.Common.{None, ◌⊎◌, inl, inr, refl, sym, ap, ◌∙◌, arith, rules, cases_lt, none-some}
+use Rattle.rv_versions.proofs.Common.{common_steps, Indexed, Sound, writer-is, IsLoad, IsStore, IsCoherence}
+use Rattle.rv_versions.proofs.Common.{IsReadsFrom, IsFromRead, IsAtomicIn, IsAtomicOut, HasReason, Event, Id}
+use Rattle.rv_versions.proofs.Common.{MemoryModel, Link, Reason, Preserved, Coherence, ReadsFrom, FromRead}
+use Rattle.rv_versions.proofs.Common.{AtomicIn, AtomicOut, IsSplit, Names, access, id_of, IsPair, link, stored}
+use Rattle.rv_versions.proofs.Common.{returned, held, ComesBefore, ComesAfter, AreBefore, AreAfter, IsReserved}
+use Rattle.rv_versions.proofs.Common.{IsOfVersions, Access, Reservation}
 use Rattle.rv_versions.proofs.Around.{reserved_of}
-use Rattle.rv_versions.proofs.Found.{store_access, load_access, store_found, FoundStore, store_listed, load_listed}
-use Rattle.rv_versions.proofs.Found.{pair_listed}
+use Rattle.rv_versions.proofs.Found.{store_access, load_access, store_found, FoundStore, store_listed}
+use Rattle.rv_versions.proofs.Found.{load_listed, pair_listed}
 use Rattle.rv_versions.proofs.Paired.{is_new, pair_settled}
 
 -- two ids are equal or not

@@ -1,21 +1,10 @@
 -- What the accesses to a word say of the events of the log.
-use Rattle.std.proofs.Common.{◌≡◌, ℕ, Bool, true, false, cond, List, Contains, Option, Some, None, option_map}
-use Rattle.std.proofs.Common.{refl, sym, ap, ◌∙◌}
-use Rattle.std.proofs.lemmas.Option.{same_Some, none-some}
-use Rattle.std.proofs.Common.{arith, rules}
-use Rattle.std.proofs.lemmas.Grind.{common_steps}
-use Rattle.rv_cover.proofs.Indexing.{indexed_from_events}
-use Rattle.rv_event.proofs.Indexed.{Indexed}
-use Rattle.rv_event.proofs.Names.{writer-is}
-use Rattle.rv_event.specs.Log.{writer}
-use Rattle.rv_event.specs.Operations.{is_load, is_store, IsLoad, IsStore}
-use Rattle.rv_event.specs.declared.event.Event.{Event}
-use Rattle.rv_event.specs.declared.event.Id.{Id}
-use Rattle.rv_versions.specs.Accesses.{access, id_of}
-use Rattle.rv_versions.specs.Indexes.{pair_of, IsPair, beside, AreOfWord}
-use Rattle.rv_versions.specs.declared.accesses.Access.{Access}
-use Rattle.rv_versions.specs.declared.accesses.Accesses.{Accesses}
-use Rattle.rv_versions.specs.declared.reservation.Reservation.{Reservation}
+use Rattle.rv_versions.proofs.Common.{◌≡◌, ℕ, Bool, true, false, cond, List, Contains, Option, Some, None}
+use Rattle.rv_versions.proofs.Common.{option_map, refl, sym, ap, ◌∙◌, same_Some, none-some, arith, rules}
+use Rattle.rv_versions.proofs.Common.{common_steps, indexed_from_events, Indexed, writer-is, writer, IsLoad}
+use Rattle.rv_versions.proofs.Common.{IsStore, Event, Id, access, id_of, pair_of, IsPair, beside, AreOfWord}
+use Rattle.rv_versions.proofs.Common.{Access, Accesses, Reservation}
+use Rattle.rv_event.specs.Operations.{is_load, is_store}
 use Rattle.rv_versions.proofs.Beside.{beside_left, beside_of}
 use Rattle.rv_versions.proofs.Paired.{one_partner}
 

@@ -1,27 +1,13 @@
 -- What the indexes have after an event joined a log, and after the last one left it.
-use Rattle.std.proofs.Common.{◌≡◌, ◌≢◌, ◌+◌, List, [], ◌∷◌, ◌++◌, length, Contains}
-use Rattle.std.proofs.Common.{Option, Some, None, inl, inr, refl, sym, ap, ◌∙◌, arith, subst}
-use Rattle.std.proofs.Common.{length-append}
-use Rattle.std.proofs.lemmas.Option.{same_Some, none-some}
-use Rattle.std.proofs.lemmas.List.Elements.{Contains-append_left, Contains-push, Contains-push_cases}
-use Rattle.std.proofs.Common.{rules}
-use Rattle.std.proofs.lemmas.Grind.{common_steps}
-use Rattle.rv_cover.proofs.Indexing.{indexed_from_events}
-use Rattle.rv_event.proofs.Indexed.{Indexed, Sound, sound_of}
-use Rattle.rv_event.proofs.Pushed.{split_push}
-use Rattle.rv_event.specs.Faults.{event_fault}
-use Rattle.rv_event.specs.WellFormed.{WellFormedEvents}
-use Rattle.rv_event.specs.declared.event.Event.{Event}
-use Rattle.rv_versions.specs.Accesses.{access}
-use Rattle.rv_versions.specs.Reserved.{IsReserved}
-use Rattle.rv_versions.specs.Indexes.{store_of, load_of, pair_of, postings_of, IsInserted, IsRemoved, IsSame}
-use Rattle.rv_versions.specs.Indexes.{AreInserted, AreRemoved, AreSame, AreAbsent, IsIndex, IsReservation}
-use Rattle.rv_versions.specs.Indexes.{beside, AreIndexes}
-use Rattle.rv_versions.specs.declared.accesses.Access.{Access}
-use Rattle.rv_versions.specs.declared.accesses.Accesses.{Accesses}
-use Rattle.rv_versions.specs.declared.reservation.Reservation.{Reservation}
+use Rattle.rv_versions.proofs.Common.{◌≡◌, ◌≢◌, ◌+◌, List, [], ◌∷◌, ◌++◌, length, Contains, Option, Some, None}
+use Rattle.rv_versions.proofs.Common.{inl, inr, refl, sym, ap, ◌∙◌, arith, subst, length-append, same_Some}
+use Rattle.rv_versions.proofs.Common.{none-some, Contains-append_left, Contains-push, Contains-push_cases, rules}
+use Rattle.rv_versions.proofs.Common.{common_steps, indexed_from_events, Indexed, Sound, sound_of, split_push}
+use Rattle.rv_versions.proofs.Common.{event_fault, WellFormedEvents, Event, access, IsReserved, store_of, load_of}
+use Rattle.rv_versions.proofs.Common.{pair_of, postings_of, IsInserted, IsRemoved, IsSame, AreInserted}
+use Rattle.rv_versions.proofs.Common.{AreRemoved, AreSame, AreAbsent, IsIndex, IsReservation, beside, AreIndexes}
+use Rattle.rv_versions.proofs.Common.{Access, Accesses, Reservation, id_of}
 use Rattle.rv_versions.proofs.Beside.{beside-push, beside_left}
-use Rattle.rv_versions.specs.Accesses.{id_of}
 use Rattle.rv_versions.proofs.Paired.{is_new, reservation_grows, reservation_settled, reservation_new}
 use Rattle.rv_versions.proofs.Members.{Contains-none}
 

@@ -1,3 +1,4 @@
+pub mod Common
 pub mod Around
 pub mod Beside
 pub mod Carrying

@@ -1,24 +1,12 @@
 -- Lists of links that grow by those to some accesses, reason by reason.
-use Rattle.std.proofs.Common.{◌≡◌, ◌≢◌, ◌↔◌, ℕ, Option, Some, None, List, [], ◌∷◌, ◌++◌, Contains}
-use Rattle.std.proofs.Common.{inl, inr, refl, sym, ap}
-use Rattle.std.proofs.Common.{◌∙◌, subst, arith}
-use Rattle.std.proofs.lemmas.List.Elements.{Contains-append_left, Contains-append_right, Contains-append_cases}
-use Rattle.std.proofs.lemmas.List.Elements.{Contains-push, Contains-push_cases}
-use Rattle.std.proofs.lemmas.Grind.{common_steps}
-use Rattle.rv_event.specs.declared.reason.Link.{Link}
-use Rattle.rv_event.specs.declared.reason.Reason.{Reason}
-use Rattle.rv_event.specs.declared.reason.Reason.TheVariants.{Preserved, Coherence, ReadsFrom, FromRead}
-use Rattle.rv_event.specs.declared.reason.Reason.TheVariants.{AtomicIn, AtomicOut}
-use Rattle.rv_versions.specs.Accesses.{id_of}
-use Rattle.rv_event.specs.declared.event.Event.{Event}
-use Rattle.rv_versions.specs.Accesses.{IsNearestBelow, IsNearestAbove}
-use Rattle.rv_versions.specs.Lookups.{IsUnparted}
-use Rattle.rv_versions.specs.Linked.{link, IsExtended, AreLinked, Covers, stored, returned, held, IsBelow, IsAbove}
-use Rattle.rv_versions.specs.Linked.{ComesBefore, ComesAfter, AreTheirs, AreBefore, AreAfter}
-use Rattle.rv_versions.specs.declared.accesses.Accesses.{Accesses}
-use Rattle.rv_versions.specs.declared.reservation.Reservation.{Reservation}
-use Rattle.rv_versions.specs.declared.versions.links.Interval.{Interval}
-use Rattle.rv_versions.specs.declared.accesses.Access.{Access}
+use Rattle.rv_versions.proofs.Common.{◌≡◌, ◌≢◌, ◌↔◌, ℕ, Option, Some, None, List, [], ◌∷◌, ◌++◌, Contains, inl}
+use Rattle.rv_versions.proofs.Common.{inr, refl, sym, ap, ◌∙◌, subst, arith, Contains-append_left}
+use Rattle.rv_versions.proofs.Common.{Contains-append_right, Contains-append_cases, Contains-push}
+use Rattle.rv_versions.proofs.Common.{Contains-push_cases, common_steps, Link, Reason, Preserved, Coherence}
+use Rattle.rv_versions.proofs.Common.{ReadsFrom, FromRead, AtomicIn, AtomicOut, id_of, Event, IsNearestBelow}
+use Rattle.rv_versions.proofs.Common.{IsNearestAbove, IsUnparted, link, IsExtended, AreLinked, Covers, stored}
+use Rattle.rv_versions.proofs.Common.{returned, held, IsBelow, IsAbove, ComesBefore, ComesAfter, AreTheirs}
+use Rattle.rv_versions.proofs.Common.{AreBefore, AreAfter, Accesses, Reservation, Interval, Access}
 
 -- lists extended by links to the accesses that are meant
 pub extended_same : (old new : List Link) (reason : Reason) (P Q : Access → Type 0) → ((x : Access) → P x ↔ Q x) →
@@ -150,8 +138,7 @@ module _ (log : List Event) (e : Event) (reserved : Option Reservation) (own lr 
     (theirs : AreTheirs log e reserved own lr) (l0 l1 l2 l3 l4 l5 : List Link) (nearest read held' unparted : Interval)
     (low bound : ℕ) (s r h : Option ℕ) where
   -- the links into the event
-  pub before_of :
-      s ≡ stored e → r ≡ returned e → h ≡ held reserved →
+  pub before_of : s ≡ stored e → r ≡ returned e → h ≡ held reserved →
       ((v : ℕ) → Covers nearest v ↔ IsBelow low s v) → ((v : ℕ) → Covers read v ↔ (r ≡ Some v)) →
       ((v : ℕ) → Covers held' v ↔ (h ≡ Some v)) →
       ((v : ℕ) → Covers unparted v ↔ IsBelow bound s v) →
@@ -194,8 +181,7 @@ module _ (log : List Event) (e : Event) (reserved : Option Reservation) (own lr 
     (theirs : AreTheirs log e reserved own lr) (l0 l1 l2 l3 l4 l5 : List Link)
     (next above at foreigns : Interval) (end-stored end-returned end-held : ℕ) (s r h : Option ℕ) where
   -- the links out of it
-  pub after_of :
-      s ≡ stored e → r ≡ returned e → h ≡ held reserved →
+  pub after_of : s ≡ stored e → r ≡ returned e → h ≡ held reserved →
       ((v : ℕ) → Covers next v ↔ IsAbove s end-stored v) →
       ((v : ℕ) → Covers above v ↔ IsAbove r end-returned v) →
       ((v : ℕ) → Covers at v ↔ (s ≡ Some v)) →

@@ -1,10 +1,8 @@
 -- What lists have that others make up.
-use Rattle.std.proofs.Common.{◌≡◌, ℕ, ◌<◌, List, [], ◌∷◌, map, length, get_or, Contains, zero, suc, ◌⊎◌, inl}
-use Rattle.std.proofs.Common.{inr, refl, arith, zero-lt-suc, suc-le-suc, le_of_suc-le-suc}
-use Rattle.std.specs.List.{flat_map}
-use Rattle.std.proofs.lemmas.List.Elements.{Contains-append_left, Contains-append_right, Contains-append_cases}
-use Rattle.std.proofs.lemmas.Grind.{common_steps}
-use Rattle.rv_event.proofs.Names.{Contains-cons, Contains-here, Contains-there}
+use Rattle.rv_versions.proofs.Common.{◌≡◌, ℕ, ◌<◌, List, [], ◌∷◌, map, length, get_or, Contains, zero, suc, ◌⊎◌}
+use Rattle.rv_versions.proofs.Common.{inl, inr, refl, arith, zero-lt-suc, suc-le-suc, le_of_suc-le-suc, flat_map}
+use Rattle.rv_versions.proofs.Common.{Contains-append_left, Contains-append_right, Contains-append_cases}
+use Rattle.rv_versions.proofs.Common.{common_steps, Contains-cons, Contains-here, Contains-there}
 
 -- the empty list contains nothing
 pub Contains-none : {X : Type 0} (x : X) → Contains [] x → ⊥

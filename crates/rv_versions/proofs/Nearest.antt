@@ -1,15 +1,7 @@
 -- None of the listed links of coherence and from-read could be left out.
-use Rattle.std.proofs.Common.{◌≡◌, ◌<◌, ◌≤◌, List, Contains, Option, sym, ◌∙◌, arith, subst}
-use Rattle.std.proofs.lemmas.Option.{none-some}
-use Rattle.std.proofs.lemmas.Grind.{common_steps}
-use Rattle.rv_cover.specs.Thinned.{IsNextLower, IsNextHigher, IsNearest}
-use Rattle.rv_event.proofs.Indexed.{Indexed}
-use Rattle.rv_event.specs.Operations.{IsStore}
-use Rattle.rv_event.specs.declared.event.Event.{Event}
-use Rattle.rv_event.specs.declared.reason.Link.{Link}
-use Rattle.rv_event.specs.declared.reason.Reason.TheVariants.{Coherence, FromRead}
-use Rattle.rv_versions.specs.Linked.{link, AreBefore, AreAfter}
-use Rattle.rv_versions.specs.declared.reservation.Reservation.{Reservation}
+use Rattle.rv_versions.proofs.Common.{◌≡◌, ◌<◌, ◌≤◌, List, Contains, Option, sym, ◌∙◌, arith, subst, none-some}
+use Rattle.rv_versions.proofs.Common.{common_steps, IsNextLower, IsNextHigher, IsNearest, Indexed, IsStore, Event}
+use Rattle.rv_versions.proofs.Common.{Link, Coherence, FromRead, link, AreBefore, AreAfter, Reservation}
 use Rattle.rv_versions.proofs.Around.{stored-is, returned-is}
 use Rattle.rv_versions.proofs.Found.{store_access, store_found, load_found, store_listed}
 use Rattle.rv_versions.proofs.Paired.{same_event}

@@ -1,15 +1,9 @@
 -- What the look-ups among a word's accesses say of the versions next to one.
-use Rattle.std.proofs.Common.{Contains, ◌≢◌, rules}
-use Rattle.std.proofs.Common.{◌≡◌, ℕ, ◌+◌, ◌<◌, ◌≤◌, List, Option, Some, None, inl, inr, refl}
-use Rattle.std.proofs.Common.{sym, ◌∙◌, arith}
-use Rattle.std.proofs.lemmas.Bool.{cases_lt, cases_eq}
-use Rattle.rv_event.specs.declared.event.Event.{Event}
-use Rattle.rv_versions.specs.Indexes.{AreOfWord}
-use Rattle.rv_versions.specs.declared.accesses.Accesses.{Accesses}
+use Rattle.rv_versions.proofs.Common.{Contains, ◌≢◌, rules, ◌≡◌, ℕ, ◌+◌, ◌<◌, ◌≤◌, List, Option, Some, None, inl}
+use Rattle.rv_versions.proofs.Common.{inr, refl, sym, ◌∙◌, arith, cases_lt, cases_eq, Event, AreOfWord, Accesses}
+use Rattle.rv_versions.proofs.Common.{IsLower, IsFirstFrom, IsNearestBelow, IsNearestAbove, IsForeignBelow}
+use Rattle.rv_versions.proofs.Common.{IsForeignLower, IsParted, Access}
 use Rattle.rv_versions.proofs.Found.{one_store}
-use Rattle.rv_versions.specs.Accesses.{IsLower, IsFirstFrom, IsNearestBelow, IsNearestAbove}
-use Rattle.rv_versions.specs.Lookups.{IsForeignBelow, IsForeignLower, IsParted}
-use Rattle.rv_versions.specs.declared.accesses.Access.{Access}
 
 module _ (xs : List Access) (v n : ℕ) (same : v ≡ n) where
   -- the next lower access bounds what stands between

@@ -1,21 +1,9 @@
 -- An event has an edge to itself exactly where it or its LR returned what it stores.
-use Rattle.std.proofs.Common.{◌≡◌, List, [], ◌∷◌, ◌++◌, Contains, Option, ◌↔◌, inl, inr, refl, sym, ◌∙◌, arith, subst}
-use Rattle.std.proofs.lemmas.Option.{same_Some}
-use Rattle.std.proofs.lemmas.List.Elements.{Contains-push}
-use Rattle.std.proofs.Common.{rules}
-use Rattle.std.proofs.lemmas.Grind.{common_steps}
-use Rattle.rv_cover.proofs.Covering.{edge_of}
-use Rattle.rv_event.proofs.Indexed.{Indexed, Sound, indexed-push}
-use Rattle.rv_event.proofs.Names.{writer-is}
-use Rattle.rv_event.specs.Edges.{HasReason, IsEdge}
-use Rattle.rv_event.specs.declared.event.Event.{Event}
-use Rattle.rv_event.specs.declared.memory_model.MemoryModel.{MemoryModel}
-use Rattle.rv_event.specs.declared.reason.Reason.{Reason}
-use Rattle.rv_event.specs.declared.reason.Reason.TheVariants.{Preserved, Coherence, ReadsFrom, FromRead}
-use Rattle.rv_event.specs.declared.reason.Reason.TheVariants.{AtomicIn, AtomicOut}
-use Rattle.rv_versions.specs.Own.{ReturnsOwn}
-use Rattle.rv_versions.specs.Reserved.{IsReserved}
-use Rattle.rv_versions.specs.declared.reservation.Reservation.{Reservation}
+use Rattle.rv_versions.proofs.Common.{◌≡◌, List, [], ◌∷◌, ◌++◌, Contains, Option, ◌↔◌, inl, inr, refl, sym, ◌∙◌}
+use Rattle.rv_versions.proofs.Common.{arith, subst, same_Some, Contains-push, rules, common_steps, edge_of}
+use Rattle.rv_versions.proofs.Common.{Indexed, Sound, indexed-push, writer-is, HasReason, IsEdge, Event}
+use Rattle.rv_versions.proofs.Common.{MemoryModel, Reason, Preserved, Coherence, ReadsFrom, FromRead, AtomicIn}
+use Rattle.rv_versions.proofs.Common.{AtomicOut, ReturnsOwn, IsReserved, Reservation}
 use Rattle.rv_versions.proofs.Around.{reserved_is, reserved_of, writer_own, store-memory}
 use Rattle.rv_versions.proofs.Paired.{in_new}
 

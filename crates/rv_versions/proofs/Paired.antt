@@ -1,20 +1,11 @@
 -- A new event changes no pair of old ones, and an SC is paired with one LR alone.
-use Rattle.std.proofs.Common.{◌≡◌, ◌≢◌, ◌<◌, List, [], ◌∷◌, ◌++◌, Contains, Option, Some, None}
-use Rattle.std.proofs.Common.{IsFalse, inl, inr, sym, ap, ◌∙◌, arith, subst}
-use Rattle.std.proofs.lemmas.Option.{same_Some}
-use Rattle.std.proofs.lemmas.List.Elements.{All-contains, Contains-append_left, Contains-push_cases}
-use Rattle.std.proofs.lemmas.Grind.{common_steps}
-use Rattle.rv_event.proofs.Growing.{All-from_contains, Paired-grows}
-use Rattle.rv_event.proofs.Indexed.{Indexed, Sound, indexed-push}
-use Rattle.rv_event.proofs.Settled.{grows-push}
-use Rattle.rv_event.specs.Operations.{is_exclusive}
-use Rattle.rv_event.specs.Log.{named, Earlier, Between}
-use Rattle.rv_event.specs.Relations.{Paired}
-use Rattle.rv_event.specs.declared.event.Event.{Event}
-use Rattle.rv_event.specs.declared.memory_model.MemoryModel.TheVariants.{Rvwmo}
-use Rattle.rv_versions.specs.Indexes.{IsPair, IsReservation}
-use Rattle.rv_versions.specs.Reserved.{IsPartner, IsReserved}
-use Rattle.rv_versions.specs.declared.reservation.Reservation.{Reservation}
+use Rattle.rv_versions.proofs.Common.{◌≡◌, ◌≢◌, ◌<◌, List, [], ◌∷◌, ◌++◌, Contains, Option, Some, None, IsFalse}
+use Rattle.rv_versions.proofs.Common.{inl, inr, sym, ap, ◌∙◌, arith, subst, same_Some, All-contains}
+use Rattle.rv_versions.proofs.Common.{Contains-append_left, Contains-push_cases, common_steps, All-from_contains}
+use Rattle.rv_versions.proofs.Common.{Paired-grows, Indexed, Sound, indexed-push, grows-push, is_exclusive}
+use Rattle.rv_versions.proofs.Common.{Earlier, Between, Paired, Event, Rvwmo, IsPair, IsReservation, IsPartner}
+use Rattle.rv_versions.proofs.Common.{IsReserved, Reservation}
+use Rattle.rv_event.specs.Log.{named}
 
 -- one id, one event
 pub same_event : (log : List Event) → Indexed log → (a b : Event) → Contains log a → Contains log b → a.id ≡ b.id →

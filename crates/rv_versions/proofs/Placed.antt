@@ -1,20 +1,11 @@
 -- The accesses of each word in its place.
-use Rattle.std.proofs.Common.{◌≡◌, ◌≢◌, ℕ, ◌+◌, ◌<◌, List, [], ◌∷◌, ◌++◌, length}
-use Rattle.std.proofs.Common.{get_or, set, flat_map, Contains, Option, Some, None, ◌⊎◌, inl, inr, refl, sym}
-use Rattle.std.proofs.Common.{ap, ◌∙◌, arith, subst, length-append}
-use Rattle.std.proofs.lemmas.Bool.{cases_eq}
-use Rattle.std.proofs.lemmas.List.{length-set, get_or-set_same, get_or-set_other}
-use Rattle.std.proofs.lemmas.List.Elements.{at_read}
-use Rattle.std.proofs.lemmas.Option.{same_Some, none-some}
-use Rattle.std.proofs.Common.{rules}
-use Rattle.std.proofs.lemmas.Grind.{common_steps}
-use Rattle.rv_versions.specs.Accesses.{IsOf, AreAllOf}
-use Rattle.rv_versions.specs.Indexes.{ArePostingsTo, IsInserted, IsRemoved, ByEach, AreInserted, AreRemoved}
-use Rattle.rv_versions.specs.Indexes.{AreSame, AreAbsent}
-use Rattle.rv_versions.specs.Words.{no_accesses, together, AreNumbers, StandInPlace, AreInPlace, AreThoseTo}
-use Rattle.rv_versions.specs.declared.accesses.Access.{Access}
-use Rattle.rv_versions.specs.declared.accesses.Accesses.{Accesses}
-use Rattle.rv_versions.specs.declared.accesses.Postings.{Postings}
+use Rattle.rv_versions.proofs.Common.{◌≡◌, ◌≢◌, ℕ, ◌+◌, ◌<◌, List, [], ◌∷◌, ◌++◌, length, get_or, set, flat_map}
+use Rattle.rv_versions.proofs.Common.{Contains, Option, Some, None, ◌⊎◌, inl, inr, refl, sym, ap, ◌∙◌, arith}
+use Rattle.rv_versions.proofs.Common.{subst, length-append, cases_eq, length-set, get_or-set_same}
+use Rattle.rv_versions.proofs.Common.{get_or-set_other, at_read, same_Some, none-some, rules, common_steps, IsOf}
+use Rattle.rv_versions.proofs.Common.{AreAllOf, ArePostingsTo, IsInserted, IsRemoved, ByEach, AreInserted}
+use Rattle.rv_versions.proofs.Common.{AreRemoved, AreSame, AreAbsent, no_accesses, together, AreNumbers}
+use Rattle.rv_versions.proofs.Common.{StandInPlace, AreInPlace, AreThoseTo, Access, Accesses, Postings}
 use Rattle.rv_versions.proofs.Members.{Contains-none, Contains-flat, Contains-in_flat}
 use Rattle.rv_versions.proofs.Posted.{put_none, none_put}
 
@@ -64,8 +55,7 @@ module _ (place_of place_of' : ℕ → Option ℕ) (words words' : List Accesses
       (λ word k e. same word ∙ e)
 
   -- a word that has a number now
-  pub numbered :
-      (new : ℕ) → place_of new ≡ None → place_of' new ≡ Some (length words) →
+  pub numbered : (new : ℕ) → place_of new ≡ None → place_of' new ≡ Some (length words) →
       ((word : ℕ) → new ≢ word → place_of' word ≡ place_of word) → AreInPlace place_of' words'
   numbered new none here others = moved (record { known = known; apart = apart })
       (λ word k old. others word (λ e. none-some k (sym none ∙ ap place_of e ∙ old)) ∙ old)
@@ -195,8 +185,7 @@ module _ (place_of : ℕ → Option ℕ) (words : List Accesses) (numbers : AreN
             let size = length-set words k w in
             let long = f.1 in
             elim (cases_eq f.0 k) [
-              | inl same ↦
-                  (let h = (taken x).0 (now_at f.0 x same f.2) in
+              | inl same ↦ (let h = (taken x).0 (now_at f.0 x same f.2) in
                   (Contains-in_flat these no_accesses words x k fits h.0, h.1))
               | inr ne ↦
                   (let old : Contains (these (get_or words f.0 no_accesses)) x = was f.0 x ne f.2 in (

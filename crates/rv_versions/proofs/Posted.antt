@@ -1,18 +1,9 @@
 -- What was put in and taken out, one after another.
-use Rattle.std.proofs.Common.{◌≡◌, true, false, List, Contains, Option, Some, None, Result, Ok, Err, OnOk}
-use Rattle.std.proofs.Common.{OnErr, inl, inr, sym}
-use Rattle.std.specs.Result.{is_err}
-use Rattle.std.proofs.lemmas.Bool.{false≢true}
-use Rattle.std.proofs.lemmas.Option.{none-some}
-use Rattle.std.proofs.Common.{arith}
-use Rattle.std.proofs.lemmas.Grind.{common_steps}
-use Rattle.rv_event.specs.declared.event.Event.{Event}
-use Rattle.rv_versions.specs.Indexes.{postings_of, own_postings, pair_postings, IsInserted, IsRemoved, IsSame}
-use Rattle.rv_versions.specs.Indexes.{AreInserted, AreRemoved, AreSame, AreAbsent}
-use Rattle.rv_versions.specs.declared.accesses.Access.{Access}
-use Rattle.rv_versions.specs.declared.accesses.Accesses.{Accesses}
-use Rattle.rv_versions.specs.declared.accesses.Postings.{Postings}
-use Rattle.rv_versions.specs.declared.reservation.Reservation.{Reservation}
+use Rattle.rv_versions.proofs.Common.{◌≡◌, true, false, List, Contains, Option, Some, None, Result, Ok, Err, OnOk}
+use Rattle.rv_versions.proofs.Common.{OnErr, inl, inr, sym, is_err, false≢true, none-some, arith, common_steps}
+use Rattle.rv_versions.proofs.Common.{Event, postings_of, own_postings, pair_postings, IsInserted, IsRemoved}
+use Rattle.rv_versions.proofs.Common.{IsSame, AreInserted, AreRemoved, AreSame, AreAbsent, Access, Accesses}
+use Rattle.rv_versions.proofs.Common.{Postings, Reservation}
 
 -- what an error says
 pub failed : {X E : Type 0} (r : Result X E) (P : Type 0) → is_err r ≡ true → OnErr r P → P

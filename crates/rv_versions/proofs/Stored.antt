@@ -1,16 +1,7 @@
 -- Entries, reservations and indexes change together.
-use Rattle.std.proofs.Common.{arith}
-use Rattle.std.proofs.lemmas.Grind.{common_steps}
-use Rattle.std.proofs.Common.{◌≡◌, List, [], ◌∷◌, ◌++◌, Option, None, sym, ap, ◌∙◌, subst}
-use Rattle.std.proofs.lemmas.List.{map-append}
-use Rattle.rv_event.specs.Faults.{event_fault}
-use Rattle.rv_event.specs.Log.{events}
-use Rattle.rv_event.specs.declared.event.Entry.{Entry}
-use Rattle.rv_event.specs.declared.event.Event.{Event}
-use Rattle.rv_versions.specs.Indexes.{postings_of, AreInserted, AreRemoved, AreIndexes}
-use Rattle.rv_versions.specs.Reserved.{IsReserved}
-use Rattle.rv_versions.specs.declared.accesses.Accesses.{Accesses}
-use Rattle.rv_versions.specs.declared.reservation.Reservation.{Reservation}
+use Rattle.rv_versions.proofs.Common.{arith, common_steps, ◌≡◌, List, [], ◌∷◌, ◌++◌, Option, None, sym, ap, ◌∙◌}
+use Rattle.rv_versions.proofs.Common.{subst, map-append, event_fault, events, Entry, Event, postings_of}
+use Rattle.rv_versions.proofs.Common.{AreInserted, AreRemoved, AreIndexes, IsReserved, Accesses, Reservation}
 use Rattle.rv_versions.proofs.Indexing.{indexes_push, indexes_pop}
 
 -- indexes of equal logs
@@ -32,8 +23,7 @@ pub pushed :
     ys ≡ xs ++ x ∷ [] → x.event ≡ e → qs ≡ rs ++ r ∷ [] → AreIndexes (events ys) qs new
 pushed xs ys rs qs ix new x e r known sound is put entries same reserved =
     indexes_are (events xs ++ e ∷ []) (events ys) (rs ++ r ∷ []) qs new (sym (events-push xs ys x e entries same))
-    (sym reserved)
-    (indexes_push (events xs) rs ix e r known sound new is put)
+    (sym reserved) (indexes_push (events xs) rs ix e r known sound new is put)
 
 -- and with one less
 pub popped :
@@ -44,5 +34,4 @@ pub popped :
 popped xs ys rs qs ix new x r known entries reserved taken =
     indexes_pop (events ys) qs ix new x.event r
     (indexes_are (events xs) (events ys ++ x.event ∷ []) rs (qs ++ r ∷ []) ix (ap events entries ∙
-    map-append (λ (y : Entry). y.event) ys (x ∷ [])) reserved known)
-    taken
+    map-append (λ (y : Entry). y.event) ys (x ∷ [])) reserved known) taken

@@ -1,23 +1,15 @@
 -- Lists of accesses in the order of their versions.
-use Rattle.std.proofs.Common.{◌≡◌, ◌≢◌, ℕ, ◌+◌, ◌-◌, ◌<◌, ◌≤◌, ◌↔◌, List, ◌∷◌, length, get_or, take, drop}
-use Rattle.std.proofs.Common.{insert, remove, Contains, AllPairs, HoldsAt, Option, Some, None, ◌⊎◌, inl, inr, refl}
-use Rattle.std.proofs.Common.{sym, ap, ◌∙◌, arith, subst, ltb, true, false}
-use Rattle.std.specs.List.{AllWithin}
-use Rattle.std.specs.List.Sorted.{IsPartitionPoint, IsNonDecreasingBy}
-use Rattle.std.proofs.lemmas.Bool.{cases_lt, cases_eq}
-use Rattle.std.proofs.lemmas.List.{take-append-drop, get_or-take, get_or-drop, length-take, length-drop}
-use Rattle.std.proofs.lemmas.List.Edits.{length-insert, get_or-insert_below, get_or-insert_at}
-use Rattle.std.proofs.lemmas.List.Edits.{get_or-insert_above, length-remove, get_or-remove_below}
-use Rattle.std.proofs.lemmas.List.Edits.{get_or-remove_above}
-use Rattle.std.proofs.lemmas.List.Elements.{at_read, at_from_Contains, Contains-get_or, Contains-append_left}
-use Rattle.std.proofs.lemmas.List.Elements.{Contains-append_right, Contains-append_cases}
-use Rattle.std.proofs.lemmas.Option.{same_Some}
-use Rattle.std.proofs.Common.{rules}
-use Rattle.std.proofs.lemmas.Grind.{common_steps}
-use Rattle.rv_event.proofs.Names.{Contains-here, Contains-there}
-use Rattle.rv_versions.specs.Accesses.{StandsBefore, AreByVersion, IsStart, IsLower, IsFirstFrom}
-use Rattle.rv_versions.specs.Indexes.{IsInserted, IsRemoved}
-use Rattle.rv_versions.specs.declared.accesses.Access.{Access}
+use Rattle.rv_versions.proofs.Common.{◌≡◌, ◌≢◌, ℕ, ◌+◌, ◌-◌, ◌<◌, ◌≤◌, ◌↔◌, List, ◌∷◌, length, get_or, take, drop}
+use Rattle.rv_versions.proofs.Common.{insert, remove, Contains, AllPairs, HoldsAt, Option, Some, None, ◌⊎◌, inl}
+use Rattle.rv_versions.proofs.Common.{inr, refl, sym, ap, ◌∙◌, arith, subst, ltb, true, false, AllWithin}
+use Rattle.rv_versions.proofs.Common.{IsPartitionPoint, IsNonDecreasingBy, cases_lt, cases_eq, take-append-drop}
+use Rattle.rv_versions.proofs.Common.{get_or-take, get_or-drop, length-take, length-drop, length-insert}
+use Rattle.rv_versions.proofs.Common.{get_or-insert_below, get_or-insert_at, get_or-insert_above, length-remove}
+use Rattle.rv_versions.proofs.Common.{get_or-remove_below, get_or-remove_above, at_read, at_from_Contains}
+use Rattle.rv_versions.proofs.Common.{Contains-get_or, Contains-append_left, Contains-append_right}
+use Rattle.rv_versions.proofs.Common.{Contains-append_cases, same_Some, rules, common_steps, Contains-here}
+use Rattle.rv_versions.proofs.Common.{Contains-there, StandsBefore, AreByVersion, IsStart, IsLower, IsFirstFrom}
+use Rattle.rv_versions.proofs.Common.{IsInserted, IsRemoved, Access}
 
 -- ---- any list
 
@@ -34,8 +26,7 @@ all_pairs_insert {X} R xs n y le pairs before behind i j d low high = elim (case
       moved R _ (get_or xs i d) _ (get_or xs j d) (get_or-insert_below xs n y d i (omega arith) le)
       (get_or-insert_below xs n y d j jb le) (pairs i j d low (omega arith))
   | inr ja ↦ elim (cases_eq j n) [
-    | inl at ↦
-        moved R _ (get_or xs i d) _ y (get_or-insert_below xs n y d i (omega arith) le)
+    | inl at ↦ moved R _ (get_or xs i d) _ y (get_or-insert_below xs n y d i (omega arith) le)
         (ap (λ (k : ℕ). get_or (insert xs n y) k d) at ∙ get_or-insert_at xs n y d le) (before i d (omega arith))
     | inr other ↦
         let m : ℕ = j - 1 in
@@ -88,10 +79,8 @@ module _ (xs : List Access) (ordered : AreByVersion xs) where
   apart i j d li lj other same = search (cases_lt, rules)
 
   -- and the order stays
-  pub ordered_inserted :
-      (a : Access) (n : ℕ) → n ≤ length xs → (Contains xs a → ⊥) →
-      IsStart xs (a.version + 1) n →
-      AreByVersion (insert xs n a)
+  pub ordered_inserted : (a : Access) (n : ℕ) → n ≤ length xs → (Contains xs a → ⊥) →
+      IsStart xs (a.version + 1) n → AreByVersion (insert xs n a)
   ordered_inserted a n le absent part = all_pairs_insert StandsBefore xs n a le ordered
       (λ k d l. let low : (get_or xs k d).version < a.version + 1 = part.0 k d (omega arith) l in (
         omega arith,
@@ -140,8 +129,7 @@ module _ (xs : List Access) (ordered : AreByVersion xs) where
       ]
 
   -- those before an access of a lower version are of a lower version
-  pub low_before :
-      (v p : ℕ) (b : Access) → p < length xs → b ≡ get_or xs p b → b.version < v →
+  pub low_before : (v p : ℕ) (b : Access) → p < length xs → b ≡ get_or xs p b → b.version < v →
       AllWithin (λ x. x.version < v) xs 0 (p + 1)
   low_before v p b l is low k d from upto =
       let least : (get_or xs k d).version ≤ (get_or xs p d).version = rising k p d (omega arith) l in
@@ -167,8 +155,7 @@ module _ (xs : List Access) (ordered : AreByVersion xs) where
 -- ---- the start of a version
 
 -- by a search
-pub start_found :
-    (ys xs : List Access) (v n : ℕ) → ys ≡ xs →
+pub start_found : (ys xs : List Access) (v n : ℕ) → ys ≡ xs →
     IsPartitionPoint (λ x. ltb x.version v ≡ true) (λ x. ltb x.version v ≡ false) ys n → IsStart xs v n
 start_found ys xs v n same part = grind (arith, common_steps)
 
@@ -196,8 +183,7 @@ module _ (xs : List Access) (v n : ℕ) (part : IsStart xs v n) where
 
   -- an access at a place up to another one's
   up_to : AreByVersion xs → (a x : Access) (i j : ℕ) → i ≤ j → j < length xs → HoldsAt (λ y. y ≡ a) xs i →
-      HoldsAt (λ y. y ≡ x) xs j →
-      a.version ≤ x.version
+      HoldsAt (λ y. y ≡ x) xs j → a.version ≤ x.version
   up_to ordered a x i j le l p q = search (rising, rules)
 
   low_at : (x : Access) (k : ℕ) → HoldsAt (λ y. y ≡ x) xs k → k < n → x.version < v
@@ -259,8 +245,7 @@ module _ (xs : List Access) (v n : ℕ) (part : IsStart xs v n) where
 -- ---- a part of the list
 
 -- those of the versions between
-pub is_between :
-    (xs : List Access) (from to start end : ℕ) → start ≤ end → end ≤ length xs →
+pub is_between : (xs : List Access) (from to start end : ℕ) → start ≤ end → end ≤ length xs →
     IsStart xs to end →
     AllWithin (λ x. x.version < from) xs 0 start → AllWithin (λ x. from ≤ x.version) xs start end → (x : Access) →
     Contains (take (end - start) (drop start xs)) x ↔ (Contains xs x × (from ≤ x.version) × (x.version < to))

@@ -1,8 +1,8 @@
 -- From a step's ending to the program's.
 use Rattle.std.proofs.lemmas.Grind.{common_steps}
-use Rattle.std.proofs.Common.{Global, String, ◌≡◌, ◌≢◌, ◌≤◌, ◌<◌, ℕ, List, [], ◌∷◌, Option, None, Ok, length}
-use Rattle.std.proofs.Common.{map, slice_index_or, string_bytes, sym, ◌∙◌, subst, ap, refl, arith}
-use Rattle.std.proofs.Common.{nat_eq, false, replicate}
+use Rattle.std.proofs.Common.{Global, String, ◌≡◌, ◌≢◌, ◌≤◌, ◌<◌, ℕ, List, [], ◌∷◌, Option, None, Ok, length, map}
+use Rattle.std.proofs.Common.{slice_index_or, string_bytes, sym, ◌∙◌, subst, ap, refl, arith, nat_eq, false}
+use Rattle.std.proofs.Common.{replicate}
 use Rattle.std.proofs.lemmas.Bool.{false≢true}
 use Rattle.std.proofs.lemmas.List.{length-replicate, length-map, get_or-map}
 use Rattle.clap.specs.Words.{Text}

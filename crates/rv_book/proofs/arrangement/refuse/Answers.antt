@@ -1,14 +1,6 @@
 -- The evidence is the log with the entry, in which the path is a circle.
-use Rattle.std.proofs.Common.{arith}
-use Rattle.std.proofs.lemmas.Grind.{common_steps}
-use Rattle.std.proofs.Common.{◌≡◌, List, [], ◌∷◌, ◌++◌, map, sym, ap, ◌∙◌, subst}
-use Rattle.rv_event.specs.Log.{events}
-use Rattle.rv_event.specs.declared.event.Entry.{Entry}
-use Rattle.rv_event.specs.declared.event.Event.{Event}
-use Rattle.rv_edges.specs.Kept.{grown}
-use Rattle.rv_cert.specs.Certificates.{IsClosedWalk}
-use Rattle.rv_event.specs.declared.memory_model.MemoryModel.{MemoryModel}
-use Rattle.rv_book.specs.Arranged.{EachLeads, at}
+use Rattle.rv_book.proofs.Common.{arith, common_steps, ◌≡◌, List, [], ◌∷◌, ◌++◌, map, sym, ap, ◌∙◌, subst, events}
+use Rattle.rv_book.proofs.Common.{Entry, Event, grown, IsClosedWalk, MemoryModel, EachLeads, at}
 use Rattle.rv_book.proofs.CallValues.{own_circle, leads_log}
 use Rattle.rv_book.proofs.arrangement.refuse.Goals as goal
 

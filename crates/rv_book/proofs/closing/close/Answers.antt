@@ -1,6 +1,4 @@
-use Rattle.std.proofs.lemmas.Grind.{common_steps}
-use Rattle.std.proofs.Common.{arith}
-use Rattle.rv_event.specs.Log.{events}
+use Rattle.rv_book.proofs.Common.{common_steps, arith, events}
 use Rattle.rv_book.proofs.IdWalks.{walk_step}
 use Rattle.rv_book.proofs.closing.close.Goals as goal
 

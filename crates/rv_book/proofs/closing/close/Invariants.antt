@@ -1,7 +1,4 @@
-use Rattle.std.proofs.Common.{◌≡◌, take}
-use Rattle.rv_event.specs.Log.{events}
-use Rattle.rv_cert.specs.Certificates.{IsWalk}
-use Rattle.rv_book.specs.Arranged.{walked}
+use Rattle.rv_book.proofs.Common.{◌≡◌, take, events, IsWalk, walked}
 use Rattle.rv_book.proofs.IdWalks.{end_at}
 use Rattle.rv_book.proofs.closing.close.Given as goal
 

@@ -1,5 +1,4 @@
-use Rattle.std.proofs.Common.{◌≢◌, ℕ, ◌<◌}
-use Rattle.rv_book.specs.Arranged.{at}
+use Rattle.rv_book.proofs.Common.{◌≢◌, ℕ, ◌<◌, at}
 use Rattle.rv_book.proofs.nodes.find_node.Given as goal
 
 abbrev pub invariant-loop-k : goal.invariant-loop-k

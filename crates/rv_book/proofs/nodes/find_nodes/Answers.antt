@@ -1,8 +1,4 @@
-use Rattle.std.proofs.Common.{arith, take}
-use Rattle.std.proofs.lemmas.List.{take_more}
-use Rattle.std.proofs.lemmas.List.Elements.{Contains-get_or}
-use Rattle.rv_event.specs.declared.reason.Link.{Link}
-use Rattle.rv_event.specs.declared.reason.Reason.TheVariants.{Preserved}
+use Rattle.rv_book.proofs.Common.{arith, take, take_more, Contains-get_or, Link, Preserved}
 use Rattle.rv_book.proofs.NodeLists.{nodes_more}
 use Rattle.rv_book.proofs.nodes.find_nodes.Goals as goal
 

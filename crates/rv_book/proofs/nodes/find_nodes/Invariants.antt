@@ -1,5 +1,4 @@
-use Rattle.std.proofs.Common.{take}
-use Rattle.rv_book.specs.Nodes.{AreNodes}
+use Rattle.rv_book.proofs.Common.{take, AreNodes}
 use Rattle.rv_book.proofs.nodes.find_nodes.Given as goal
 
 abbrev pub invariant-loop-link : goal.invariant-loop-link

@@ -1,5 +1,4 @@
-use Rattle.std.proofs.Common.{◌≡◌, map, take}
-use Rattle.rv_book.specs.Arranged.{at}
+use Rattle.rv_book.proofs.Common.{◌≡◌, map, take, at}
 use Rattle.rv_book.proofs.nodes.ids_at.Given as goal
 
 abbrev pub invariant-loop-node : goal.invariant-loop-node

@@ -1,7 +1,5 @@
-use Rattle.std.proofs.Common.{rules, ap₂, ◌≡◌, ◌∙◌}
-use Rattle.std.proofs.lemmas.Result.{IfOk-weaker}
-use Rattle.clap.specs.Words.{app_of, with_rule}
-use Rattle.rv_cli.specs.Command.{bare_app}
+use Rattle.rv_cli.proofs.Common.{rules, ap₂, ◌≡◌, ◌∙◌, IfOk-weaker, with_rule, bare_app}
+use Rattle.clap.specs.Words.{app_of}
 use Rattle.rv_cli.proofs.command.command_of.Goals as goal
 
 pub returns : goal.returns

@@ -1,9 +1,5 @@
-use Rattle.std.proofs.Common.{arith}
-use Rattle.std.proofs.lemmas.Grind.{common_steps}
-use Rattle.std.proofs.Common.{List, subst}
-use Rattle.clap.specs.Words.{Row, found_of, rows_of}
-use Rattle.rv_cli.specs.Asked.{SaysAsked}
-use Rattle.rv_cli.specs.declared.request.Asked.{Asked}
+use Rattle.rv_cli.proofs.Common.{arith, common_steps, List, subst, Row, rows_of, SaysAsked, Asked}
+use Rattle.clap.specs.Words.{found_of}
 use Rattle.rv_cli.proofs.words.asked.Goals as goal
 
 pub returns-clause-answer : goal.returns-clause-answer

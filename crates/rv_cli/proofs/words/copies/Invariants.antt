@@ -1,5 +1,4 @@
-use Rattle.std.proofs.Common.{◌≡◌, map, take, string_bytes}
-use Rattle.clap.specs.Walk.{texts}
+use Rattle.rv_cli.proofs.Common.{◌≡◌, map, take, string_bytes, texts}
 use Rattle.rv_cli.proofs.words.copies.Given as goal
 
 abbrev pub invariant-loop-name : goal.invariant-loop-name

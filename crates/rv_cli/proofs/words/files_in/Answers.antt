@@ -1,12 +1,9 @@
-use Rattle.std.proofs.Common.{◌∙◌, refl, Some, None}
-use Rattle.std.proofs.lemmas.List.{length-map}
-use Rattle.clap.specs.Walk.{texts}
+use Rattle.rv_cli.proofs.Common.{◌∙◌, refl, Some, None, length-map, texts}
 use Rattle.clap.specs.Words.{found_of}
 use Rattle.rv_cli.proofs.Getters.{files_read}
 use Rattle.rv_cli.proofs.words.files_in.Goals as goal
 
-pub returns-then-names-gt-MAX_FILES-clause-fault :
-    goal.returns-then-names-gt-MAX_FILES-clause-fault
+pub returns-then-names-gt-MAX_FILES-clause-fault : goal.returns-then-names-gt-MAX_FILES-clause-fault
 returns-then-names-gt-MAX_FILES-clause-fault c =
     let e = files_read (found_of c.args.matches.now) (Some (texts c.in-Some.names.now)) c.in-Some.ensures in
     rw (← e, length-map c.in-Some.names.now (λ s. s.now)) c.if-names-gt-MAX_FILES.true

@@ -1,6 +1,4 @@
-use Rattle.std.proofs.Common.{rules}
-use Rattle.std.proofs.Common.{codes}
-use Rattle.clap.proofs.WalkLemmas.{first_value-rows}
+use Rattle.rv_cli.proofs.Common.{rules, codes, first_value-rows}
 use Rattle.rv_cli.proofs.words.json_in.Goals as goal
 
 pub returns-in-Some : goal.returns-in-Some

@@ -1,5 +1,4 @@
-use Rattle.std.proofs.Common.{rules}
-use Rattle.clap.specs.Walk.{texts}
+use Rattle.rv_cli.proofs.Common.{rules, texts}
 use Rattle.clap.specs.Words.{app_of}
 use Rattle.rv_cli.proofs.Values.{parses, unmade}
 use Rattle.rv_cli.proofs.words.matches_in.Goals as goal

@@ -1,8 +1,7 @@
-use Rattle.std.proofs.Common.{◌≡◌, ◌≤◌, ◌∙◌, ℕ, Option, ap, sym, subst, arith, codes}
-use Rattle.std.specs.Prelude.{unwrap_or}
-use Rattle.std.specs.Str.Parse.{ParsesUnsigned, ExplainsUnsignedError, HasUnsignedDigitsIfOk}
-use Rattle.clap.specs.Words.{found_of, one_of, rows_of}
-use Rattle.rv_cli.specs.Asked.{SaysNumber}
+use Rattle.rv_cli.proofs.Common.{◌≡◌, ◌≤◌, ◌∙◌, ℕ, Option, ap, sym, subst, arith, codes, unwrap_or}
+use Rattle.rv_cli.proofs.Common.{ParsesUnsigned, ExplainsUnsignedError, HasUnsignedDigitsIfOk, one_of, rows_of}
+use Rattle.rv_cli.proofs.Common.{SaysNumber}
+use Rattle.clap.specs.Words.{found_of}
 use Rattle.rv_cli.proofs.Getters.{number_read}
 use Rattle.rv_cli.proofs.words.workers_in.Goals as goal
 

@@ -1,6 +1,5 @@
 -- What a look at the hart's events gives.
-use Rattle.std.proofs.Common.{ap, ◌∙◌}
-use Rattle.rv_event.specs.Contexts.{is_bad_on}
+use Rattle.rv_edges.proofs.Common.{ap, ◌∙◌, is_bad_on}
 use Rattle.rv_edges.proofs.history.is_bad.Goals as goal
 
 pub returns : goal.returns

@@ -1,7 +1,5 @@
 -- A hart that is opened has no events, as it had before.
-use Rattle.std.proofs.Common.{sym, ◌∙◌, subst, arith}
-use Rattle.std.proofs.lemmas.Grind.{common_steps}
-use Rattle.rv_edges.specs.Indexes.{AreHarts}
+use Rattle.rv_edges.proofs.Common.{sym, ◌∙◌, subst, arith, common_steps, AreHarts}
 use Rattle.rv_edges.proofs.GrownHarts.{harts-opened}
 use Rattle.rv_edges.proofs.history.open_harts.Goals as goal
 

@@ -1,6 +1,4 @@
-use Rattle.std.proofs.Common.{◌≡◌, List, length}
-use Rattle.rv_event.specs.declared.event.Event.{Event}
-use Rattle.rv_edges.specs.Indexes.{AreHarts}
+use Rattle.rv_edges.proofs.Common.{◌≡◌, List, length, Event, AreHarts}
 use Rattle.rv_edges.proofs.history.open_harts.Given as goal
 
 abbrev pub invariant-loop-next : goal.invariant-loop-next

@@ -1,6 +1,5 @@
 -- What the context says, the log says.
-use Rattle.std.proofs.Common.{◌∙◌, ap}
-use Rattle.rv_event.specs.Faults.{lowest}
+use Rattle.rv_event.proofs.Common.{◌∙◌, ap, lowest}
 use Rattle.rv_event.proofs.Contexts.{faults-in}
 use Rattle.rv_event.proofs.context.first_fault.Goals as goal
 

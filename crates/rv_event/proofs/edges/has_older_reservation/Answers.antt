@@ -1,8 +1,5 @@
-use Rattle.std.proofs.Common.{◌≡◌, ◌<◌, rules, tests}
-use Rattle.std.proofs.lemmas.Iterator.{cases_from_any, YieldsList-from_slice}
-use Rattle.rv_event.specs.Log.{events}
-use Rattle.rv_event.specs.Relations.{Paired}
-use Rattle.rv_event.specs.declared.event.Event.{Event}
+use Rattle.rv_event.proofs.Common.{◌≡◌, ◌<◌, rules, tests, cases_from_any, YieldsList-from_slice, events, Paired}
+use Rattle.rv_event.proofs.Common.{Event}
 use Rattle.rv_event.proofs.Scans.{any_event}
 use Rattle.rv_event.proofs.edges.has_older_reservation.Goals as goal
 

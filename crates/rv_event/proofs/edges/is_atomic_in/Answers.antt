@@ -1,8 +1,5 @@
-use Rattle.std.proofs.Common.{◌≡◌, Some, rules, tests}
-use Rattle.std.proofs.lemmas.Iterator.{cases_from_any, YieldsList-from_slice}
-use Rattle.rv_event.specs.Log.{events, writer}
-use Rattle.rv_event.specs.Relations.{Paired}
-use Rattle.rv_event.specs.declared.event.Event.{Event}
+use Rattle.rv_event.proofs.Common.{◌≡◌, Some, rules, tests, cases_from_any, YieldsList-from_slice, events, writer}
+use Rattle.rv_event.proofs.Common.{Paired, Event}
 use Rattle.rv_event.proofs.Scans.{any_event}
 use Rattle.rv_event.proofs.edges.is_atomic_in.Goals as goal
 

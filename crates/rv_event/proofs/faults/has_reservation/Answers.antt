@@ -1,5 +1,4 @@
-use Rattle.std.proofs.lemmas.Grind.{common_steps}
-use Rattle.std.proofs.Common.{arith}
+use Rattle.rv_event.proofs.Common.{common_steps, arith}
 use Rattle.rv_event.proofs.faults.has_reservation.Goals as goal
 
 pub loop-entry-preserved : goal.loop-entry-preserved

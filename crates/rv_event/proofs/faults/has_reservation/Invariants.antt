@@ -1,6 +1,4 @@
-use Rattle.std.proofs.Common.{◌≡◌, take}
-use Rattle.rv_event.specs.Log.{events}
-use Rattle.rv_event.specs.Faults.{is_reserved}
+use Rattle.rv_event.proofs.Common.{◌≡◌, take, events, is_reserved}
 use Rattle.rv_event.proofs.faults.has_reservation.Given as goal
 
 abbrev pub invariant-loop-entry : goal.invariant-loop-entry

@@ -1,8 +1,6 @@
 -- The log is well formed as far as it was looked at.
-use Rattle.std.proofs.lemmas.Bool.{false≢true}
+use Rattle.rv_event.proofs.Common.{false≢true, common_steps, sym, ◌∙◌, arith}
 use Rattle.rv_event.proofs.Bounded.{length-WellFormed}
-use Rattle.std.proofs.lemmas.Grind.{common_steps}
-use Rattle.std.proofs.Common.{sym, ◌∙◌, arith}
 use Rattle.rv_event.proofs.Checked.{one_more, none_more}
 use Rattle.rv_event.proofs.Pushed.{WellFormed-nil}
 use Rattle.rv_event.proofs.faults.is_well_formed.Goals as goal

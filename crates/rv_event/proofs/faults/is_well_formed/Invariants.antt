@@ -1,5 +1,4 @@
-use Rattle.std.proofs.Common.{take}
-use Rattle.rv_event.specs.WellFormed.{WellFormed}
+use Rattle.rv_event.proofs.Common.{take, WellFormed}
 use Rattle.rv_event.proofs.faults.is_well_formed.Given as goal
 
 -- what was looked at is well formed

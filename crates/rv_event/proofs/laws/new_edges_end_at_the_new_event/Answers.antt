@@ -1,14 +1,9 @@
 -- The log before the last entry is well formed, and the last entry has no fault over it.
-use Rattle.std.proofs.Common.{◌∷◌, [], List, subst}
-use Rattle.std.proofs.lemmas.List.{map-append}
-use Rattle.rv_event.specs.Log.{events}
-use Rattle.rv_event.specs.Edges.{IsEdge}
-use Rattle.rv_event.specs.Faults.{source_fault, deps_fault}
+use Rattle.rv_event.proofs.Common.{◌∷◌, [], List, subst, map-append, events, IsEdge, source_fault, deps_fault}
+use Rattle.rv_event.proofs.Common.{Event, Entry}
 use Rattle.rv_event.proofs.Indexed.{indexed_from_WellFormed, sound_from_none}
 use Rattle.rv_event.proofs.Pushed.{WellFormed-front, WellFormed-last}
 use Rattle.rv_event.proofs.Settled.{edge-push}
-use Rattle.rv_event.specs.declared.event.Event.{Event}
-use Rattle.rv_event.specs.declared.event.Entry.{Entry}
 use Rattle.rv_event.proofs.laws.new_edges_end_at_the_new_event.Goals as goal
 
 pub returns : goal.returns

@@ -1,6 +1,4 @@
-use Rattle.std.proofs.Common.{rules}
-use Rattle.std.proofs.Common.{◌<◌, arith}
-use Rattle.rv_event.specs.Log.{events}
+use Rattle.rv_event.proofs.Common.{rules, ◌<◌, arith, events}
 use Rattle.rv_event.proofs.Conditions.{Condition-above, Condition-number}
 use Rattle.rv_event.proofs.preserved.lowest_rule.Goals as goal
 

@@ -1,6 +1,4 @@
-use Rattle.std.proofs.Common.{ℕ, ◌<◌}
-use Rattle.rv_event.specs.Log.{events}
-use Rattle.rv_event.specs.Preserved.{IsPreserved}
+use Rattle.rv_event.proofs.Common.{ℕ, ◌<◌, events, IsPreserved}
 use Rattle.rv_event.proofs.preserved.lowest_rule.Given as goal
 
 -- no rule below k

@@ -1,10 +1,5 @@
-use Rattle.std.proofs.Common.{◌≡◌, rules, tests}
-use Rattle.std.proofs.lemmas.Iterator.{cases_from_any, YieldsList-from_slice}
-use Rattle.rv_event.specs.Log.{Between}
-use Rattle.rv_event.specs.Relations.{DependsOn}
-use Rattle.rv_event.specs.declared.event.DepKind.TheVariants.{Ctrl}
-use Rattle.rv_event.specs.declared.event.Op.TheVariants.{Branch}
-use Rattle.rv_event.specs.declared.event.Event.{Event}
+use Rattle.rv_event.proofs.Common.{◌≡◌, rules, tests, cases_from_any, YieldsList-from_slice, Between, DependsOn}
+use Rattle.rv_event.proofs.Common.{Ctrl, Branch, Event}
 use Rattle.rv_event.proofs.Scans.{any_event}
 use Rattle.rv_event.proofs.relations.control_depends_on.Goals as goal
 

@@ -1,8 +1,5 @@
-use Rattle.std.proofs.Common.{IsTrue, rules, tests}
-use Rattle.std.proofs.lemmas.Iterator.{cases_from_any, YieldsList-from_slice}
-use Rattle.rv_event.specs.Log.{Between}
-use Rattle.rv_event.specs.Relations.{fence_orders}
-use Rattle.rv_event.specs.declared.event.Event.{Event}
+use Rattle.rv_event.proofs.Common.{IsTrue, rules, tests, cases_from_any, YieldsList-from_slice, Between}
+use Rattle.rv_event.proofs.Common.{fence_orders, Event}
 use Rattle.rv_event.proofs.Scans.{any_event}
 use Rattle.rv_event.proofs.relations.is_fenced.Goals as goal
 

@@ -1,8 +1,5 @@
-use Rattle.std.proofs.Common.{IsFalse, rules, tests}
-use Rattle.std.proofs.lemmas.Iterator.{cases_from_all, YieldsList-from_slice}
-use Rattle.rv_event.specs.Log.{Between}
-use Rattle.rv_event.specs.Operations.{is_exclusive}
-use Rattle.rv_event.specs.declared.event.Event.{Event}
+use Rattle.rv_event.proofs.Common.{IsFalse, rules, tests, cases_from_all, YieldsList-from_slice, Between}
+use Rattle.rv_event.proofs.Common.{is_exclusive, Event}
 use Rattle.rv_event.proofs.Scans.{all_event}
 use Rattle.rv_event.proofs.relations.is_free_of_exclusives.Goals as goal
 

@@ -1,9 +1,5 @@
-use Rattle.std.proofs.Common.{rules, tests}
-use Rattle.std.proofs.lemmas.Iterator.{cases_from_any, YieldsList-from_slice}
-use Rattle.rv_event.specs.Log.{Between}
-use Rattle.rv_event.specs.Relations.{DependsOn}
-use Rattle.rv_event.specs.declared.event.DepKind.TheVariants.{Addr}
-use Rattle.rv_event.specs.declared.event.Event.{Event}
+use Rattle.rv_event.proofs.Common.{rules, tests, cases_from_any, YieldsList-from_slice, Between, DependsOn, Addr}
+use Rattle.rv_event.proofs.Common.{Event}
 use Rattle.rv_event.proofs.Scans.{any_event}
 use Rattle.rv_event.proofs.rules.has_dependent_address.Goals as goal
 

@@ -1,7 +1,4 @@
-use Rattle.std.proofs.Common.{rules, tests}
-use Rattle.std.proofs.lemmas.Iterator.{cases_from_any, YieldsList-from_slice}
-use Rattle.rv_event.specs.Preserved.{IsDependentWrite}
-use Rattle.rv_event.specs.declared.event.Event.{Event}
+use Rattle.rv_event.proofs.Common.{rules, tests, cases_from_any, YieldsList-from_slice, IsDependentWrite, Event}
 use Rattle.rv_event.proofs.Scans.{any_event}
 use Rattle.rv_event.proofs.rules.has_dependent_write.Goals as goal
 

@@ -1,10 +1,10 @@
 -- Each arm tests what its rule says.
 use Rattle.std.proofs.Common.{rules}
 use Rattle.rv_event.specs.Log.{events}
-use Rattle.rv_event.proofs.Conditions.{overlapping_store_at, different_reads_at, reads_atomic_write_at}
-use Rattle.rv_event.proofs.Conditions.{fenced_at, after_acquire_at, before_release_at, both_rcsc_at}
-use Rattle.rv_event.proofs.Conditions.{paired_at, address_at, data_of_at, control_at}
-use Rattle.rv_event.proofs.Conditions.{reads_dependent_write_at, after_dependent_address_at}
+use Rattle.rv_event.proofs.Conditions.{overlapping_store_at, different_reads_at, reads_atomic_write_at, fenced_at}
+use Rattle.rv_event.proofs.Conditions.{after_acquire_at, before_release_at, both_rcsc_at, paired_at, address_at}
+use Rattle.rv_event.proofs.Conditions.{data_of_at, control_at, reads_dependent_write_at}
+use Rattle.rv_event.proofs.Conditions.{after_dependent_address_at}
 use Rattle.rv_event.proofs.rules.is_condition.Goals as goal
 
 pub returns-in-1 : goal.returns-in-1

@@ -1,8 +1,5 @@
-use Rattle.std.proofs.Common.{◌≢◌, rules, tests}
-use Rattle.std.proofs.lemmas.Iterator.{cases_from_all, YieldsList-from_slice}
-use Rattle.rv_event.specs.Log.{Between}
-use Rattle.rv_event.specs.Operations.{IsStore}
-use Rattle.rv_event.specs.declared.event.Event.{Event}
+use Rattle.rv_event.proofs.Common.{◌≢◌, rules, tests, cases_from_all, YieldsList-from_slice, Between, IsStore}
+use Rattle.rv_event.proofs.Common.{Event}
 use Rattle.rv_event.proofs.Scans.{all_event}
 use Rattle.rv_event.proofs.rules.is_free_of_stores.Goals as goal
 

@@ -1,5 +1,4 @@
-use Rattle.std.proofs.Common.{◌≡◌, None, take}
-use Rattle.rv_event.specs.Log.{events, named}
+use Rattle.rv_event.proofs.Common.{◌≡◌, None, take, events, named}
 use Rattle.rv_event.proofs.search.find_named.Given as goal
 
 abbrev pub invariant-loop-entry : goal.invariant-loop-entry

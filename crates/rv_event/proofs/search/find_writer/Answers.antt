@@ -1,5 +1,4 @@
-use Rattle.std.proofs.Common.{rules}
-use Rattle.std.proofs.lemmas.Bool.{ne_eqb}
+use Rattle.rv_event.proofs.Common.{rules, ne_eqb}
 use Rattle.rv_event.proofs.Indexed.{writer-above}
 use Rattle.rv_event.proofs.Scans.{found_at, none_more}
 use Rattle.rv_event.proofs.search.find_writer.Goals as goal

@@ -1,5 +1,4 @@
-use Rattle.std.proofs.Common.{◌≡◌, None, take, find}
-use Rattle.rv_event.specs.Log.{events, did_write}
+use Rattle.rv_event.proofs.Common.{◌≡◌, None, take, find, events, did_write}
 use Rattle.rv_event.proofs.search.find_writer.Given as goal
 
 abbrev pub invariant-loop-entry : goal.invariant-loop-entry

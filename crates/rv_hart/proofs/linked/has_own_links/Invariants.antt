@@ -1,5 +1,4 @@
-use Rattle.std.proofs.Common.{take, All}
-use Rattle.rv_hart.specs.Linked.{HasOwn}
+use Rattle.rv_hart.proofs.Common.{take, All, HasOwn}
 use Rattle.rv_hart.proofs.linked.has_own_links.Given as goal
 
 abbrev pub invariant-loop-link : goal.invariant-loop-link

@@ -1,11 +1,8 @@
-use Rattle.std.proofs.Common.{◌≡◌, ◌+◌, List, ℕ, get_or, sym, subst, take}
-use Rattle.std.proofs.lemmas.List.{take_all, get_or_default}
-use Rattle.std.proofs.lemmas.List.Elements.{Contains-get_or}
-use Rattle.rv_event.specs.declared.reason.Link.{Link}
-use Rattle.rv_event.specs.declared.reason.Reason.TheVariants.{Preserved}
+use Rattle.rv_hart.proofs.Common.{◌≡◌, ◌+◌, List, ℕ, get_or, sym, subst, take, take_all, get_or_default}
+use Rattle.rv_hart.proofs.Common.{Contains-get_or, Link, Preserved}
 use Rattle.rv_hart.proofs.FromLinks.{IsJoined, joined-none, joined-more, joined-same}
-use Rattle.rv_hart.proofs.linked.join_linked.Goals as goal
 use Rattle.rv_hart.proofs.linked.join_linked.Goals.{in-Preserved, in_default}
+use Rattle.rv_hart.proofs.linked.join_linked.Goals as goal
 
 pub join_into-requires : goal.join_into-requires
 join_into-requires c =

@@ -1,15 +1,9 @@
-use Rattle.std.proofs.Common.{◌≡◌, ◌+◌, take, sym, ◌∙◌, ◌||◌, IsTrue, subst, List, ℕ, rules, tests, get_or}
-use Rattle.std.proofs.lemmas.List.{take_all, get_or_default}
-use Rattle.std.proofs.Common.{arith}
-use Rattle.std.proofs.lemmas.Grind.{common_steps}
-use Rattle.rv_event.specs.declared.event.Dep.{Dep}
-use Rattle.rv_event.specs.declared.event.DepKind.TheVariants.{Addr}
-use Rattle.rv_rows.specs.Bits.{has_bit}
+use Rattle.rv_hart.proofs.Common.{◌≡◌, ◌+◌, take, sym, ◌∙◌, ◌||◌, IsTrue, subst, List, ℕ, rules, tests, get_or}
+use Rattle.rv_hart.proofs.Common.{take_all, get_or_default, arith, common_steps, Dep, Addr, has_bit}
 use Rattle.rv_hart.proofs.DependencyRows.{AddsNamed, named-more, named-same}
-use Rattle.rv_hart.proofs.sets.add_dependencies.Goals as goal
 use Rattle.rv_hart.proofs.sets.add_dependencies.Goals.{then-eq+then-has_either, else-eq}
-use Rattle.rv_hart.proofs.sets.add_dependencies.Goals.{else-eq-via-then-eq+else-has_either}
-use Rattle.rv_hart.proofs.sets.add_dependencies.Goals.{else-eq-via-else-eq}
+use Rattle.rv_hart.proofs.sets.add_dependencies.Goals.{else-eq-via-then-eq+else-has_either, else-eq-via-else-eq}
+use Rattle.rv_hart.proofs.sets.add_dependencies.Goals as goal
 
 pub loop-dep-preserved : goal.loop-dep-preserved
 loop-dep-preserved c =

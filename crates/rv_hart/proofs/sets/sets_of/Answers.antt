@@ -1,10 +1,5 @@
-use Rattle.std.proofs.Common.{◌≡◌, ◌<◌, ◌+◌, ◌∷◌, ◌++◌, [], List, ℕ, length, take, get_or, refl, sym, ap, ◌∙◌, subst}
-use Rattle.std.proofs.lemmas.List.{take_all}
-use Rattle.std.proofs.Common.{arith}
-use Rattle.std.proofs.lemmas.Grind.{common_steps}
-use Rattle.rv_event.specs.declared.event.Event.{Event}
-use Rattle.rv_hart.specs.Harts.{IsHart, Follows}
-use Rattle.rv_hart.specs.Sets.{AreSets}
+use Rattle.rv_hart.proofs.Common.{◌≡◌, ◌<◌, ◌+◌, ◌∷◌, ◌++◌, [], List, ℕ, length, take, get_or, refl, sym, ap, ◌∙◌}
+use Rattle.rv_hart.proofs.Common.{subst, take_all, arith, common_steps, Event, IsHart, Follows, AreSets}
 use Rattle.rv_hart.proofs.GrownHart.{hart-take, hart-first}
 use Rattle.rv_hart.proofs.sets.sets_of.Goals as goal
 
@@ -16,7 +11,8 @@ loop-number-preserved c = λ h ok model is.
     let es : List Event = c.args.events.now in
     let i : ℕ = c.loop-number.number in
     let e : Event = c.at-event.result.now in
-    let low : i < length h.events = subst (λ (xs : List Event). i < length xs) (sym is) (omega (arith, c.loop-number-test.true, c.len-number-end.ensures)) in
+    let low : i < length h.events = subst (λ (xs : List Event). i < length xs) (sym is)
+    (omega (arith, c.loop-number-test.true, c.len-number-end.ensures)) in
     let read : e ≡ get_or h.events i e = c.at-event.ensures ∙ ap (λ (xs : List Event). get_or xs i e) (sym is) in
     let taken : take i h.events ≡ take i es = ap (take i) is in
     let first : IsHart (record h { events = take i es }) =

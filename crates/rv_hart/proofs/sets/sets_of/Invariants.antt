@@ -1,6 +1,4 @@
-use Rattle.std.proofs.Common.{◌≡◌, take}
-use Rattle.rv_hart.specs.Harts.{Hart, IsHart}
-use Rattle.rv_hart.specs.Sets.{AreSets}
+use Rattle.rv_hart.proofs.Common.{◌≡◌, take, Hart, IsHart, AreSets}
 use Rattle.rv_hart.proofs.sets.sets_of.Given as goal
 
 abbrev pub invariant-loop-number : goal.invariant-loop-number

@@ -1,12 +1,9 @@
+use Rattle.rv_rank.proofs.Common.{rules, arith, length, ◌<◌, sym, ◌∙◌, common_steps, is_slot, members_of}
 use Rattle.rv_rank.proofs.Marks.{mark_at-below}
-use Rattle.std.proofs.Common.{rules, arith, length, ◌<◌, sym, ◌∙◌}
-use Rattle.std.proofs.lemmas.Grind.{common_steps}
-use Rattle.rv_rank.specs.Marks.{is_slot}
-use Rattle.rv_rank.specs.Mended.{members_of}
-use Rattle.rv_rank.proofs.Slots.{below_yes, below_no, below_mono, below_none, below_few}
-use Rattle.rv_rank.proofs.Slots.{members_of-long, IsMended-more, IsMended-skip}
-use Rattle.rv_rank.proofs.order.mend.Goals as goal
+use Rattle.rv_rank.proofs.Slots.{below_yes, below_no, below_mono, below_none, below_few, members_of-long}
+use Rattle.rv_rank.proofs.Slots.{IsMended-more, IsMended-skip}
 use Rattle.rv_rank.proofs.order.mend.Goals.{then-is_slot, else-is_slot}
+use Rattle.rv_rank.proofs.order.mend.Goals as goal
 
 pub loop-rank-init : goal.loop-rank-init
 loop-rank-init c = search (below_none, mark_at-below, rules)

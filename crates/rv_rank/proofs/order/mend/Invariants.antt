@@ -1,6 +1,4 @@
-use Rattle.std.proofs.Common.{◌≡◌, length}
-use Rattle.rv_rank.specs.Mended.{count_below, IsMended}
-use Rattle.rv_rank.specs.Plan.{slot_in, members_in}
+use Rattle.rv_rank.proofs.Common.{◌≡◌, length, count_below, IsMended, slot_in, members_in}
 use Rattle.rv_rank.proofs.order.mend.Given as goal
 
 abbrev pub invariant-loop-rank : goal.invariant-loop-rank

@@ -1,6 +1,4 @@
-use Rattle.std.proofs.Common.{arith, drop, [], length, ◌≡◌, ◌+◌, ◌++◌, ◌∷◌}
-use Rattle.std.proofs.lemmas.List.{take_at}
-use Rattle.std.proofs.lemmas.Grind.{common_steps}
+use Rattle.rv_rank.proofs.Common.{arith, drop, [], length, ◌≡◌, ◌+◌, ◌++◌, ◌∷◌, take_at, common_steps}
 use Rattle.rv_rank.proofs.Members.{roster, final_inverse, final_local}
 use Rattle.rv_rank.proofs.order.place_members.Goals as goal
 

@@ -1,16 +1,9 @@
-use Rattle.rv_rank.proofs.Marks.{cases_free}
-use Rattle.rv_rank.proofs.Marks.{marked_within}
-use Rattle.std.proofs.Common.{arith, get_or, length, ◌≡◌, ◌<◌}
-use Rattle.std.proofs.lemmas.List.{take_all}
-use Rattle.std.proofs.lemmas.List.Elements.{All-more, Contains-get_or}
-use Rattle.std.proofs.Common.{rules}
-use Rattle.std.proofs.lemmas.Grind.{common_steps}
-use Rattle.rv_rank.specs.Marks.{mark_of}
-use Rattle.rv_rank.specs.declared.search.Mark.TheVariants.{Free}
-use Rattle.rv_rank.proofs.Marks.{read_free, read_marked}
-use Rattle.rv_rank.proofs.search.first_marked.Goals as goal
+use Rattle.rv_rank.proofs.Common.{arith, get_or, length, ◌≡◌, ◌<◌, take_all, All-more, Contains-get_or, rules}
+use Rattle.rv_rank.proofs.Common.{common_steps, mark_of, Free}
+use Rattle.rv_rank.proofs.Marks.{cases_free, marked_within, read_free, read_marked}
 use Rattle.rv_rank.proofs.search.first_marked.Goals.{else-rank-low-via-then-rank-low+else-not-is_free}
 use Rattle.rv_rank.proofs.search.first_marked.Goals.{else-rank-low-via-else-rank-low}
+use Rattle.rv_rank.proofs.search.first_marked.Goals as goal
 
 pub returns-then-not-is_free : goal.returns-then-not-is_free
 returns-then-not-is_free c = grind (arith, common_steps, Contains-get_or, read_marked)

@@ -1,10 +1,9 @@
-use Rattle.std.proofs.Common.{arith, get_or, length, ◌<◌, ◌≤◌, sym, ◌∙◌}
-use Rattle.rv_rank.specs.Marks.{IsMarked}
+use Rattle.rv_rank.proofs.Common.{arith, get_or, length, ◌<◌, ◌≤◌, sym, ◌∙◌, IsMarked}
 use Rattle.rv_rank.proofs.Marks.{read_free, read_marked, IsSpread-more, IsSpread-skip}
-use Rattle.rv_rank.proofs.search.mark_above.Goals as goal
 use Rattle.rv_rank.proofs.search.mark_above.Goals.{then-rank-low+then-is_free, else-rank-low}
 use Rattle.rv_rank.proofs.search.mark_above.Goals.{else-rank-low-via-then-rank-low+else-is_free}
 use Rattle.rv_rank.proofs.search.mark_above.Goals.{else-rank-low-via-else-rank-low}
+use Rattle.rv_rank.proofs.search.mark_above.Goals as goal
 
 pub loop-target-preserved : goal.loop-target-preserved
 loop-target-preserved c =

@@ -1,5 +1,4 @@
-use Rattle.std.proofs.Common.{take}
-use Rattle.rv_rank.specs.Marks.{IsSpread}
+use Rattle.rv_rank.proofs.Common.{take, IsSpread}
 use Rattle.rv_rank.proofs.search.mark_above.Given as goal
 
 abbrev pub invariant-loop-target : goal.invariant-loop-target

@@ -1,9 +1,5 @@
-use Rattle.std.proofs.lemmas.Bool.{cases_lt}
-use Rattle.rv_rank.proofs.Marks.{mark_at-below}
-use Rattle.rv_rank.proofs.Marks.{mark_at-above}
-use Rattle.std.proofs.Common.{length, ap}
-use Rattle.std.proofs.lemmas.Result.{err_from_is_err_and}
-use Rattle.std.proofs.Common.{rules}
+use Rattle.rv_rank.proofs.Common.{cases_lt, length, ap, err_from_is_err_and, rules}
+use Rattle.rv_rank.proofs.Marks.{mark_at-below, mark_at-above}
 use Rattle.rv_rank.proofs.Listing.{listed_all_few}
 use Rattle.rv_rank.proofs.Finding.{circle_from_trail, only_ahead, found_both}
 use Rattle.rv_rank.proofs.search.sweep.Goals as goal

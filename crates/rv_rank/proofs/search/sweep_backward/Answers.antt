@@ -1,16 +1,8 @@
-use Rattle.rv_rank.proofs.Listing.{listed_all_few}
-use Rattle.std.proofs.Common.{length-drop}
-use Rattle.std.proofs.Common.{arith, get_or, [], length, ◌≡◌, ◌<◌, ◌≤◌, ◌+◌, ◌-◌, ◌∙◌, refl, ap}
-use Rattle.std.proofs.Common.{sym, ℕ, true, drop, reverse, length-append}
-use Rattle.std.specs.List.{filter}
-use Rattle.std.proofs.lemmas.List.{length-reverse}
-use Rattle.std.proofs.lemmas.List.Elements.{Contains-get_or}
-use Rattle.std.proofs.lemmas.Grind.{common_steps}
-use Rattle.std.proofs.Common.{rules}
-use Rattle.rv_rank.specs.Marks.{mark_of, is_behind, is_behind_of}
-use Rattle.rv_rank.specs.declared.search.Mark.TheVariants.{Behind}
+use Rattle.rv_rank.proofs.Common.{length-drop, arith, get_or, [], length, ◌≡◌, ◌<◌, ◌≤◌, ◌+◌, ◌-◌, ◌∙◌, refl, ap}
+use Rattle.rv_rank.proofs.Common.{sym, ℕ, true, drop, reverse, length-append, filter, length-reverse}
+use Rattle.rv_rank.proofs.Common.{Contains-get_or, common_steps, rules, mark_of, is_behind, is_behind_of, Behind}
+use Rattle.rv_rank.proofs.Listing.{listed_all_few, listed_down_more, listed_from}
 use Rattle.rv_rank.proofs.Marks.{below_free, read_of, spread_same, behind_is, not_behind}
-use Rattle.rv_rank.proofs.Listing.{listed_down_more, listed_from}
 use Rattle.rv_rank.proofs.Growth.{edge_from}
 use Rattle.rv_rank.proofs.Tracing.{behind_marked, IsTraced-begin, IsTraced-more, IsTraced-skip}
 use Rattle.rv_rank.proofs.search.sweep_backward.Goals as goal

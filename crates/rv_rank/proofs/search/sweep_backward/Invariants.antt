@@ -1,7 +1,5 @@
-use Rattle.std.proofs.Common.{◌≡◌, ◌≤◌, ◌++◌, length, drop, reverse}
-use Rattle.std.specs.List.{filter}
-use Rattle.rv_rank.specs.Marks.{IsTraced, is_behind_of}
-use Rattle.rv_rank.specs.Found.{IsSameGraph}
+use Rattle.rv_rank.proofs.Common.{◌≡◌, ◌≤◌, ◌++◌, length, drop, reverse, filter, IsTraced, is_behind_of}
+use Rattle.rv_rank.proofs.Common.{IsSameGraph}
 use Rattle.rv_rank.proofs.search.sweep_backward.Given as goal
 
 abbrev pub invariant-loop-rank : goal.invariant-loop-rank

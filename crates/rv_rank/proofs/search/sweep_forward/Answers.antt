@@ -1,15 +1,10 @@
-use Rattle.rv_rank.proofs.Listing.{listed_all_few}
-use Rattle.std.proofs.lemmas.List.{length-take}
-use Rattle.std.proofs.Common.{arith, get_or, [], length, ◌≡◌, ◌<◌, ◌≤◌, ◌∙◌, ap, sym, ℕ, true}
-use Rattle.std.proofs.Common.{rules}
-use Rattle.std.proofs.lemmas.Grind.{common_steps}
-use Rattle.rv_rank.specs.Marks.{mark_of, is_ahead, is_ahead_of}
-use Rattle.rv_rank.specs.declared.search.Mark.TheVariants.{After}
+use Rattle.rv_rank.proofs.Common.{length-take, arith, get_or, [], length, ◌≡◌, ◌<◌, ◌≤◌, ◌∙◌, ap, sym, ℕ, true}
+use Rattle.rv_rank.proofs.Common.{rules, common_steps, mark_of, is_ahead, is_ahead_of, After}
+use Rattle.rv_rank.proofs.Listing.{listed_all_few, listed_none, listed_more, listed_skip}
 use Rattle.rv_rank.proofs.Marks.{below_free, read_free, read_marked, spread_same, ahead_else}
-use Rattle.rv_rank.proofs.Listing.{listed_none, listed_more, listed_skip}
 use Rattle.rv_rank.proofs.Searching.{IsSearched-more, IsSearched-skip, targets_below}
-use Rattle.rv_rank.proofs.search.sweep_forward.Goals as goal
 use Rattle.rv_rank.proofs.search.sweep_forward.Goals.{then-not-is_free, else-not-is_free}
+use Rattle.rv_rank.proofs.search.sweep_forward.Goals as goal
 
 pub loop-rank-init : goal.loop-rank-init
 loop-rank-init c = search (listed_none, below_free, rules)
@@ -67,8 +62,7 @@ loop-rank-preserved c =
             same = grind (arith, common_steps);
           })
       | else-not-is_free w ↦
-          let free =
-          read_free low ranks old (get_or nodes r 0) r here.0 high (sym here.1)
+          let free = read_free low ranks old (get_or nodes r 0) r here.0 high (sym here.1)
           (sym c.is_free.ensures.value ∙ w.if-not-is_free.false) in
           rw (w.marks-is, w.walk-is) (record {
             searched = search (IsSearched-skip, rules);

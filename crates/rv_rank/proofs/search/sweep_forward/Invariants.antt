@@ -1,7 +1,4 @@
-use Rattle.std.proofs.Common.{◌≡◌, take}
-use Rattle.std.specs.List.{filter}
-use Rattle.rv_rank.specs.Marks.{IsSearched, is_ahead_of}
-use Rattle.rv_rank.specs.Found.{IsSameGraph}
+use Rattle.rv_rank.proofs.Common.{◌≡◌, take, filter, IsSearched, is_ahead_of, IsSameGraph}
 use Rattle.rv_rank.proofs.search.sweep_forward.Given as goal
 
 abbrev pub invariant-loop-rank : goal.invariant-loop-rank

@@ -1,5 +1,4 @@
-use Rattle.std.proofs.Common.{rules, arith, get_or, ◌≡◌, ◌-◌, ◌∙◌}
-use Rattle.rv_rank.specs.declared.search.Mark.TheVariants.{Free, After}
+use Rattle.rv_rank.proofs.Common.{rules, arith, get_or, ◌≡◌, ◌-◌, ◌∙◌, Free, After}
 use Rattle.rv_rank.proofs.Trail.{IsWayBack-more, begun_at, IsTrail-reverse}
 use Rattle.rv_rank.proofs.Marks.{marked_within, read_of}
 use Rattle.rv_rank.proofs.search.trail.Goals as goal

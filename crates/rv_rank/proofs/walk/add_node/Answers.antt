@@ -1,9 +1,5 @@
-use Rattle.std.proofs.Common.{arith, map, [], length, ◌<◌, ◌≡◌, ◌++◌, ◌∷◌, get_or, ℕ, List}
-use Rattle.std.proofs.lemmas.List.{take_at, map_push, length-map}
-use Rattle.std.proofs.lemmas.Grind.{common_steps}
-use Rattle.std.specs.List.{All}
-use Rattle.std.proofs.Common.{rules}
-use Rattle.rv_rank.specs.Rows.{Neighbours, IsAppended}
+use Rattle.rv_rank.proofs.Common.{arith, map, [], length, ◌<◌, ◌≡◌, ◌++◌, ◌∷◌, get_or, ℕ, List, take_at, map_push}
+use Rattle.rv_rank.proofs.Common.{length-map, common_steps, All, rules, Neighbours, IsAppended}
 use Rattle.rv_rank.proofs.Growth.{grown}
 use Rattle.rv_rank.proofs.Mirror.{rows_within, mirror_flip}
 use Rattle.rv_rank.proofs.RowTables.{HasRoom-less}

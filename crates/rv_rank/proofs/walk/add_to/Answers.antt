@@ -1,11 +1,8 @@
-use Rattle.std.proofs.Common.{arith, get_or, length, ◌<◌, sym, ◌∙◌}
-use Rattle.std.proofs.lemmas.List.{set-get_or}
-use Rattle.std.proofs.lemmas.Bool.{false≢true}
-use Rattle.rv_rank.specs.Rows.{EndsIn, row_of, other}
-use Rattle.rv_rank.proofs.RowTables.{Filling-more, Filling-skip, not_yet, room_at}
-use Rattle.rv_rank.proofs.RowTables.{room_by_side, degree_by_side}
-use Rattle.rv_rank.proofs.walk.add_to.Goals as goal
+use Rattle.rv_rank.proofs.Common.{arith, get_or, length, ◌<◌, sym, ◌∙◌, set-get_or, false≢true, EndsIn, row_of}
+use Rattle.rv_rank.proofs.Common.{other}
+use Rattle.rv_rank.proofs.RowTables.{Filling-more, Filling-skip, not_yet, room_at, room_by_side, degree_by_side}
 use Rattle.rv_rank.proofs.walk.add_to.Goals.{then-not-ends_in, else-not-ends_in}
+use Rattle.rv_rank.proofs.walk.add_to.Goals as goal
 
 pub append-requires : goal.append-requires
 append-requires c =

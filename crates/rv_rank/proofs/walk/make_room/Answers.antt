@@ -1,5 +1,4 @@
-use Rattle.std.proofs.Common.{arith, rules, get_or, length, ◌<◌}
-use Rattle.std.proofs.lemmas.List.{take_all}
+use Rattle.rv_rank.proofs.Common.{arith, rules, get_or, length, ◌<◌, take_all}
 use Rattle.rv_rank.proofs.RowTables.{IsRoomy-more}
 use Rattle.rv_rank.proofs.walk.make_room.Goals as goal
 

@@ -4,8 +4,7 @@ use Rattle.rv_report.proofs.writing.write_text.Given as goal
 
 -- what is written so far is the text up to there
 abbrev pub invariant-loop-written : goal.invariant-loop-written
-invariant-loop-written g l =
-    (l.written ≤ length l.bytes)
+invariant-loop-written g l = (l.written ≤ length l.bytes)
     × Appends (g.W.Write.contents l.initial.writer) (g.W.Write.contents l.writer) (take l.written l.bytes)
 
 abbrev pub decreases-loop-written : goal.decreases-loop-written

@@ -1,5 +1,4 @@
-use Rattle.std.proofs.Common.{◌≡◌, ◌≤◌, take, length}
-use Rattle.rv_book.specs.Chunked.{given_by}
+use Rattle.rv_run.proofs.Common.{◌≡◌, ◌≤◌, take, length, given_by}
 use Rattle.rv_run.proofs.comparing.count_first.Given as goal
 
 abbrev pub invariant-loop-entry : goal.invariant-loop-entry

@@ -1,6 +1,4 @@
-use Rattle.std.proofs.Common.{ℕ, ◌<◌, get_or}
-use Rattle.rv_run.specs.Comparisons.{IsWholeIn}
-use Rattle.rv_run.specs.declared.feeding.Fed.{Fed}
+use Rattle.rv_run.proofs.Common.{ℕ, ◌<◌, get_or, IsWholeIn, Fed}
 use Rattle.rv_run.proofs.comparing.is_whole.Given as goal
 
 abbrev pub invariant-loop-i : goal.invariant-loop-i

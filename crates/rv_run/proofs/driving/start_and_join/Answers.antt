@@ -1,7 +1,4 @@
-use Rattle.std.specs.Prelude.{get_or, option_map}
-use Rattle.std.proofs.Common.{arith, ap, ◌∙◌, subst}
-use Rattle.rv_trace.specs.Source.{source_says}
-use Rattle.rv_run.specs.Feeds.{IsFedOf}
+use Rattle.rv_run.proofs.Common.{get_or, option_map, arith, ap, ◌∙◌, subst, source_says, IsFedOf}
 use Rattle.rv_run.proofs.driving.start_and_join.Goals as goal
 
 -- What a joined thread gave keeps the promise of its handle, which was made of its reader, or of

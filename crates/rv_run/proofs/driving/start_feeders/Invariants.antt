@@ -9,7 +9,6 @@ invariant-loop-reader g l =
     × ((k : ℕ) (d : _) → k < into_iter_len rest → get_or (into_iter_items rest) k d ≡ get_or (vec_items l.fn.readers)
     (done + k) d)
     × ((k : ℕ) (h : _) (r : _) → k < done → (get_or (vec_items l.children) k h).promise.0.value ≡ get_or
-    (vec_items l.fn.readers) k r)
-    × (l.source ≡ done)
+    (vec_items l.fn.readers) k r) × (l.source ≡ done)
     × (vec_len l.seats + done ≡ vec_len l.fn.seats)
     × All (λ s. g.C.Carrier.fits l.carrier s) (vec_items l.seats)

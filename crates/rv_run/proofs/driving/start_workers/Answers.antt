@@ -1,5 +1,4 @@
-use Rattle.std.specs.Prelude.{◌≡◌, get_or, vec_items, vec_len}
-use Rattle.std.proofs.Common.{rules, arith, below_more, ap, ◌∙◌}
+use Rattle.rv_run.proofs.Common.{◌≡◌, get_or, vec_items, vec_len, rules, arith, below_more, ap, ◌∙◌}
 use Rattle.rv_run.proofs.driving.start_workers.Goals as goal
 
 -- The child that was started takes the next place.

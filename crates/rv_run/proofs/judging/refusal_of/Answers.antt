@@ -1,8 +1,4 @@
-use Rattle.std.proofs.Common.{arith}
-use Rattle.std.proofs.lemmas.Grind.{common_steps}
-use Rattle.std.proofs.Common.{◌≡◌, ap, ◌∙◌, rules}
-use Rattle.rv_cert.specs.Verdicts.{model_of}
-use Rattle.rv_run.specs.Comparisons.{IsBegun}
+use Rattle.rv_run.proofs.Common.{arith, common_steps, ◌≡◌, ap, ◌∙◌, rules, model_of, IsBegun}
 use Rattle.rv_run.proofs.RefusalOutcomes.{forbidden-agrees, malformed-agrees}
 use Rattle.rv_run.proofs.judging.refusal_of.Goals.{in-Forbidden, in-Malformed}
 use Rattle.rv_run.proofs.judging.refusal_of.Goals as goal

@@ -1,10 +1,7 @@
-use Rattle.std.proofs.lemmas.Grind.{common_steps}
-use Rattle.std.proofs.Common.{rules}
-use Rattle.std.proofs.Common.{List, length, ap, ◌∙◌, arith}
-use Rattle.rv_event.specs.declared.event.Entry.{Entry}
-use Rattle.rv_book.specs.Counts.{operations_of, waiting_of}
-use Rattle.rv_run.proofs.Passes.{replaying-begin, replaying-turn}
-use Rattle.rv_run.proofs.Passes.{replaying-malformed, replaying-forbidden, replaying-end}
+use Rattle.rv_run.proofs.Common.{common_steps, rules, List, length, ap, ◌∙◌, arith, Entry, operations_of}
+use Rattle.rv_run.proofs.Common.{waiting_of}
+use Rattle.rv_run.proofs.Passes.{replaying-begin, replaying-turn, replaying-malformed, replaying-forbidden}
+use Rattle.rv_run.proofs.Passes.{replaying-end}
 use Rattle.rv_run.proofs.replaying.pass.Goals as goal
 
 pub loop-entry-init : goal.loop-entry-init

@@ -1,7 +1,5 @@
-use Rattle.std.proofs.Common.{List, IfOk, IfErr, option_map, rules, subst}
-use Rattle.rv_trace.specs.Source.{source_says}
-use Rattle.rv_run.specs.Comparisons.{AgreesWith, IsFaultIn}
-use Rattle.rv_run.specs.declared.feeding.Fed.{Fed}
+use Rattle.rv_run.proofs.Common.{List, IfOk, IfErr, option_map, rules, subst, source_says, AgreesWith, IsFaultIn}
+use Rattle.rv_run.proofs.Common.{Fed}
 use Rattle.rv_run.proofs.Outcomes.{answer-true, answer-fault}
 use Rattle.rv_run.proofs.running.run_in.Goals as goal
 

@@ -1,15 +1,11 @@
-use Rattle.std.proofs.Common.{◌≡◌, ◌<◌, ◌≤◌, ◌+◌, ℕ, List, get_or, map, take, set}
-use Rattle.std.proofs.Common.{length, sym, ap, ◌∙◌, arith, None}
-use Rattle.std.specs.Prelude.{Option, unwrap_or}
-use Rattle.std.proofs.lemmas.List.{take_all}
-use Rattle.std.proofs.lemmas.Grind.{common_steps}
+use Rattle.rv_slotcore.proofs.Common.{◌≡◌, ◌<◌, ◌≤◌, ◌+◌, ℕ, List, get_or, map, take, set, length, sym, ap, ◌∙◌}
+use Rattle.rv_slotcore.proofs.Common.{arith, None, Option, unwrap_or, take_all, common_steps}
 use Rattle.rv_slotcore.proofs.acts.put_words.Goals as goal
 
 abbrev or_none : Option ℕ → ℕ
 or_none o = unwrap_or o 0
 
-next : (ws : List (Option ℕ)) (xs : List ℕ) (j y : ℕ) → j < length xs → j < length ws → y
-    ≡ or_none
+next : (ws : List (Option ℕ)) (xs : List ℕ) (j y : ℕ) → j < length xs → j < length ws → y ≡ or_none
     (get_or ws j None) → take j xs ≡ map or_none (take j ws) → take (j + 1) (set xs j y)
     ≡ map or_none (take (j + 1) ws)
 next ws xs j y h k is same = grind (arith, common_steps)

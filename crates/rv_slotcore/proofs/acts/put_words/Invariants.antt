@@ -1,5 +1,4 @@
-use Rattle.std.proofs.Common.{◌≡◌, map, take, length}
-use Rattle.std.specs.Prelude.{unwrap_or}
+use Rattle.rv_slotcore.proofs.Common.{◌≡◌, map, take, length, unwrap_or}
 use Rattle.rv_slotcore.proofs.acts.put_words.Given as goal
 
 abbrev pub invariant-loop-place : goal.invariant-loop-place

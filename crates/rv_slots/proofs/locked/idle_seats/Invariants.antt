@@ -1,5 +1,4 @@
-use Rattle.std.proofs.Common.{◌≡◌}
-use Rattle.std.specs.List.{range_with_len}
+use Rattle.rv_slots.proofs.Common.{◌≡◌, range_with_len}
 use Rattle.rv_slots.proofs.locked.idle_seats.Given as goal
 
 abbrev pub invariant-loop-number : goal.invariant-loop-number

@@ -1,6 +1,5 @@
 use Rattle.std.proofs.lemmas.Grind.{common_steps}
-use Rattle.std.proofs.Common.{rules}
-use Rattle.std.proofs.Common.{arith}
+use Rattle.std.proofs.Common.{rules, arith}
 use Rattle.rv_trace.proofs.Digits.{decimal_from-is, digit-more, digit-end, power-step}
 use Rattle.rv_trace.proofs.number.decimal.Goals as goal
 use Rattle.rv_trace.proofs.number.decimal.Goals.{then-b-lt48-via-then-b-lt48}

@@ -4,8 +4,8 @@ use mir.Syntax.{named}
 use mir.Val.{Val, vunit, vptr}
 use base.Logic.{SProp}
 use base.Fml.{Fml, flft, ftrue}
-use types.Kit.{‵, raw, ◌⊛◌, later, ◌$◌, ◌∵◌, !, qed, by, move, keep, use2, split, split3, join, fsplit, fsplit3, fjoin}
-use types.Kit.{await, rewrite, feq_i}
+use types.Kit.{‵, raw, ◌⊛◌, later, ◌$◌, ◌∵◌, !, qed, by, move, keep, use2, split, split3, join, fsplit, fsplit3}
+use types.Kit.{fjoin, await, rewrite, feq_i}
 use types.Run.{of_opd, unit_lit, returns, enter}
 use types.ByLocal.{alloc_all, pass_all, free_all, look_at, sets}
 use contract.Running.{tables}

@@ -1,7 +1,4 @@
-use Rattle.std.proofs.Common.{◌∷◌, ◌++◌, [], Some, nat_eq, ne_eqb, ap, sym, ◌∙◌}
-use Rattle.std.specs.HashMap.{get}
-use Rattle.std.specs.Map.{lookup}
-use Rattle.rv_versions.specs.declared.accesses.Accesses.{Accesses}
+use Rattle.rv_versions.proofs.Common.{◌∷◌, ◌++◌, [], Some, nat_eq, ne_eqb, ap, sym, ◌∙◌, get, lookup, Accesses}
 use Rattle.rv_versions.proofs.Placed.{padded, numbered}
 use Rattle.rv_versions.proofs.indexes.place_of.Goals as goal
 

@@ -1,6 +1,5 @@
 use Rattle.std.proofs.lemmas.Grind.{common_steps}
-use Rattle.std.proofs.Common.{rules}
-use Rattle.std.proofs.Common.{arith}
+use Rattle.std.proofs.Common.{rules, arith}
 use Rattle.rvmon.proofs.Ends.{unopened_among, a_source_each}
 use Rattle.rvmon.proofs.opening.open_all.Goals as goal
 

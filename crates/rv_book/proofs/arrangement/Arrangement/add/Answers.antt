@@ -1,16 +1,7 @@
-use Rattle.std.proofs.Common.{rules}
-use Rattle.std.proofs.Common.{arith}
-use Rattle.std.proofs.lemmas.Grind.{common_steps}
-use Rattle.std.proofs.Common.{◌≡◌, ◌++◌, [], ◌∷◌, None, IfOk, refl, sym, ◌∙◌, subst}
-use Rattle.std.proofs.lemmas.Bool.{false≢true}
-use Rattle.rv_event.specs.Edges.{IsStale}
-use Rattle.rv_event.specs.Faults.{event_fault}
-use Rattle.rv_event.specs.Operations.{IsMemory}
-use Rattle.rv_event.specs.declared.event.Id.{Id}
-use Rattle.rv_edges.specs.Kept.{Past, Kept, happened, grown}
-use Rattle.rv_edges.specs.Histories.{kept_of, HasOwnEdge, IsLinked, IsStaleOf}
-use Rattle.rv_book.specs.Adding.{IsAdded, IsFit}
-use Rattle.rv_book.specs.Arranged.{Arranged, IsArranged}
+use Rattle.rv_book.proofs.Common.{rules, arith, common_steps, ◌≡◌, ◌++◌, [], ◌∷◌, None, IfOk, refl, sym, ◌∙◌}
+use Rattle.rv_book.proofs.Common.{subst, false≢true, IsStale, event_fault, IsMemory, Id, Past, Kept, happened}
+use Rattle.rv_book.proofs.Common.{grown, kept_of, HasOwnEdge, IsLinked, IsStaleOf, IsAdded, IsFit, Arranged}
+use Rattle.rv_book.proofs.Common.{IsArranged}
 use Rattle.rv_book.proofs.Circles.{own_leads}
 use Rattle.rv_book.proofs.GrownHistories.{arranged_aside}
 use Rattle.rv_book.proofs.Refusals.{arranged_of, added_refused}

@@ -1,8 +1,5 @@
 -- The order is lawful, since every edge goes forward.
-use Rattle.std.proofs.Common.{subst}
-use Rattle.rv_event.specs.Orders.{Lawful}
-use Rattle.rv_edges.specs.Kept.{happened}
-use Rattle.rv_book.specs.Arranged.{Arranged, order_of}
+use Rattle.rv_book.proofs.Common.{subst, Lawful, happened, Arranged, order_of}
 use Rattle.rv_book.proofs.ForwardOrders.{lawful}
 use Rattle.rv_book.proofs.arrangement.Arrangement.model.Goals as goal
 

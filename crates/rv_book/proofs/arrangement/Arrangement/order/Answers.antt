@@ -1,6 +1,5 @@
 -- The nodes by rank have the ids of the order.
-use Rattle.std.proofs.Common.{rules}
-use Rattle.std.proofs.lemmas.List.{get_or_default}
+use Rattle.rv_book.proofs.Common.{rules, get_or_default}
 use Rattle.rv_book.proofs.RankOrders.{order_is}
 use Rattle.rv_book.proofs.arrangement.Arrangement.order.Goals as goal
 

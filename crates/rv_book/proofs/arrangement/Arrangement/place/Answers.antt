@@ -1,13 +1,5 @@
-use Rattle.std.proofs.Common.{arith}
-use Rattle.std.proofs.lemmas.Grind.{common_steps}
-use Rattle.std.proofs.Common.{◌≡◌, List, [], ◌∷◌, ◌++◌, length, sym, ap, ◌∙◌, subst}
-use Rattle.rv_event.specs.declared.event.Id.{Id}
-use Rattle.rv_event.specs.declared.event.Entry.{Entry}
-use Rattle.rv_edges.specs.Kept.{Past}
-use Rattle.rv_edges.specs.Histories.{kept_of}
-use Rattle.rv_book.specs.Adding.{IsFit}
-use Rattle.rv_book.specs.Arranged.{Arranged, IsArranged}
-use Rattle.rv_book.specs.Nodes.{AreNodes, HasNode}
+use Rattle.rv_book.proofs.Common.{arith, common_steps, ◌≡◌, List, [], ◌∷◌, ◌++◌, length, sym, ap, ◌∙◌, subst, Id}
+use Rattle.rv_book.proofs.Common.{Entry, Past, kept_of, IsFit, Arranged, IsArranged, AreNodes, HasNode}
 use Rattle.rv_book.proofs.CallValues.{nodes_low, circle_between, grown_between, circle_at, ShowsCircle}
 use Rattle.rv_book.proofs.GrownHistories.{before_node, after_node, arranged_node}
 use Rattle.rv_book.proofs.Circles.{circle_shown}
@@ -93,8 +85,7 @@ shown c =
     c.args.around.now c.in_ok-push_entry.ensures.pushed c.pop-last.ensures.model c.pop-last.ensures.log
     c.pop-last.ensures.popped in
     subst (λ (x : Entry). ShowsCircle c.pop-last.new.self.model c.pop-last.new.self.kept c.as_slice-names.result.now
-    c.as_slice-nodes.result.now x.event) (sym was.entry)
-    (circle_at _ _ _ _ _ _ path _ k.event
+    c.as_slice-nodes.result.now x.event) (sym was.entry) (circle_at _ _ _ _ _ _ path _ k.event
     (ap (λ (w : Past). w.model) was.history) (ap (λ (w : Past). w.kept) was.history)
     (c.as_slice-names.ensures.value ∙ c.in_ok-reserve.ensures.items) nodes
     (circle_shown _ c.self.invariant k fit preds succs
@@ -124,8 +115,7 @@ module _ (c : goal.After-drop-path) where
 
   as_it_was : left ≡ arranged_of c.self.inside.history c.self.inside.ranks.edges c.self.inside.ranks.ranks
       c.self.inside.ids.items
-  as_it_was =
-      arranged_same was.history c.in-Err-Circle.ensures.edges c.in-Err-Circle.ensures.ranks
+  as_it_was = arranged_same was.history c.in-Err-Circle.ensures.edges c.in-Err-Circle.ensures.ranks
       c.in_ok-reserve.ensures.items
 
 pub invariant_of-self-in-Err-Circle : goal.invariant_of-self-in-Err-Circle

@@ -1,12 +1,6 @@
 -- The faults one after another, each by what is kept of the log.
-use Rattle.std.proofs.Common.{arith}
-use Rattle.std.proofs.lemmas.Grind.{common_steps}
-use Rattle.std.proofs.Common.{rules}
-use Rattle.std.proofs.Common.{List, sym, ap, ◌∙◌}
-use Rattle.rv_event.specs.Log.{events}
-use Rattle.rv_event.specs.Faults.{first_faults, lowest}
-use Rattle.rv_event.specs.declared.event.Event.{Event}
-use Rattle.rv_book.specs.Booked.{Booked}
+use Rattle.rv_book.proofs.Common.{arith, common_steps, rules, List, sym, ap, ◌∙◌, events, first_faults, lowest}
+use Rattle.rv_book.proofs.Common.{Event, Booked}
 use Rattle.rv_book.proofs.PushedEntries.{first_of_faults, source_of_faults}
 use Rattle.rv_book.proofs.book.Book.fault.Goals as goal
 

@@ -1,20 +1,9 @@
-use Rattle.std.proofs.Common.{arith}
-use Rattle.std.proofs.lemmas.Grind.{common_steps}
-use Rattle.std.proofs.Common.{rules}
-use Rattle.std.proofs.Common.{◌≡◌, List, [], ◌∷◌, ◌++◌, None, sym, ap, ◌∙◌, subst}
-use Rattle.rv_event.specs.Faults.{fault_of, source_fault}
-use Rattle.rv_event.proofs.Pushed.{WellFormed-push}
-use Rattle.rv_event.specs.declared.event.Entry.{Entry}
-use Rattle.rv_cert.specs.Certificates.{Certifies}
-use Rattle.rv_cert.specs.declared.certificate.Certificate.{Certificate}
-use Rattle.rv_edges.specs.Kept.{grown}
-use Rattle.rv_book.specs.Arranged.{Arranged, IsOwn}
-use Rattle.rv_book.specs.Booked.{Booked, IsForbiddenOn, booked_of}
-use Rattle.rv_book.specs.Tallied.{IsTallied}
-use Rattle.rv_cert.specs.Refusals.{Refusal}
-use Rattle.rv_book.proofs.PushedEntries.{event_sound, source_sound, room_in, room_of, events-push}
-use Rattle.rv_book.proofs.PushedEntries.{booked_push, forbidden_of, taken_of}
-use Rattle.rv_edges.proofs.GrownHarts.{last_pushed}
+use Rattle.rv_book.proofs.Common.{arith, common_steps, rules, ◌≡◌, List, [], ◌∷◌, ◌++◌, None, sym, ap, ◌∙◌, subst}
+use Rattle.rv_book.proofs.Common.{fault_of, source_fault, WellFormed-push, Entry, Certifies, Certificate, grown}
+use Rattle.rv_book.proofs.Common.{Arranged, IsOwn, Booked, IsForbiddenOn, booked_of, IsTallied, Refusal}
+use Rattle.rv_book.proofs.Common.{last_pushed}
+use Rattle.rv_book.proofs.PushedEntries.{event_sound, source_sound, room_in, room_of, events-push, booked_push}
+use Rattle.rv_book.proofs.PushedEntries.{forbidden_of, taken_of}
 use Rattle.rv_book.proofs.book.Book.judge.Goals as goal
 
 pub add-requires-clause-sound : goal.add-requires-clause-sound

@@ -1,7 +1,5 @@
-use Rattle.std.proofs.Common.{arith}
-use Rattle.std.proofs.lemmas.Grind.{common_steps}
-use Rattle.std.proofs.Common.{length, ap, sym, subst, ◌∙◌, rules}
-use Rattle.rv_book.specs.Booked.{Booked, IsMalformedOn, IsForbiddenOn}
+use Rattle.rv_book.proofs.Common.{arith, common_steps, length, ap, sym, subst, ◌∙◌, rules, Booked, IsMalformedOn}
+use Rattle.rv_book.proofs.Common.{IsForbiddenOn}
 use Rattle.rv_book.proofs.TakenEvents.{within-stops}
 use Rattle.rv_book.proofs.book.Book.offer_all.Goals as goal
 

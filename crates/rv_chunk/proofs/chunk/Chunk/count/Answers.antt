@@ -1,5 +1,4 @@
-use Rattle.std.proofs.Common.{arith}
-use Rattle.std.proofs.Common.{rules}
+use Rattle.std.proofs.Common.{arith, rules}
 use Rattle.std.proofs.lemmas.Grind.{common_steps}
 use Rattle.rv_chunk.proofs.ChunkTest.{length_read}
 use Rattle.rv_chunk.proofs.chunk.Chunk.count.Goals as goal

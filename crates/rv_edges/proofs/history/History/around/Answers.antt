@@ -1,18 +1,8 @@
 -- The links of the event's hart and those by versions are together as a history wants them.
-use Rattle.std.proofs.Common.{◌≡◌, List, [], ◌∷◌, ◌++◌, None, IsTrue, ◌↔◌, sym, ◌∙◌, subst}
-use Rattle.rv_event.specs.Edges.{IsEdge}
-use Rattle.rv_event.specs.Faults.{event_fault}
-use Rattle.rv_event.proofs.Indexed.{Indexed}
-use Rattle.rv_event.specs.declared.event.Event.{Event}
-use Rattle.rv_event.specs.declared.reason.Link.{Link}
-use Rattle.rv_event.specs.declared.reason.Reason.{Reason}
-use Rattle.rv_hart.specs.RuleLinks.{AreRuleLinks}
-use Rattle.rv_versions.specs.Reserved.{IsReserved}
-use Rattle.rv_versions.specs.VersionLinks.{AreVersionLinks}
-use Rattle.rv_event.specs.Log.{events}
-use Rattle.rv_edges.specs.Kept.{Kept, Past, kept_from, happened}
-use Rattle.rv_edges.specs.Histories.{IsLinked, IsCarried}
-use Rattle.rv_edges.specs.Indexes.{hart_in}
+use Rattle.rv_edges.proofs.Common.{◌≡◌, List, [], ◌∷◌, ◌++◌, None, IsTrue, ◌↔◌, sym, ◌∙◌, subst, IsEdge}
+use Rattle.rv_edges.proofs.Common.{event_fault, Indexed, Event, Link, Reason, AreRuleLinks, IsReserved}
+use Rattle.rv_edges.proofs.Common.{AreVersionLinks, events, Kept, Past, kept_from, happened, IsLinked, IsCarried}
+use Rattle.rv_edges.proofs.Common.{hart_in}
 use Rattle.rv_edges.proofs.CarriedEdges.{carried_from_IsHistory, covered_with}
 use Rattle.rv_edges.proofs.IndexFacts.{log-is, past-indexed}
 use Rattle.rv_edges.proofs.JoinedLinks.{linked_with, unsplit_is, nearest_is}
@@ -76,8 +66,7 @@ module _ (c : goal.After-stale) where
       subst (λ (ls : List Link). AreVersionLinks c.args.self.now.model (happened c.args.self.now.kept) c.args.event.now
       others ls) (sym c.from_vec-2.ensures)
       (subst (λ (l : List Event). AreVersionLinks c.args.self.now.model l c.args.event.now others
-      c.in_ok-before.field-0.after.items) log
-      (c.in_ok-before.ensures.2 c.args.self.now.model))
+      c.in_ok-before.field-0.after.items) log (c.in_ok-before.ensures.2 c.args.self.now.model))
 
   abbrev found : Kept
   found = record { event = c.args.event.now; before = before; after = after }
@@ -102,8 +91,7 @@ pub returns-clause-itself : goal.returns-clause-itself
 returns-clause-itself c =
     let own : IsTrue c.has_own_edge.result ↔
     ((r : Reason) × IsEdge c.args.self.now.model ((events c.self.inside.versions) ++ c.args.event.now ∷ [])
-    c.args.event.now.id r c.args.event.now.id) =
-    c.has_own_edge.ensures c.args.self.now.model in
+    c.args.event.now.id r c.args.event.now.id) = c.has_own_edge.ensures c.args.self.now.model in
     subst (λ (l : List Event). IsTrue c.has_own_edge.result ↔
     ((r : Reason) × IsEdge c.args.self.now.model (l ++ c.args.event.now ∷ []) c.args.event.now.id r
     c.args.event.now.id)) (log c) own

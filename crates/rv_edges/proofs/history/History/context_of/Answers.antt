@@ -1,6 +1,5 @@
 -- Each look-up tells what a scan would.
-use Rattle.std.proofs.Common.{arith}
-use Rattle.std.proofs.lemmas.Grind.{common_steps}
+use Rattle.rv_edges.proofs.Common.{arith, common_steps}
 use Rattle.rv_edges.proofs.history.History.context_of.Goals as goal
 
 pub returns : goal.returns

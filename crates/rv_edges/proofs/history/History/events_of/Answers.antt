@@ -1,15 +1,8 @@
 -- A hart's events are the log's of the hart.
+use Rattle.rv_edges.proofs.Common.{List, refl, sym, ap, ◌∙◌, slice_get, find, subst, named-of_hart, events}
+use Rattle.rv_edges.proofs.Common.{of_hart, Hart, IsHart, Event, happened, hart_in, places-none, named-at}
+use Rattle.rv_edges.proofs.Common.{named-own}
 use Rattle.std.proofs.Common.{rules}
-use Rattle.std.proofs.Common.{List, refl, sym, ap, ◌∙◌, slice_get, find, subst}
-use Rattle.rv_event.proofs.Growing.{named-of_hart}
-use Rattle.rv_event.specs.Log.{events, of_hart}
-use Rattle.rv_hart.specs.Harts.{Hart, IsHart}
-use Rattle.rv_event.specs.declared.event.Event.{Event}
-use Rattle.rv_edges.specs.Kept.{happened}
-use Rattle.rv_edges.specs.Indexes.{hart_in}
-use Rattle.rv_hart.proofs.Places.{places-none}
-use Rattle.rv_hart.proofs.Reservations.{named-at}
-use Rattle.rv_hart.proofs.OfHart.{named-own}
 use Rattle.rv_edges.proofs.IndexFacts.{hart-is, of_entries}
 use Rattle.rv_edges.proofs.history.History.events_of.Goals as goal
 
@@ -19,8 +12,7 @@ events-requires c =
     c.in-Some.ensures.hart
 
 pub returns-in-Some-clause-value : goal.returns-in-Some-clause-value
-returns-in-Some-clause-value c =
-    c.events.ensures.value
+returns-in-Some-clause-value c = c.events.ensures.value
     ∙ ap (λ (h : Hart). h.events) (hart-is c.args.self.now c.entries-log.result.now c.args.number c.in-Some.hart.now
     c.entries-log.ensures.events c.in-Some.ensures.hart)
 

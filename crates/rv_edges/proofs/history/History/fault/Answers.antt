@@ -1,8 +1,5 @@
 -- The first fault, and else that of too many dependencies.
-use Rattle.std.proofs.Common.{◌∷◌, []}
-use Rattle.rv_event.specs.Faults.{first_faults, deps_fault}
-use Rattle.rv_event.proofs.Indexed.{lowest-append_some}
-use Rattle.rv_edges.specs.Kept.{happened}
+use Rattle.rv_edges.proofs.Common.{◌∷◌, [], first_faults, deps_fault, lowest-append_some, happened}
 use Rattle.rv_edges.proofs.history.History.fault.Goals as goal
 
 pub returns-in-Some : goal.returns-in-Some

@@ -1,8 +1,5 @@
 -- By induction over the events, each of which joined those before it.
-use Rattle.std.proofs.Common.{subst}
-use Rattle.rv_event.specs.Log.{events}
-use Rattle.rv_edges.specs.Kept.{Past, kept_from}
-use Rattle.rv_edges.specs.Histories.{IsCarried}
+use Rattle.rv_edges.proofs.Common.{subst, events, Past, kept_from, IsCarried}
 use Rattle.rv_edges.proofs.CarriedEdges.{carried_from_IsHistory}
 use Rattle.rv_edges.proofs.history.History.model.Goals as goal
 

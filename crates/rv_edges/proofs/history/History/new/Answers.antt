@@ -1,8 +1,5 @@
 -- No events and no links are a history, in which no hart has events.
-use Rattle.std.proofs.Common.{List, length, sym, ap, subst, arith}
-use Rattle.rv_event.specs.Log.{events, of_hart}
-use Rattle.rv_event.specs.declared.event.Event.{Event}
-use Rattle.rv_edges.specs.Histories.{IsHistory}
+use Rattle.rv_edges.proofs.Common.{List, length, sym, ap, subst, arith, events, of_hart, Event, IsHistory}
 use Rattle.rv_edges.proofs.CarriedEdges.{IsHistory-nil}
 use Rattle.rv_edges.proofs.Sides.{no_sides}
 use Rattle.rv_edges.proofs.history.History.new.Goals as goal

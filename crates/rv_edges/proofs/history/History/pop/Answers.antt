@@ -1,14 +1,7 @@
 -- Log, hart and links lose their last together.
+use Rattle.rv_edges.proofs.Common.{◌++◌, ◌∷◌, [], List, sym, ap, ◌∙◌, subst, arith, false≢true, events, Entry}
+use Rattle.rv_edges.proofs.Common.{IsHartOf, Hart, Event, Past, kept_from, IsHistory}
 use Rattle.std.proofs.Common.{rules}
-use Rattle.std.proofs.Common.{◌++◌, ◌∷◌, [], List, sym, ap, ◌∙◌, subst, arith}
-use Rattle.std.proofs.lemmas.Bool.{false≢true}
-use Rattle.rv_event.specs.Log.{events}
-use Rattle.rv_event.specs.declared.event.Entry.{Entry}
-use Rattle.rv_hart.specs.Kept.{IsHartOf}
-use Rattle.rv_hart.specs.Harts.{Hart}
-use Rattle.rv_event.specs.declared.event.Event.{Event}
-use Rattle.rv_edges.specs.Kept.{Past, kept_from}
-use Rattle.rv_edges.specs.Histories.{IsHistory}
 use Rattle.rv_edges.proofs.CarriedEdges.{IsHistory-front}
 use Rattle.rv_edges.proofs.Sides.{Popped, popped_sides, same_front}
 use Rattle.rv_edges.proofs.GrownHarts.{events-pop, harts-shrink, last-hart, last-within}

@@ -1,11 +1,6 @@
 -- The entries that are kept have the events of the history.
-use Rattle.std.proofs.Common.{arith}
-use Rattle.std.proofs.lemmas.Grind.{common_steps}
-use Rattle.std.proofs.Common.{ℕ, ◌<◌, List, IfSome, IfNone, ap, subst}
-use Rattle.rv_event.specs.Preserved.{IsPreserved}
-use Rattle.rv_event.specs.declared.event.Event.{Event}
-use Rattle.rv_event.specs.declared.memory_model.MemoryModel.{MemoryModel}
-use Rattle.rv_edges.specs.Kept.{Past, happened}
+use Rattle.rv_edges.proofs.Common.{arith, common_steps, ℕ, ◌<◌, List, IfSome, IfNone, ap, subst, IsPreserved}
+use Rattle.rv_edges.proofs.Common.{Event, MemoryModel, Past, happened}
 use Rattle.rv_edges.proofs.history.History.preserved.Goals as goal
 
 pub returns-clause-some : goal.returns-clause-some

@@ -1,27 +1,17 @@
 -- The entry joins the history with the links handed in, and its hart with it.
-use Rattle.std.proofs.Common.{arith}
-use Rattle.std.proofs.lemmas.Grind.{common_steps}
+use Rattle.rv_edges.proofs.Common.{arith, common_steps, ◌≡◌, List, [], ◌∷◌, ◌++◌, ◌≤◌, None, sym, ap, ◌∙◌, subst}
+use Rattle.rv_edges.proofs.Common.{length, slice_set, event_fault, events, Entry, Event, Hart, Follows}
+use Rattle.rv_edges.proofs.Common.{IsReturned, IsHartOf, hart_of_log, AreEnoughLinks, IsReserved, Past, kept_from}
+use Rattle.rv_edges.proofs.Common.{happened, Joined, IsHistory, kept_of, AreHarts, hart_from, hart_in, OwnLinks}
 use Rattle.std.proofs.Common.{rules}
-use Rattle.std.proofs.Common.{◌≡◌, List, [], ◌∷◌, ◌++◌, ◌≤◌, None, sym, ap, ◌∙◌, subst, length, slice_set}
-use Rattle.rv_event.specs.Faults.{event_fault}
-use Rattle.rv_event.specs.Log.{events}
-use Rattle.rv_event.specs.declared.event.Entry.{Entry}
-use Rattle.rv_event.specs.declared.event.Event.{Event}
-use Rattle.rv_hart.specs.Harts.{Hart, Follows, IsReturned}
-use Rattle.rv_hart.specs.Kept.{IsHartOf, hart_of_log}
-use Rattle.rv_hart.specs.RuleLinks.{AreEnoughLinks}
-use Rattle.rv_versions.specs.Reserved.{IsReserved}
-use Rattle.rv_edges.specs.Kept.{Past, kept_from, happened}
-use Rattle.rv_edges.specs.Histories.{Joined, IsHistory, kept_of}
-use Rattle.rv_edges.specs.Indexes.{AreHarts, hart_from, hart_in}
-use Rattle.rv_edges.specs.OwnLinks.{OwnLinks}
 use Rattle.rv_edges.proofs.CarriedEdges.{pushed_sides}
 use Rattle.rv_edges.proofs.Enough.{enough_is}
 use Rattle.rv_edges.proofs.IndexFacts.{log-is, follows, past-few, past-indexed}
-use Rattle.rv_edges.proofs.GrownHarts.{events-pop, event-is, found-is, found-of_log, harts-grow, harts-stay, log-was}
+use Rattle.rv_edges.proofs.GrownHarts.{events-pop, event-is, found-is, found-of_log, harts-grow, harts-stay}
+use Rattle.rv_edges.proofs.GrownHarts.{log-was}
 use Rattle.rv_edges.proofs.Sides.{kept_one, same_front}
-use Rattle.rv_edges.proofs.history.History.push_entry.Goals as goal
 use Rattle.rv_edges.proofs.history.History.push_entry.Goals.{After-push-arg-1}
+use Rattle.rv_edges.proofs.history.History.push_entry.Goals as goal
 
 module _ (c : After-push-arg-1) where
   log : events c.self.inside.versions ≡ happened c.args.self.now.kept
@@ -80,8 +70,7 @@ push-joined-requires-clause-few c =
     omega (arith, few, ap (λ (l : List Entry). length l) was)
 
 pub push-joined-requires-clause-follows : goal.push-joined-requires-clause-follows
-push-joined-requires-clause-follows c =
-    subst (Follows (before_it c)) (sym (same-event c))
+push-joined-requires-clause-follows c = subst (Follows (before_it c)) (sym (same-event c))
     (subst (λ (x : Hart). Follows x (e c)) (sym (here c)) (follows c.args.self.now (e c) c.requires.sound))
 
 pub push-joined-requires-clause-returned : goal.push-joined-requires-clause-returned
@@ -126,8 +115,7 @@ invariant_of-self-in-Err-joined c =
 record Pushed (c : goal.In_default-joined) : Type 0 where
   pub lengths : length (events c.push-kept.new.self) ≡ length c.append.new.self
   pub history : IsHistory c.self.inside.model (kept_from (events c.push-kept.new.self) c.append.new.self)
-  pub cut :
-      kept_from (events c.push-kept.new.self) c.append.new.self
+  pub cut : kept_from (events c.push-kept.new.self) c.append.new.self
       ≡ kept_from (events c.self.inside.versions) c.self.inside.links ++ kept_of c.args.entry.event
       c.args.around.now ∷ []
 

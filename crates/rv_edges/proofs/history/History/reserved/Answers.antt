@@ -1,12 +1,7 @@
 -- The LR is one of the hart's events, and so one of the history's.
-use Rattle.std.proofs.Common.{arith}
-use Rattle.std.proofs.lemmas.Grind.{common_steps}
-use Rattle.std.proofs.Common.{Some, None, refl, sym, subst}
-use Rattle.rv_hart.specs.Harts.{Hart, Follows}
+use Rattle.rv_edges.proofs.Common.{arith, common_steps, Some, None, refl, sym, subst, Hart, Follows, IsReserved}
+use Rattle.rv_edges.proofs.Common.{happened, hart_in}
 use Rattle.rv_hart.specs.Kept.{IsPartner}
-use Rattle.rv_versions.specs.Reserved.{IsReserved}
-use Rattle.rv_edges.specs.Kept.{happened}
-use Rattle.rv_edges.specs.Indexes.{hart_in}
 use Rattle.rv_edges.proofs.IndexFacts.{follows, hart-is, of_entries}
 use Rattle.rv_edges.proofs.HartOfLog.{partner_from, partner_to}
 use Rattle.rv_edges.proofs.history.History.reserved.Goals as goal

@@ -1,13 +1,7 @@
 -- The writer of what the load returned, where it is of the load's hart.
-use Rattle.std.proofs.Common.{◌≡◌, Option, Some, None, option_map, sym, ap, ◌∙◌, subst, refl, List}
-use Rattle.std.proofs.lemmas.Option.{none-some, same_Some}
-use Rattle.rv_event.specs.Log.{events, writer}
-use Rattle.rv_event.specs.Operations.{IsLoad}
-use Rattle.rv_event.specs.declared.event.Id.{Id}
-use Rattle.rv_event.specs.declared.event.Event.{Event}
-use Rattle.rv_hart.specs.Harts.{IsReturned}
-use Rattle.rv_edges.specs.Kept.{happened}
-use Rattle.rv_edges.specs.Indexes.{hart_in}
+use Rattle.rv_edges.proofs.Common.{◌≡◌, Option, Some, None, option_map, sym, ap, ◌∙◌, subst, refl, List}
+use Rattle.rv_edges.proofs.Common.{none-some, same_Some, events, writer, IsLoad, Id, Event, IsReturned, happened}
+use Rattle.rv_edges.proofs.Common.{hart_in}
 use Rattle.rv_edges.proofs.IndexFacts.{log-is, past-indexed}
 use Rattle.rv_edges.proofs.HartOfLog.{returned_none, returned_some, returned_other}
 use Rattle.rv_edges.proofs.history.History.returned.Goals as goal

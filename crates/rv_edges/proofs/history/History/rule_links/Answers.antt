@@ -1,9 +1,6 @@
 -- The hart's links, or none where it has no events.
-use Rattle.std.proofs.Common.{arith}
-use Rattle.std.proofs.lemmas.Grind.{common_steps}
+use Rattle.rv_edges.proofs.Common.{arith, common_steps, sym, subst, Hart, Follows, IsReturned}
 use Rattle.std.proofs.Common.{rules}
-use Rattle.std.proofs.Common.{sym, subst}
-use Rattle.rv_hart.specs.Harts.{Hart, Follows, IsReturned}
 use Rattle.rv_edges.proofs.IndexFacts.{follows, hart-is, of_entries}
 use Rattle.rv_edges.proofs.history.History.rule_links.Goals as goal
 

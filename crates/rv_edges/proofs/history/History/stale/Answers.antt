@@ -1,11 +1,6 @@
 -- What the hart's events say, the history's say.
-use Rattle.std.proofs.Common.{Option, Some, None, sym, subst}
-use Rattle.rv_event.specs.declared.event.Id.{Id}
-use Rattle.rv_hart.specs.Harts.{Hart, Follows}
-use Rattle.rv_hart.specs.Kept.{IsStaleBy}
-use Rattle.rv_edges.specs.Kept.{happened}
-use Rattle.rv_edges.specs.Histories.{IsStaleOf}
-use Rattle.rv_edges.specs.Indexes.{hart_in}
+use Rattle.rv_edges.proofs.Common.{Option, Some, None, sym, subst, Id, Hart, Follows, IsStaleBy, happened}
+use Rattle.rv_edges.proofs.Common.{IsStaleOf, hart_in}
 use Rattle.rv_edges.proofs.IndexFacts.{follows, hart-is, of_entries}
 use Rattle.rv_edges.proofs.HartOfLog.{none_stale_of, stale_is, stale_was}
 use Rattle.rv_edges.proofs.history.History.stale.Goals as goal

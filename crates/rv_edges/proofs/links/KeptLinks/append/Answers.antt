@@ -1,8 +1,6 @@
 -- The links of the event stand behind all others.
-use Rattle.std.proofs.lemmas.Grind.{common_steps}
+use Rattle.rv_edges.proofs.Common.{common_steps, ◌≡◌, List, [], ◌∷◌, ◌++◌, arith, length-append, Link}
 use Rattle.std.proofs.Common.{rules}
-use Rattle.std.proofs.Common.{◌≡◌, List, [], ◌∷◌, ◌++◌, arith, length-append}
-use Rattle.rv_event.specs.declared.reason.Link.{Link}
 use Rattle.rv_edges.proofs.OwnLinkLists.{sides_of, total-push, own_from-push}
 use Rattle.rv_edges.proofs.links.KeptLinks.append.Goals as goal
 

@@ -1,10 +1,7 @@
 -- The links of the last event stand behind all others.
-use Rattle.std.proofs.lemmas.Grind.{common_steps}
+use Rattle.rv_edges.proofs.Common.{common_steps, ◌≡◌, ◌+◌, ◌-◌, List, [], ◌∷◌, ◌++◌, length, take, sym, ap, ◌∙◌}
+use Rattle.rv_edges.proofs.Common.{arith, Link, Sides, total}
 use Rattle.std.proofs.Common.{rules}
-use Rattle.std.proofs.Common.{◌≡◌, ◌+◌, ◌-◌, List, [], ◌∷◌, ◌++◌, length, take, sym, ap, ◌∙◌, arith}
-use Rattle.rv_event.specs.declared.reason.Link.{Link}
-use Rattle.rv_edges.specs.declared.links.Sides.{Sides}
-use Rattle.rv_edges.specs.OwnLinks.{total}
 use Rattle.rv_edges.proofs.OwnLinkLists.{total-push, total-front, own_from-pop}
 use Rattle.rv_edges.proofs.links.KeptLinks.drop_last.Goals as goal
 

@@ -1,7 +1,5 @@
 -- A hart without events has no places, and nothing is kept of it.
-use Rattle.std.proofs.Common.{List, sym, ◌∙◌, subst}
-use Rattle.rv_event.specs.declared.event.Event.{Event}
-use Rattle.rv_hart.specs.Kept.{IsKept}
+use Rattle.rv_hart.proofs.Common.{List, sym, ◌∙◌, subst, Event, IsKept}
 use Rattle.rv_hart.proofs.Places.{places-none}
 use Rattle.rv_hart.proofs.hart.HartOrder.new.Goals as goal
 

@@ -1,9 +1,5 @@
-use Rattle.std.proofs.Common.{◌≡◌, ◌++◌, ◌∷◌, [], List, sym, ◌∙◌, subst, arith}
-use Rattle.std.proofs.lemmas.Grind.{common_steps}
-use Rattle.rv_event.specs.Log.{events}
-use Rattle.rv_event.specs.declared.event.Event.{Event}
-use Rattle.rv_hart.specs.Kept.{IsKept}
-use Rattle.rv_hart.specs.Places.{places_of}
+use Rattle.rv_hart.proofs.Common.{◌≡◌, ◌++◌, ◌∷◌, [], List, sym, ◌∙◌, subst, arith, common_steps, events, Event}
+use Rattle.rv_hart.proofs.Common.{IsKept, places_of}
 use Rattle.rv_hart.proofs.OfHart.{own-push}
 use Rattle.rv_hart.proofs.Places.{hart-same, places-grow}
 use Rattle.rv_hart.proofs.hart.HartOrder.pop.Goals as goal
@@ -34,5 +30,6 @@ returns-clause-popped c =
     let h = c.args.self.now in
     let are = c.requires.of_log.places ∙ places-grow h.kept.number log c.args.event.now c.requires.own in
     let rest : c.pop.new.self.items ≡ places_of h.kept.number log = grind (arith, common_steps) in
-    hart-same log log h (record { places = c.pop.new.self; kept = c.drop_last.new.self }) c.drop_last.ensures.number rest
+    hart-same log log h (record { places = c.pop.new.self; kept = c.drop_last.new.self })
+    c.drop_last.ensures.number rest
     (subst (λ (es : List Event). IsKept es c.drop_last.new.self) c.new-events.ensures c.drop_last.ensures.popped)

@@ -1,13 +1,6 @@
-use Rattle.std.proofs.Common.{◌≡◌, ◌++◌, ◌∷◌, [], ◌↔◌, List, ℕ, length, sym, ap, ◌∙◌, subst}
-use Rattle.std.proofs.lemmas.List.{length-map}
-use Rattle.rv_event.specs.Log.{events}
-use Rattle.rv_event.specs.declared.event.Entry.{Entry}
-use Rattle.rv_event.specs.declared.event.Event.{Event}
-use Rattle.rv_rows.specs.Bits.{Has}
-use Rattle.rv_hart.specs.Harts.{Hart, hart_with}
-use Rattle.rv_hart.specs.Kept.{IsKept, hart_at, hart_of}
-use Rattle.rv_hart.specs.Rows.{IsBefore}
-use Rattle.rv_hart.specs.Places.{places_of}
+use Rattle.rv_hart.proofs.Common.{◌≡◌, ◌++◌, ◌∷◌, [], ◌↔◌, List, ℕ, length, sym, ap, ◌∙◌, subst, length-map}
+use Rattle.rv_hart.proofs.Common.{events, Entry, Event, Has, Hart, hart_with, IsKept, hart_at, hart_of, IsBefore}
+use Rattle.rv_hart.proofs.Common.{places_of}
 use Rattle.rv_hart.proofs.OfHart.{own-push}
 use Rattle.rv_hart.proofs.Places.{hart-same, places-grow}
 use Rattle.rv_hart.proofs.hart.HartOrder.push.Goals as goal
@@ -32,8 +25,7 @@ returns-clause-pushed c =
     let own = c.requires.follows.hart in
     let count : length c.args.log.now ≡ length log = sym (length-map c.args.log.now (λ (x : Entry). x.event)) in
     hart-same log (log ++ e ∷ []) h (record { places = c.push_reserved.new.self; kept = c.push.new.self })
-    c.in_ok-push.ensures.number
-    (c.push_reserved.ensures.items
+    c.in_ok-push.ensures.number (c.push_reserved.ensures.items
     ∙ ap (λ (ps : List ℕ). ps ++ length c.args.log.now ∷ []) (c.reserve.ensures.items ∙ c.requires.of_log.places)
     ∙ ap (λ (n : ℕ). places_of h.kept.number log ++ n ∷ []) count ∙ sym (places-grow h.kept.number log e own))
     (subst (λ (es : List Event). IsKept es c.push.new.self)

@@ -1,10 +1,5 @@
-use Rattle.std.proofs.Common.{◌≡◌, ◌++◌, ◌∷◌, List, ℕ, [], arith, refl}
-use Rattle.std.proofs.lemmas.Grind.{common_steps}
-use Rattle.std.proofs.lemmas.List.{length_push}
-use Rattle.rv_event.specs.declared.event.Event.{Event}
-use Rattle.rv_hart.specs.Harts.{Hart, IsHart}
-use Rattle.rv_hart.specs.Kept.{hart_of}
-use Rattle.rv_hart.specs.declared.kept.Kept.{Kept}
+use Rattle.rv_hart.proofs.Common.{◌≡◌, ◌++◌, ◌∷◌, List, ℕ, [], arith, refl, common_steps, length_push, Event}
+use Rattle.rv_hart.proofs.Common.{Hart, IsHart, hart_of, Kept}
 use Rattle.rv_hart.proofs.HartFacts.{known_of, hart-front}
 use Rattle.rv_hart.proofs.GrownHart.{kept-popped, split_last, small-events}
 use Rattle.rv_hart.proofs.kept.Kept.drop_last.Goals as goal
@@ -23,7 +18,7 @@ pop-requires c = grind (arith, common_steps, length_push)
 pub sets_of-self-requires : goal.sets_of-self-requires
 sets_of-self-requires c =
     let h : Hart = hart_of c.args.events.now c.args.self.now in
-    small-events h (known_of h (hart-front (hart_of (c.args.events.now ++ c.args.event.now ∷ []) c.args.self.now)
+    small-events (known_of h (hart-front (hart_of (c.args.events.now ++ c.args.event.now ∷ []) c.args.self.now)
     c.args.events.now c.args.event.now c.requires.kept.hart refl))
 
 pub returns-clause-popped : goal.returns-clause-popped

@@ -1,5 +1,4 @@
-use Rattle.std.proofs.Common.{List, ℕ, [], length, refl, ap}
-use Rattle.rv_hart.specs.Harts.{Hart}
+use Rattle.rv_hart.proofs.Common.{List, ℕ, [], length, refl, ap, Hart}
 use Rattle.rv_hart.proofs.GrownHart.{kept_from, hart-none, rows-none}
 use Rattle.rv_hart.proofs.kept.Kept.new.Goals as goal
 

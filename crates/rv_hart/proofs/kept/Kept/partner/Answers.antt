@@ -1,10 +1,5 @@
-use Rattle.std.proofs.Common.{◌≡◌, ◌<◌, Contains, length, sym, subst, arith, rules, tests}
-use Rattle.rv_event.specs.Relations.{Paired}
-use Rattle.rv_event.specs.declared.event.Event.{Event}
-use Rattle.rv_event.specs.declared.event.Op.TheVariants.{Sc}
-use Rattle.rv_hart.specs.Harts.{Hart, followed}
-use Rattle.rv_hart.specs.Kept.{hart_of}
-use Rattle.rv_hart.specs.Sets.{HasEvent, IsReserving, IsReservation}
+use Rattle.rv_hart.proofs.Common.{◌≡◌, ◌<◌, Contains, length, sym, subst, arith, rules, tests, Paired, Event, Sc}
+use Rattle.rv_hart.proofs.Common.{Hart, followed, hart_of, HasEvent, IsReserving, IsReservation}
 use Rattle.rv_hart.proofs.HartFacts.{Fits, fits_of, read_is}
 use Rattle.rv_hart.proofs.RuleConditions.{reserving-paired, paired-reserving}
 use Rattle.rv_hart.proofs.kept.Kept.partner.Goals as goal
@@ -16,7 +11,7 @@ returns-in_err-lr c =
     let f : Fits h e = fits_of h e c.requires.kept.hart c.requires.follows in
     let none : (a : Event) → Contains h.events a → IsReserving h.events a → ⊥ =
     subst (IsReservation h.events) c.in_err-lr.was c.requires.kept.sets.reserved in
-    rw c.from_residual.ensures (λ lr cl p. none lr cl (paired-reserving h e f lr p))
+    rw c.from_residual.ensures (λ lr cl p. none lr cl (paired-reserving f lr p))
 
 pub at-partner-requires : goal.at-partner-requires
 at-partner-requires c =
@@ -37,7 +32,7 @@ returns c =
     let lr : HasEvent (IsReserving h.events) h.events c.in_ok-lr.lr =
     subst (IsReservation h.events) c.in_ok-lr.was c.requires.kept.sets.reserved in
     let same : c.at-partner.result.now ≡ lr.a =
-    read_is h f.known lr.a c.at-partner.result.now c.in_ok-lr.lr lr.of_list lr.at c.at-partner.ensures in
+    read_is f.known lr.a c.at-partner.result.now c.in_ok-lr.lr lr.of_list lr.at c.at-partner.ensures in
     let sc : e.op ≡ Sc = search (rules, tests) in
     subst (λ (x : Event). Contains h.events x × Paired (followed h e) x e) (sym same)
-    (lr.of_list, reserving-paired h e f lr.a lr.of_list lr.holds sc)
+    (lr.of_list, reserving-paired f lr.a lr.of_list lr.holds sc)

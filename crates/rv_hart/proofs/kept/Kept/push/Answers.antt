@@ -1,10 +1,5 @@
-use Rattle.std.proofs.Common.{refl, arith}
-use Rattle.std.proofs.lemmas.Grind.{common_steps}
-use Rattle.rv_event.specs.declared.event.Event.{Event}
-use Rattle.rv_rows.specs.Flat.{IsPushed}
-use Rattle.rv_hart.specs.Harts.{Hart, hart_with}
-use Rattle.rv_hart.specs.Kept.{IsKept, hart_of}
-use Rattle.rv_hart.specs.declared.kept.Kept.{Kept}
+use Rattle.rv_hart.proofs.Common.{refl, arith, common_steps, Event, IsPushed, Hart, hart_with, IsKept, hart_of}
+use Rattle.rv_hart.proofs.Common.{Kept}
 use Rattle.rv_hart.proofs.HartFacts.{Fits, fits_of, known_of, own-deps-few}
 use Rattle.rv_hart.proofs.GrownHart.{kept-same, kept-pushed, row-low, means-same}
 use Rattle.rv_hart.proofs.kept.Kept.push.Goals as goal
@@ -21,7 +16,7 @@ pub push-requires-clause-below : goal.push-requires-clause-below
 push-requires-clause-below c =
     let h : Hart = hart_of c.args.events.now c.args.self.now in
     let f : Fits h c.args.event.now = fits_of h c.args.event.now c.requires.kept.hart c.requires.follows in
-    row-low h c.args.event.now f c.args.self.now.rows c.args.row.now c.requires.kept.count c.requires.row
+    row-low f c.args.self.now.rows c.args.row.now c.requires.kept.count c.requires.row
 
 pub returns-in_err-push-clause-unchanged : goal.returns-in_err-push-clause-unchanged
 returns-in_err-push-clause-unchanged c =
@@ -56,7 +51,7 @@ absorb-requires-clause-number c =
 pub absorb-requires-clause-dependencies : goal.absorb-requires-clause-dependencies
 absorb-requires-clause-dependencies c =
     let h : Hart = hart_of c.args.events.now c.args.self.now in
-    own-deps-few h c.args.event.now (fits_of h c.args.event.now c.requires.kept.hart c.requires.follows)
+    own-deps-few (fits_of h c.args.event.now c.requires.kept.hart c.requires.follows)
 
 pub returns-clause-pushed : goal.returns-clause-pushed
 returns-clause-pushed c =

@@ -1,17 +1,10 @@
 -- Each part adds its events.
-use Rattle.std.proofs.Common.{◌<◌, ◌≤◌, length, sym, ◌∙◌, subst, arith}
-use Rattle.std.proofs.lemmas.Grind.{common_steps}
-use Rattle.rv_event.specs.Operations.{IsMemory}
-use Rattle.rv_event.specs.Relations.{DependsOn}
-use Rattle.rv_hart.specs.Parts.{IsIn, IsOfPart, IsUnder}
-use Rattle.rv_hart.specs.declared.parts.Part.TheVariants.{NamedBy}
-use Rattle.rv_hart.proofs.HartFacts.{deps-few, own-deps-few, same_event}
+use Rattle.rv_hart.proofs.Common.{◌<◌, ◌≤◌, length, sym, ◌∙◌, subst, arith, common_steps, IsMemory, DependsOn}
+use Rattle.rv_hart.proofs.Common.{IsIn, IsOfPart, NamedBy, Event, Hart, hart_at}
+use Rattle.rv_hart.specs.Parts.{IsUnder}
+use Rattle.rv_hart.proofs.HartFacts.{fits, deps-few, own-deps-few, same_event}
 use Rattle.rv_hart.proofs.RuleConditions.{more-none, more-all, more-named}
 use Rattle.rv_hart.proofs.TableParts.{reads-row, read-event, more-number, more-same}
-use Rattle.rv_event.specs.declared.event.Event.{Event}
-use Rattle.rv_hart.specs.Harts.{Hart}
-use Rattle.rv_hart.specs.Kept.{hart_at}
-use Rattle.rv_hart.proofs.HartFacts.{Fits, fits_of}
 use Rattle.rv_hart.proofs.next.Next.add_part.Goals as goal
 
 pub returns-in-Nothing : goal.returns-in-Nothing
@@ -21,22 +14,20 @@ pub returns-in-Reads : goal.returns-in-Reads
 returns-in-Reads c =
     let h : Hart = hart_at c.args.self.now in
     let e : Event = c.args.self.now.event.now in
-    let f : Fits h e = fits_of h e c.requires.asked.kept.hart c.requires.asked.follows in
+    let f = fits c.requires.asked in
     rw c.in-Reads.is (more-all (IsUnder h e 2) h.events c.args.row.now c.args.reads.now c.join.new.self
-    (reads-row h e f c.requires.asked.memory c.args.reads.now c.requires.reads) c.join.ensures)
+    (reads-row f c.requires.asked.memory c.args.reads.now c.requires.reads) c.join.ensures)
 
 pub returns-in-In : goal.returns-in-In
 returns-in-In c =
     let h : Hart = hart_at c.args.self.now in
-    let e : Event = c.args.self.now.event.now in
     rw c.in-In.is (more-all (IsIn h c.in-In.name) h.events c.args.row.now c.set.result.now c.join-in-In.new.self
     c.set.ensures c.join-in-In.ensures)
 
 pub insert-requires : goal.insert-requires
 insert-requires c =
     let h : Hart = hart_at c.args.self.now in
-    let e : Event = c.args.self.now.event.now in
-    let f : Fits h e = fits_of h e c.requires.asked.kept.hart c.requires.asked.follows in
+    let f = fits c.requires.asked in
     let low : c.in-One.number < length h.events = rw c.in-One.is at c.requires.names in
     let few : length h.events ≤ 4096 = f.known.few in
     omega arith
@@ -45,24 +36,21 @@ pub returns-in-One : goal.returns-in-One
 returns-in-One c =
     let h : Hart = hart_at c.args.self.now in
     let e : Event = c.args.self.now.event.now in
-    let f : Fits h e = fits_of h e c.requires.asked.kept.hart c.requires.asked.follows in
+    let f = fits c.requires.asked in
     let low : c.in-One.number < length h.events = rw c.in-One.is at c.requires.names in
-    rw c.in-One.is (more-number h f.known c.in-One.number e low c.args.row.now c.insert.new.self c.insert.ensures)
+    rw c.in-One.is (more-number f.known c.in-One.number e low c.args.row.now c.insert.new.self c.insert.ensures)
 
 pub add_dependencies-requires : goal.add_dependencies-requires
 add_dependencies-requires c =
-    let h : Hart = hart_at c.args.self.now in
-    let e : Event = c.args.self.now.event.now in
-    let f : Fits h e = fits_of h e c.requires.asked.kept.hart c.requires.asked.follows in
-    own-deps-few h e f
+    let f = fits c.requires.asked in
+    own-deps-few f
 
 pub returns-in-Named : goal.returns-in-Named
 returns-in-Named c =
-    let h : Hart = hart_at c.args.self.now in
     let e : Event = c.args.self.now.event.now in
-    let f : Fits h e = fits_of h e c.requires.asked.kept.hart c.requires.asked.follows in
+    let f = fits c.requires.asked in
     let are = c.requires.asked.kept.sets in
-    rw c.in-Named.is (more-named h f.known e f.hart f.deps c.in-Named.kind _ _ c.args.row.now
+    rw c.in-Named.is (more-named f.known e f.hart f.deps c.in-Named.kind _ _ c.args.row.now
     c.add_dependencies.new.row are.loads are.stores c.add_dependencies.ensures)
 
 pub at-store-requires : goal.at-store-requires
@@ -71,23 +59,22 @@ at-store-requires c = grind (arith, common_steps)
 pub add_dependencies-requires-in-NamedBy : goal.add_dependencies-requires-in-NamedBy
 add_dependencies-requires-in-NamedBy c =
     let h : Hart = hart_at c.args.self.now in
-    let e : Event = c.args.self.now.event.now in
-    let f : Fits h e = fits_of h e c.requires.asked.kept.hart c.requires.asked.follows in
+    let f = fits c.requires.asked in
     let low : c.in-NamedBy.number < length h.events = rw c.in-NamedBy.is at c.requires.names in
     let w : Event = c.at-store.result.now in
-    deps-few h f.known w (read-event h f.known w c.in-NamedBy.number low c.at-store.ensures).0
+    deps-few f.known w (read-event f.known w c.in-NamedBy.number low c.at-store.ensures).0
 
 pub returns-in-NamedBy : goal.returns-in-NamedBy
 returns-in-NamedBy c =
     let h : Hart = hart_at c.args.self.now in
     let e : Event = c.args.self.now.event.now in
-    let f : Fits h e = fits_of h e c.requires.asked.kept.hart c.requires.asked.follows in
+    let f = fits c.requires.asked in
     let low : c.in-NamedBy.number < length h.events = rw c.in-NamedBy.is at c.requires.names in
     let w : Event = c.at-store.result.now in
     let kind = c.in-NamedBy.kind in
-    let read = read-event h f.known w c.in-NamedBy.number low c.at-store.ensures in
+    let read = read-event f.known w c.in-NamedBy.number low c.at-store.ensures in
     let are = c.requires.asked.kept.sets in
-    let named = more-named h f.known w (f.known.own w read.0) (f.known.deps w read.0) kind _ _ c.args.row.now
+    let named = more-named f.known w (f.known.own w read.0) (f.known.deps w read.0) kind _ _ c.args.row.now
     c.add_dependencies-in-NamedBy.new.row are.loads are.stores c.add_dependencies-in-NamedBy.ensures in
     rw c.in-NamedBy.is (more-same (λ a. IsMemory a × DependsOn kind w a)
     (IsOfPart h e (NamedBy c.in-NamedBy.number kind)) h.events c.args.row.now c.add_dependencies-in-NamedBy.new.row
@@ -96,6 +83,6 @@ returns-in-NamedBy c =
       λ y. (
         y.3,
         subst (λ (z : Event). DependsOn kind z a)
-            (same_event h f.known y.0 w y.1 read.0 (y.2 ∙ sym read.1)) y.4,
+            (same_event f.known y.0 w y.1 read.0 (y.2 ∙ sym read.1)) y.4,
       ),
     )) named)

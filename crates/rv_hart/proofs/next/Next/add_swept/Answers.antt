@@ -1,11 +1,8 @@
-use Rattle.std.proofs.Common.{◌≡◌, List, ℕ, Some, None, length, sym, subst, arith}
-use Rattle.std.proofs.Common.{rules}
-use Rattle.rv_event.specs.declared.event.Event.{Event}
-use Rattle.rv_rows.specs.Closure.{IsTaken}
-use Rattle.rv_hart.specs.Harts.{Hart}
-use Rattle.rv_hart.specs.Kept.{hart_at}
-use Rattle.rv_hart.proofs.HartFacts.{fits_of}
-use Rattle.rv_hart.proofs.Listings.{Sweeping, IsGathering, rows-few, gathering-begun, gathering-more, gathering-done}
+use Rattle.rv_hart.proofs.Common.{◌≡◌, List, ℕ, Some, None, length, sym, subst, arith, rules, Event, IsTaken}
+use Rattle.rv_hart.proofs.Common.{Hart, hart_at}
+use Rattle.rv_hart.proofs.HartFacts.{fits, fits_of}
+use Rattle.rv_hart.proofs.Listings.{Sweeping, IsGathering, rows-few, gathering-begun, gathering-more}
+use Rattle.rv_hart.proofs.Listings.{gathering-done}
 use Rattle.rv_hart.proofs.next.Next.add_swept.Goals as goal
 
 pub taken-init : goal.taken-init
@@ -17,7 +14,7 @@ taken-init c =
     let g : Sweeping h e rows first = search (fits_of, rules) in
     let top : length rows ≡ c.len-top.result = sym c.len-top.ensures in
     subst (λ (n : ℕ). IsGathering rows first first n c.insert.new.self c.insert.new.self) top
-    (gathering-begun h e rows first g c.insert.new.self)
+    (gathering-begun g c.insert.new.self)
 
 pub take_highest-requires-clause-few : goal.take_highest-requires-clause-few
 take_highest-requires-clause-few c =
@@ -26,7 +23,7 @@ take_highest-requires-clause-few c =
     let rows : List (List ℕ) = c.args.self.now.kept.now.rows in
     let first : List ℕ = c.fill_candidates.new.row in
     let g : Sweeping h e rows first = search (fits_of, rules) in
-    rows-few h e rows first g
+    rows-few g
 
 pub take_highest-requires-clause-limit : goal.take_highest-requires-clause-limit
 take_highest-requires-clause-limit c = c.taken.invariant.within
@@ -43,9 +40,8 @@ taken-preserved c =
     let g : Sweeping h e rows first = search (fits_of, rules) in
     let is : IsTaken rows c.taken.left (Some c.in-Some.number) c.take_highest.new.candidates =
     rw c.in-Some.is at c.take_highest.ensures in
-    gathering-more h e rows first g c.taken.left c.take_highest.new.candidates c.taken.top c.in-Some.number
-    c.insert.new.self c.taken.row c.join_into.new.row c.taken.invariant is
-    c.join_into.ensures
+    gathering-more g c.taken.left c.take_highest.new.candidates c.taken.top c.in-Some.number
+    c.insert.new.self c.taken.row c.join_into.new.row c.taken.invariant is c.join_into.ensures
 
 pub returns : goal.returns
 returns c =
@@ -56,7 +52,7 @@ returns c =
     let g : Sweeping h e rows first = search (fits_of, rules) in
     let is : IsTaken rows c.taken.left None c.take_highest.new.candidates =
     rw c.in_default.is at c.take_highest.ensures in
-    gathering-done h e rows first g c.taken.left c.take_highest.new.candidates c.taken.top c.args.row.now
+    gathering-done g c.taken.left c.take_highest.new.candidates c.taken.top c.args.row.now
     c.insert.new.self c.taken.row c.taken.invariant is c.insert.ensures
 
 pub join_into-requires : goal.join_into-requires
@@ -69,7 +65,7 @@ join_into-requires c =
 
 pub insert-requires : goal.insert-requires
 insert-requires c =
-    let f = fits_of (hart_at c.args.self.now) c.args.self.now.event.now c.requires.asked.kept.hart c.requires.asked.follows in
+    let f = fits c.requires.asked in
     let seq = f.seq in
     let room = f.room in
     omega arith

@@ -1,22 +1,15 @@
-use Rattle.std.proofs.Common.{◌≡◌, ◌<◌, ◌⊎◌, ◌↔◌, IsTrue, length, sym, ap, ◌∙◌, subst, arith}
-use Rattle.std.proofs.lemmas.Grind.{common_steps}
-use Rattle.rv_event.specs.declared.event.Op.TheVariants.{Amo, Sc}
-use Rattle.rv_hart.specs.Harts.{IsOwnStore, IsReturned}
-use Rattle.rv_hart.specs.declared.parts.Part.TheVariants.{One}
-use Rattle.rv_hart.proofs.HartFacts.{same_event}
+use Rattle.rv_hart.proofs.Common.{◌≡◌, ◌<◌, ◌⊎◌, ◌↔◌, IsTrue, length, sym, ap, ◌∙◌, subst, arith, common_steps}
+use Rattle.rv_hart.proofs.Common.{Amo, Sc, IsOwnStore, IsReturned, One, Event, Hart, hart_at}
+use Rattle.rv_hart.proofs.HartFacts.{fits, same_event}
 use Rattle.rv_hart.proofs.RuleConditions.{atomic-is, atomic-none}
 use Rattle.rv_hart.proofs.TableParts.{tested}
-use Rattle.rv_event.specs.declared.event.Event.{Event}
-use Rattle.rv_hart.specs.Harts.{Hart}
-use Rattle.rv_hart.specs.Kept.{hart_at}
-use Rattle.rv_hart.proofs.HartFacts.{Fits, fits_of}
 use Rattle.rv_hart.proofs.next.Next.atomic_part.Goals as goal
 
 pub at-store-requires : goal.at-store-requires
 at-store-requires c =
     let h : Hart = hart_at c.args.self.now in
     let e : Event = c.args.self.now.event.now in
-    let f : Fits h e = fits_of h e c.requires.asked.kept.hart c.requires.asked.follows in
+    let f = fits c.requires.asked in
     let own : (w : Event) × IsOwnStore h e w × (w.id.seq ≡ c.in-Some.number) =
     subst (IsReturned h e) c.in-Some.is c.requires.asked.returned in
     let low : own.0.id.seq < length h.events = f.known.below own.0 own.1.of_hart in
@@ -27,7 +20,7 @@ pub returns-in-Some : goal.returns-in-Some
 returns-in-Some c =
     let h : Hart = hart_at c.args.self.now in
     let e : Event = c.args.self.now.event.now in
-    let f : Fits h e = fits_of h e c.requires.asked.kept.hart c.requires.asked.follows in
+    let f = fits c.requires.asked in
     let own : (w : Event) × IsOwnStore h e w × (w.id.seq ≡ c.in-Some.number) =
     subst (IsReturned h e) c.in-Some.is c.requires.asked.returned in
     let w : Event = own.0 in
@@ -38,8 +31,8 @@ returns-in-Some c =
     let at : w.id.seq ≡ c.in-Some.number = own.2 in
     tested h e 3 c.is_atomic.result (One c.in-Some.number) c.part_if.result ((w.op ≡ Amo) ⊎ (w.op ≡ Sc))
     c.part_if.ensures test (λ a ca.
-    let is = atomic-is h e f c.requires.asked.memory w own.1 a ca in (
-      λ x. is.0 (x.0, same_event h f.known w a own.1.of_hart ca (own.2 ∙ sym x.1)),
+    let is = atomic-is f c.requires.asked.memory w own.1 a ca in (
+      λ x. is.0 (x.0, same_event f.known w a own.1.of_hart ca (own.2 ∙ sym x.1)),
       λ u. ((is.1 u).0, sym (ap (λ (y : Event). y.id.seq) (is.1 u).1) ∙ own.2),
     ))
     (omega arith)
@@ -48,6 +41,6 @@ pub returns-in-None : goal.returns-in-None
 returns-in-None c =
     let h : Hart = hart_at c.args.self.now in
     let e : Event = c.args.self.now.event.now in
-    let f : Fits h e = fits_of h e c.requires.asked.kept.hart c.requires.asked.follows in
+    let f = fits c.requires.asked in
     let none : (w : Event) → IsOwnStore h e w → ⊥ = subst (IsReturned h e) c.in-None.is c.requires.asked.returned in
-    record { says = atomic-none h e f c.requires.asked.memory none; names = tt }
+    record { says = atomic-none f c.requires.asked.memory none; names = tt }

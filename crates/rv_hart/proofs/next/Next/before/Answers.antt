@@ -1,14 +1,8 @@
-use Rattle.std.proofs.Common.{◌≡◌, List, ℕ, Some, None, length, sym, subst}
-use Rattle.std.proofs.Common.{arith}
-use Rattle.std.proofs.lemmas.Grind.{common_steps}
-use Rattle.std.proofs.Common.{rules}
-use Rattle.rv_event.specs.declared.event.Event.{Event}
-use Rattle.rv_rows.specs.Closure.{IsTaken}
-use Rattle.rv_hart.specs.Harts.{Hart}
-use Rattle.rv_hart.specs.Kept.{hart_at}
+use Rattle.rv_hart.proofs.Common.{◌≡◌, List, ℕ, Some, None, length, sym, subst, arith, common_steps, rules, Event}
+use Rattle.rv_hart.proofs.Common.{IsTaken, Hart, hart_at}
 use Rattle.rv_hart.proofs.HartFacts.{fits_of}
-use Rattle.rv_hart.proofs.Listings.{Sweeping, IsListing, rows-few, listing-begun, listing-candidate}
-use Rattle.rv_hart.proofs.Listings.{listing-more, listing-done}
+use Rattle.rv_hart.proofs.Listings.{Sweeping, IsListing, rows-few, listing-begun, listing-candidate, listing-more}
+use Rattle.rv_hart.proofs.Listings.{listing-done}
 use Rattle.rv_hart.proofs.next.Next.before.Goals as goal
 
 pub returns-then-not-is_memory : goal.returns-then-not-is_memory
@@ -29,7 +23,7 @@ taken-init c =
     } in
     let top : length rows ≡ c.len-top.result = sym c.len-top.ensures in
     subst (λ (n : ℕ). IsListing h e rows first first n c.new-links.result.items) top
-    (listing-begun h e rows first g c.new-links.result.items c.new-links.ensures.items)
+    (listing-begun g c.new-links.result.items c.new-links.ensures.items)
 
 pub take_highest-requires-clause-few : goal.take_highest-requires-clause-few
 take_highest-requires-clause-few c =
@@ -44,7 +38,7 @@ take_highest-requires-clause-few c =
       count = c.requires.next.kept.count;
       enough = c.fill_candidates.ensures;
     } in
-    rows-few h e rows first g
+    rows-few g
 
 pub take_highest-requires-clause-limit : goal.take_highest-requires-clause-limit
 take_highest-requires-clause-limit c = c.taken.invariant.within
@@ -67,7 +61,7 @@ lowest_rule-rule-requires-clause-candidate c =
     } in
     let is : IsTaken rows c.taken.left (Some c.in-Some.number) c.take_highest.new.candidates =
     rw c.in-Some.is at c.take_highest.ensures in
-    listing-candidate h e rows first g c.taken.left c.take_highest.new.candidates c.taken.top c.in-Some.number
+    listing-candidate g c.taken.left c.take_highest.new.candidates c.taken.top c.in-Some.number
     c.taken.links.items c.taken.invariant is
 
 pub taken-preserved : goal.taken-preserved
@@ -79,7 +73,7 @@ taken-preserved c =
     let g : Sweeping h e rows first = search (fits_of, rules) in
     let is : IsTaken rows c.taken.left (Some c.in-Some.number) c.take_highest.new.candidates =
     rw c.in-Some.is at c.take_highest.ensures in
-    listing-more h e rows first g c.taken.left c.take_highest.new.candidates c.taken.top c.in-Some.number
+    listing-more g c.taken.left c.take_highest.new.candidates c.taken.top c.in-Some.number
     c.lowest_rule-rule.result c.taken.links.items c.push.new.self.items c.taken.invariant is
     c.lowest_rule-rule.ensures c.in_ok-push.ensures.items
 
@@ -98,5 +92,5 @@ returns c =
     } in
     let is : IsTaken rows c.taken.left None c.take_highest.new.candidates =
     rw c.in_default.is at c.take_highest.ensures in
-    listing-done h e rows first g c.taken.left c.take_highest.new.candidates c.taken.top c.taken.links.items
+    listing-done g c.taken.left c.take_highest.new.candidates c.taken.top c.taken.links.items
     c.taken.invariant is

@@ -1,13 +1,9 @@
 -- The rules are added one after the other.
-use Rattle.std.proofs.Common.{◌≡◌, ◌+◌, ◌-◌, ℕ, subst, sym, arith}
-use Rattle.std.proofs.lemmas.Grind.{common_steps}
-use Rattle.rv_hart.specs.Parts.{ArePartsFor}
+use Rattle.rv_hart.proofs.Common.{◌≡◌, ◌+◌, ◌-◌, ℕ, subst, sym, arith, common_steps, ArePartsFor, Event, Hart}
+use Rattle.rv_hart.proofs.Common.{hart_at}
 use Rattle.rv_hart.proofs.Candidates.{AreAdded, added-more, enough-added}
 use Rattle.rv_hart.proofs.TableParts.{adds-parts}
-use Rattle.rv_event.specs.declared.event.Event.{Event}
-use Rattle.rv_hart.specs.Harts.{Hart}
-use Rattle.rv_hart.specs.Kept.{hart_at}
-use Rattle.rv_hart.proofs.HartFacts.{Fits, fits_of}
+use Rattle.rv_hart.proofs.HartFacts.{fits}
 use Rattle.rv_hart.proofs.next.Next.fill_candidates.Goals as goal
 
 pub loop-rule-init : goal.loop-rule-init
@@ -17,7 +13,7 @@ pub loop-rule-preserved : goal.loop-rule-preserved
 loop-rule-preserved c k is =
     let h : Hart = hart_at c.args.self.now in
     let e : Event = c.args.self.now.event.now in
-    let f : Fits h e = fits_of h e c.requires.asked.kept.hart c.requires.asked.follows in
+    let f = fits c.requires.asked in
     let j : ℕ = k - 1 in
     let before : j + 1 ≡ c.loop-rule.rule = omega (arith, is, c.loop-rule.auto) in
     let same : j + 1 ≡ k = omega (arith, is, c.loop-rule.auto) in
@@ -25,13 +21,11 @@ loop-rule-preserved c k is =
     subst (λ (n : ℕ). ArePartsFor h e n c.parts-one.result.0 c.parts-one.result.1) (sym before) c.parts-one.ensures in
     subst (λ (n : ℕ). AreAdded h e n c.fill_overlapping.new.row c.add_part-in-loop-rule.new.row) same
     (added-more h e j _ _ _ (c.loop-rule.invariant j before)
-    (adds-parts h e f c.requires.asked.memory (j + 1) c.parts-one.result.0 c.parts-one.result.1 c.loop-rule.row
+    (adds-parts f c.requires.asked.memory (j + 1) c.parts-one.result.0 c.parts-one.result.1 c.loop-rule.row
     c.add_part.new.row c.add_part-in-loop-rule.new.row for c.add_part.ensures c.add_part-in-loop-rule.ensures))
 
 pub returns : goal.returns
 returns c =
-    let h : Hart = hart_at c.args.self.now in
-    let e : Event = c.args.self.now.event.now in
-    let f : Fits h e = fits_of h e c.requires.asked.kept.hart c.requires.asked.follows in
-    enough-added h e f c.fill_overlapping.new.row c.loop-rule.row c.fill_overlapping.ensures
+    let f = fits c.requires.asked in
+    enough-added f c.fill_overlapping.new.row c.loop-rule.row c.fill_overlapping.ensures
     (c.loop-rule.invariant 13 (omega arith))

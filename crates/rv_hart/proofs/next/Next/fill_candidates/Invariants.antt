@@ -1,5 +1,4 @@
-use Rattle.std.proofs.Common.{◌≡◌, ◌+◌, ℕ}
-use Rattle.rv_hart.specs.Kept.{hart_at}
+use Rattle.rv_hart.proofs.Common.{◌≡◌, ◌+◌, ℕ, hart_at}
 use Rattle.rv_hart.proofs.Candidates.{AreAdded}
 use Rattle.rv_hart.proofs.next.Next.fill_candidates.Given as goal
 

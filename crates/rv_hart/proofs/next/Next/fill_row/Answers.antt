@@ -1,11 +1,5 @@
-use Rattle.std.proofs.Common.{◌≡◌, ◌↔◌, ◌⊎◌, inl, inr, List, ℕ, sym, ◌∙◌}
-use Rattle.std.proofs.lemmas.Bool.{false≢true}
-use Rattle.rv_event.specs.declared.event.Event.{Event}
-use Rattle.rv_event.specs.declared.reason.Link.{Link}
-use Rattle.rv_rows.specs.Bits.{Has}
-use Rattle.rv_hart.specs.Harts.{Hart}
-use Rattle.rv_hart.specs.Kept.{hart_at}
-use Rattle.rv_hart.specs.Linked.{IsLinked}
+use Rattle.rv_hart.proofs.Common.{◌≡◌, ◌↔◌, ◌⊎◌, inl, inr, List, ℕ, sym, ◌∙◌, false≢true, Event, Link, Has, Hart}
+use Rattle.rv_hart.proofs.Common.{hart_at, IsLinked}
 use Rattle.rv_hart.proofs.HartFacts.{Fits, fits_of}
 use Rattle.rv_hart.proofs.Listings.{row-nothing}
 use Rattle.rv_hart.proofs.FromLinks.{IsJoined, Linking, have_rows, row-begun, row-linked, row_sound}
@@ -16,7 +10,7 @@ returns-then-not-is_memory c =
     let h : Hart = hart_at c.args.self.now in
     let e : Event = c.args.self.now.event.now in
     let f : Fits h e = fits_of h e c.requires.next.kept.hart c.requires.next.follows in
-    row-nothing h e f (λ m. false≢true (sym c.if-not-is_memory.true ∙ c.is_memory.ensures.1 m)) c.args.row.now
+    row-nothing f (λ m. false≢true (sym c.if-not-is_memory.true ∙ c.is_memory.ensures.1 m)) c.args.row.now
     c.requires.empty
 
 pub join_linked-requires : goal.join_linked-requires
@@ -32,7 +26,7 @@ join_linked-requires c =
       count = c.requires.next.kept.count;
       enough = c.requires.linked;
     } in
-    have_rows h e rows links linking
+    have_rows linking
 
 pub returns-then-not-has_own_links : goal.returns-then-not-has_own_links
 returns-then-not-has_own_links c = λ s.
@@ -48,11 +42,10 @@ returns-then-not-has_own_links c = λ s.
       count = c.requires.next.kept.count;
       enough = c.requires.linked;
     } in
-    let joined : IsJoined rows links c.insert.new.self row =
-    c.join_linked.ensures in
+    let joined : IsJoined rows links c.insert.new.self row = c.join_linked.ensures in
     let begun : (s : ℕ) → Has row s ↔ ((s ≡ e.id.seq) ⊎ IsLinked rows links s) =
     row-begun rows links e.id.seq c.args.row.now c.insert.new.self row c.requires.empty c.insert.ensures joined in (
-      λ x. elim ((c.add_swept.ensures s).0 x) [ inl y ↦ row_sound h e rows links linking row begun s y | inr b ↦ b ],
+      λ x. elim ((c.add_swept.ensures s).0 x) [ inl y ↦ row_sound linking row begun s y | inr b ↦ b ],
       λ b. (c.add_swept.ensures s).1 (inr b),
     )
 
@@ -70,8 +63,7 @@ returns-else-not-has_own_links c =
       count = c.requires.next.kept.count;
       enough = c.requires.linked;
     } in
-    let joined : IsJoined rows links c.insert.new.self row =
-    c.join_linked.ensures in
+    let joined : IsJoined rows links c.insert.new.self row = c.join_linked.ensures in
     let begun : (s : ℕ) → Has row s ↔ ((s ≡ e.id.seq) ⊎ IsLinked rows links s) =
     row-begun rows links e.id.seq c.args.row.now c.insert.new.self row c.requires.empty c.insert.ensures joined in
-    row-linked h e rows links linking row begun (c.has_own_links.ensures.0 c.if-not-has_own_links.false)
+    row-linked linking row begun (c.has_own_links.ensures.0 c.if-not-has_own_links.false)

@@ -1,6 +1,5 @@
 -- Rule 1 is decided by itself, each other one by the two parts of its line of the table.
-use Rattle.std.proofs.Common.{rules}
-use Rattle.rv_event.proofs.Conditions.{overlapping_store_at}
+use Rattle.rv_hart.proofs.Common.{rules, overlapping_store_at}
 use Rattle.rv_hart.proofs.next.Next.is_condition.Goals as goal
 
 pub returns-then-rule-eq1 : goal.returns-then-rule-eq1

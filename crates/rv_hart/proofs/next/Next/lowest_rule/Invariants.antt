@@ -1,6 +1,4 @@
-use Rattle.std.proofs.Common.{ℕ, ◌<◌}
-use Rattle.rv_hart.specs.Kept.{hart_at}
-use Rattle.rv_hart.specs.Rows.{IsOrderedBy}
+use Rattle.rv_hart.proofs.Common.{ℕ, ◌<◌, hart_at, IsOrderedBy}
 use Rattle.rv_hart.proofs.next.Next.lowest_rule.Given as goal
 
 abbrev pub invariant-loop-rule : goal.invariant-loop-rule

@@ -1,10 +1,6 @@
 -- What stands at the place of the number is the hart's event.
-use Rattle.std.proofs.Common.{◌≡◌, ◌<◌, List, ℕ, length, get_or, sym, ap, ◌∙◌, arith}
-use Rattle.std.proofs.lemmas.Grind.{common_steps}
-use Rattle.std.proofs.lemmas.List.{get_or-map, length-map}
-use Rattle.rv_event.specs.Log.{events, of_hart}
-use Rattle.rv_event.specs.declared.event.Entry.{Entry}
-use Rattle.rv_event.specs.declared.event.Event.{Event}
+use Rattle.rv_hart.proofs.Common.{◌≡◌, ◌<◌, List, ℕ, length, get_or, sym, ap, ◌∙◌, arith, common_steps}
+use Rattle.rv_hart.proofs.Common.{get_or-map, length-map, events, of_hart, Entry, Event}
 use Rattle.rv_hart.proofs.Places.{IsPlace, place-of, places-count}
 use Rattle.rv_hart.proofs.own_events.OwnEvents.at.Goals as goal
 

@@ -1,6 +1,4 @@
-use Rattle.std.proofs.Common.{List, ℕ, length, ap, ◌∙◌}
-use Rattle.rv_event.specs.Log.{events}
-use Rattle.rv_event.specs.declared.event.Event.{Event}
+use Rattle.rv_hart.proofs.Common.{List, ℕ, length, ap, ◌∙◌, events, Event}
 use Rattle.rv_hart.proofs.Places.{places-count}
 use Rattle.rv_hart.proofs.own_events.OwnEvents.len.Goals as goal
 

@@ -1,14 +1,8 @@
-use Rattle.std.proofs.Common.{◌≡◌, ◌++◌, ◌∷◌, [], List, ℕ, length, nat_eq, Option, sym, ap, ◌∙◌}
-use Rattle.std.proofs.lemmas.Bool.{ne_eqb, false≢true}
-use Rattle.std.specs.HashMap.{get}
-use Rattle.std.proofs.Common.{arith}
-use Rattle.std.proofs.lemmas.Grind.{common_steps}
-use Rattle.rv_event.specs.declared.event.Event.{Event}
-use Rattle.rv_hart.specs.Words.{IsLastBelow}
-use Rattle.rv_hart.specs.declared.words.Words.{Words}
+use Rattle.rv_hart.proofs.Common.{◌≡◌, ◌++◌, ◌∷◌, [], List, ℕ, length, nat_eq, Option, sym, ap, ◌∙◌, ne_eqb}
+use Rattle.rv_hart.proofs.Common.{false≢true, get, arith, common_steps, Event, IsLastBelow, Words}
 use Rattle.rv_hart.proofs.WordLinks.{words-push, lasts-memory, lasts-same}
-use Rattle.rv_hart.proofs.words.Words.add.Goals as goal
 use Rattle.rv_hart.proofs.words.Words.add.Goals.{then-is_memory+in_ok-insert, else-is_memory}
+use Rattle.rv_hart.proofs.words.Words.add.Goals as goal
 
 -- the words' last operations
 lasts : (c : goal.After-push_reserved) → (word : ℕ) → IsLastBelow (c.args.events.now ++ c.args.event.now ∷ []) word

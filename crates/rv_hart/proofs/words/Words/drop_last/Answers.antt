@@ -1,11 +1,5 @@
-use Rattle.std.proofs.Common.{◌≡◌, ◌++◌, ◌∷◌, [], List, ℕ, length, nat_eq, Option, refl}
-use Rattle.std.specs.HashMap.{get}
-use Rattle.std.proofs.Common.{arith}
-use Rattle.std.proofs.lemmas.Grind.{common_steps}
-use Rattle.rv_event.specs.Operations.{IsMemory}
-use Rattle.rv_event.specs.declared.event.Event.{Event}
-use Rattle.rv_hart.specs.Words.{AreNumbered, IsLastBelow}
-use Rattle.rv_hart.specs.declared.words.Words.{Words}
+use Rattle.rv_hart.proofs.Common.{◌≡◌, ◌++◌, ◌∷◌, [], List, ℕ, length, nat_eq, Option, refl, get, arith}
+use Rattle.rv_hart.proofs.Common.{common_steps, IsMemory, Event, AreNumbered, IsLastBelow, Words}
 use Rattle.rv_hart.proofs.WordLinks.{words-pop, pop-here, lasts-back, lasts-kept, numbered-front, numbered-last}
 use Rattle.rv_hart.proofs.words.Words.drop_last.Goals as goal
 

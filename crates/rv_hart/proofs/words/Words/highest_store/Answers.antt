@@ -1,12 +1,7 @@
-use Rattle.std.proofs.Common.{◌≡◌, List, ℕ, Some, length, sym, ◌∙◌, subst, arith}
-use Rattle.std.proofs.lemmas.Bool.{false≢true}
-use Rattle.std.proofs.lemmas.Grind.{common_steps}
-use Rattle.std.proofs.Common.{rules}
-use Rattle.rv_event.specs.Operations.{IsStore}
-use Rattle.rv_event.specs.declared.event.Event.{Event}
-use Rattle.rv_hart.specs.Words.{IsLastBelow, IsWordLink, IsHighestStore}
-use Rattle.rv_hart.proofs.WordLinks.{numbered-below, numbered-read, wrote-same, highest-before}
-use Rattle.rv_hart.proofs.WordLinks.{highest-first, highest-here, highest-there}
+use Rattle.rv_hart.proofs.Common.{◌≡◌, List, ℕ, Some, length, sym, ◌∙◌, subst, arith, false≢true, common_steps}
+use Rattle.rv_hart.proofs.Common.{rules, IsStore, Event, IsLastBelow, IsWordLink, IsHighestStore}
+use Rattle.rv_hart.proofs.WordLinks.{numbered-below, numbered-read, wrote-same, highest-before, highest-first}
+use Rattle.rv_hart.proofs.WordLinks.{highest-here, highest-there}
 use Rattle.rv_hart.proofs.WordWalks.{read_link}
 use Rattle.rv_hart.proofs.words.Words.highest_store.Goals as goal
 
@@ -62,8 +57,7 @@ returns-then-highest-last c =
     let store : IsStore a = subst IsStore same (c.is_store.ensures.0 c.if-not-is_store.false) in
     let high : IsHighestStore es a.word a.id.seq (Some c.in-Some.store) =
     subst (IsHighestStore es a.word a.id.seq) c.in-Some.is link.highest in
-    let other : c.at-highest.result.now ≡ high.1.a =
-    search (numbered-read, rules) in
+    let other : c.at-highest.result.now ≡ high.1.a = search (numbered-read, rules) in
     highest-here es c.requires.numbered c.args.word number a ca at last store c.in-Some.store high
     (omega (
       arith,
@@ -88,8 +82,7 @@ returns-else-highest-last c =
     let store : IsStore a = subst IsStore same (c.is_store.ensures.0 c.if-not-is_store.false) in
     let high : IsHighestStore es a.word a.id.seq (Some c.in-Some.store) =
     subst (IsHighestStore es a.word a.id.seq) c.in-Some.is link.highest in
-    let other : c.at-highest.result.now ≡ high.1.a =
-    search (numbered-read, rules) in
+    let other : c.at-highest.result.now ≡ high.1.a = search (numbered-read, rules) in
     highest-there es c.requires.numbered c.args.word number a ca at last c.in-Some.store high
     (omega (
       arith,

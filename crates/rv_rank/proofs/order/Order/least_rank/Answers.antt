@@ -1,9 +1,7 @@
-use Rattle.std.proofs.Common.{arith, get_or, take, ◌≡◌, ◌≤◌, sym, ◌∙◌, inr}
-use Rattle.std.proofs.lemmas.List.{take_all, get_or_read}
-use Rattle.std.proofs.lemmas.List.Elements.{All-more, All-weaker, Contains-get_or}
-use Rattle.std.proofs.Common.{rules}
-use Rattle.rv_rank.proofs.order.Order.least_rank.Goals as goal
+use Rattle.rv_rank.proofs.Common.{arith, get_or, take, ◌≡◌, ◌≤◌, sym, ◌∙◌, inr, take_all, get_or_read, All-more}
+use Rattle.rv_rank.proofs.Common.{All-weaker, Contains-get_or, rules}
 use Rattle.rv_rank.proofs.order.Order.least_rank.Goals.{then-rank-least, else-rank-least}
+use Rattle.rv_rank.proofs.order.Order.least_rank.Goals as goal
 
 pub loop-node-preserved : goal.loop-node-preserved
 loop-node-preserved c =

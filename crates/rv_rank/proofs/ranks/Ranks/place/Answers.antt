@@ -1,10 +1,8 @@
-use Rattle.std.proofs.Common.{rules, arith, length, ◌≡◌, ap, sym, ◌∙◌, length-append}
-use Rattle.std.proofs.lemmas.List.{length-reverse}
-use Rattle.std.proofs.lemmas.Result.{err_from_is_err_and}
-use Rattle.std.proofs.lemmas.Grind.{common_steps}
+use Rattle.rv_rank.proofs.Common.{rules, arith, length, ◌≡◌, ap, sym, ◌∙◌, length-append, length-reverse}
+use Rattle.rv_rank.proofs.Common.{err_from_is_err_and, common_steps}
 use Rattle.rv_rank.proofs.Listing.{listed_all_few}
-use Rattle.rv_rank.proofs.Placement.{found_plan, visits_only, visits_listed, ordered, spared, exchanged}
-use Rattle.rv_rank.proofs.Placement.{taken, greatest, still, moved, refused_round}
+use Rattle.rv_rank.proofs.Placement.{found_plan, visits_only, visits_listed, ordered, spared, exchanged, taken}
+use Rattle.rv_rank.proofs.Placement.{greatest, still, moved, refused_round}
 use Rattle.rv_rank.proofs.ranks.Ranks.place.Goals as goal
 
 pub returns-in_err-found-clause-round : goal.returns-in_err-found-clause-round

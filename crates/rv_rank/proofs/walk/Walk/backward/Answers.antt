@@ -1,6 +1,5 @@
-use Rattle.std.proofs.Common.{arith, get_or, map, [], length, ◌<◌, ◌≡◌, refl, ◌++◌, ◌∷◌}
-use Rattle.std.proofs.lemmas.List.{length-map}
-use Rattle.std.proofs.lemmas.Grind.{common_steps}
+use Rattle.rv_rank.proofs.Common.{arith, get_or, map, [], length, ◌<◌, ◌≡◌, refl, ◌++◌, ◌∷◌, length-map}
+use Rattle.rv_rank.proofs.Common.{common_steps}
 use Rattle.rv_rank.proofs.walk.Walk.backward.Goals as goal
 
 pub returns : goal.returns

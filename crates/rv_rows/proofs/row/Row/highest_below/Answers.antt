@@ -5,8 +5,7 @@ use Rattle.rv_rows.proofs.row.Row.highest_below.Goals as goal
 
 pub returns-then-word-ne0 : goal.returns-then-word-ne0
 returns-then-word-ne0 c =
-    let enough : c.args.limit ≤ c.div_ceil.result * 64 =
-    grind (arith, common_steps) in
+    let enough : c.args.limit ≤ c.div_ceil.result * 64 = grind (arith, common_steps) in
     let top = has-top c.self.inside.words (c.words.k - 1) _ (omega (arith, c.if-word-ne0.true)) (search rules)
     (λ j high. none_from c.self.inside.words c.self.inside.low c.self.inside.high c.args.limit c.div_ceil.result
     c.min-k.result c.words.k (between c.self.inside.words c.self.inside.low c.self.inside.high c.self.invariant)

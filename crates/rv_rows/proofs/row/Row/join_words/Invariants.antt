@@ -3,8 +3,7 @@ use Rattle.std.specs.Prelude.{bit_or}
 use Rattle.rv_rows.proofs.row.Row.join_words.Given as goal
 
 abbrev pub invariant-words : goal.invariant-words
-invariant-words l =
-    (length l.self-inside.words ≡ 64)
+invariant-words l = (length l.self-inside.words ≡ 64)
     × ((j : ℕ) → j < l.k → get_or l.self-inside.words (l.initial.first + j) 0 ≡ bit_or
     (get_or l.initial.self-inside.words (l.initial.first + j) 0) (get_or l.initial.words j 0))
     × ((j : ℕ) → j < l.initial.first → get_or l.self-inside.words j 0 ≡ get_or l.initial.self-inside.words j 0)

@@ -11,8 +11,7 @@ ends-low-requires c = grind (arith, common_steps)
 pub returns : goal.returns
 returns c j =
     rw (sym c.self.view_is) (cut_part c.words.self-inside.words c.self.inside.words c.args.words.now c.args.first
-    c.max-from.result c.words.k (omega arith)
-    c.words.invariant.1 rest empty j)
+    c.max-from.result c.words.k (omega arith) c.words.invariant.1 rest empty j)
   where
     rest : (k : ℕ) → (k < c.max-from.result) ⊎ (c.words.k ≤ k) →
         get_or c.words.self-inside.words k 0 ≡ get_or c.self.inside.words k 0

@@ -1,5 +1,4 @@
-use Rattle.std.proofs.Common.{◌≡◌, ◌<◌, ◌++◌, ◌∷◌, [], List, ℕ, length, sym, refl, ap, ◌∙◌, arith, subst}
-use Rattle.std.proofs.Common.{rules}
+use Rattle.std.proofs.Common.{◌≡◌, ◌<◌, ◌++◌, ◌∷◌, [], List, ℕ, length, sym, refl, ap, ◌∙◌, arith, subst, rules}
 use Rattle.rv_rows.specs.Flat.{AreLaid}
 use Rattle.rv_rows.specs.declared.rows.Place.{Place}
 use Rattle.rv_rows.proofs.Laying.{rows_count, rows_more, laid_more}

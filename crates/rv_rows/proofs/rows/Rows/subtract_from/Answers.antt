@@ -1,5 +1,4 @@
-use Rattle.std.proofs.Common.{◌&&◌, not, List, ℕ, ap, ◌∙◌, arith}
-use Rattle.std.proofs.Common.{rules}
+use Rattle.std.proofs.Common.{◌&&◌, not, List, ℕ, ap, ◌∙◌, arith, rules}
 use Rattle.std.proofs.lemmas.Grind.{common_steps}
 use Rattle.rv_rows.specs.Bits.{has_bit}
 use Rattle.rv_rows.specs.Flat.{part_at}
@@ -16,10 +15,8 @@ pub subtract_words-requires : goal.subtract_words-requires
 subtract_words-requires c = grind (arith, common_steps, low_place, place_at, part_short)
 
 pub returns : goal.returns
-returns c j =
-    c.subtract_words.ensures j
+returns c j = c.subtract_words.ensures j
     ∙ ap (λ (xs : List ℕ). has_bit c.args.row.now j && not (has_bit xs j)) (
     row_there c.self.inside.words.items c.words_at.result.now c.self.inside.places.items c.args.self.now c.args.number
-    c.index-place.result.now
-    c.self.view_is c.requires c.index-place.ensures
+    c.index-place.result.now c.self.view_is c.requires c.index-place.ensures
     (c.words_at.ensures ∙ ap (λ (ws : List ℕ). part_at ws c.index-place.result.now) c.as_slice.ensures.value))

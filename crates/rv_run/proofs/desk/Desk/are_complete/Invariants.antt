@@ -1,5 +1,4 @@
-use Rattle.std.proofs.Common.{ℕ, ◌<◌}
-use Rattle.rv_run.specs.Desks.{IsComplete}
+use Rattle.rv_run.proofs.Common.{ℕ, ◌<◌, IsComplete}
 use Rattle.rv_run.proofs.desk.Desk.are_complete.Given as goal
 
 abbrev pub invariant-loop-source : goal.invariant-loop-source

@@ -1,6 +1,5 @@
+use Rattle.rv_slotcore.proofs.Common.{arith, common_steps}
 use Rattle.rv_slotcore.proofs.Updates.{run-append}
-use Rattle.std.proofs.Common.{arith}
-use Rattle.std.proofs.lemmas.Grind.{common_steps}
 use Rattle.rv_slotcore.proofs.Running.{told_more}
 use Rattle.rv_slotcore.proofs.machine.Core.run.Goals as goal
 

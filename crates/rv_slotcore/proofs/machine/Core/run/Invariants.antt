@@ -1,6 +1,4 @@
-use Rattle.std.proofs.Common.{◌≡◌, map, take}
-use Rattle.rv_slotcore.specs.Machine.{run, answers}
-use Rattle.rv_slotcore.specs.CoreIs.{core_of, step_of, answer_of}
+use Rattle.rv_slotcore.proofs.Common.{◌≡◌, map, take, run, answers, core_of, step_of, answer_of}
 use Rattle.rv_slotcore.proofs.machine.Core.run.Given as goal
 
 abbrev pub invariant-loop-k : goal.invariant-loop-k

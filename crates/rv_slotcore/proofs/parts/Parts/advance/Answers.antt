@@ -1,6 +1,4 @@
-use Rattle.std.proofs.Common.{ℕ, sym, ap, ◌∙◌}
-use Rattle.rv_slotcore.specs.Machine.{Slot, with_slot, freed_slot}
-use Rattle.rv_slotcore.specs.CoreIs.{core_of, slot_read}
+use Rattle.rv_slotcore.proofs.Common.{ℕ, sym, ap, ◌∙◌, Slot, with_slot, freed_slot, core_of, slot_read}
 use Rattle.rv_slotcore.proofs.CoreWords.{freed_word}
 use Rattle.rv_slotcore.proofs.parts.Parts.advance.Goals as goal
 

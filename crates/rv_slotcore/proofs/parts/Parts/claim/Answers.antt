@@ -1,7 +1,6 @@
-use Rattle.std.proofs.Common.{sym, ap, refl, ◌∙◌}
-use Rattle.rv_slotcore.specs.Machine.{Seat, claims, claimed_slot, in_state, Filling, Fills}
-use Rattle.rv_slotcore.specs.Machine.{no_words, with_both}
-use Rattle.rv_slotcore.specs.CoreIs.{core_of, state_of}
+use Rattle.rv_slotcore.proofs.Common.{sym, ap, refl, ◌∙◌, Seat, claims, claimed_slot, in_state, Filling, no_words}
+use Rattle.rv_slotcore.proofs.Common.{with_both, core_of, state_of}
+use Rattle.rv_slotcore.specs.Machine.{Fills}
 use Rattle.rv_slotcore.proofs.CoreActs.{went, two_writes}
 use Rattle.rv_slotcore.proofs.parts.Parts.claim.Goals as goal
 

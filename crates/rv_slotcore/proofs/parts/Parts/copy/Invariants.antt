@@ -1,5 +1,4 @@
-use Rattle.std.proofs.Common.{◌≡◌, map, take}
-use Rattle.rv_slotcore.specs.CoreIs.{seat_of}
+use Rattle.rv_slotcore.proofs.Common.{◌≡◌, map, take, seat_of}
 use Rattle.rv_slotcore.proofs.parts.Parts.copy.Given as goal
 
 abbrev pub invariant-loop-k : goal.invariant-loop-k

@@ -1,6 +1,4 @@
-use Rattle.std.proofs.Common.{eq-eqb}
-use Rattle.std.proofs.Common.{arith}
-use Rattle.std.proofs.lemmas.Grind.{common_steps}
+use Rattle.rv_slotcore.proofs.Common.{eq-eqb, arith, common_steps}
 use Rattle.rv_slotcore.proofs.CoreActs.{went}
 use Rattle.rv_slotcore.proofs.parts.Parts.free.Goals as goal
 

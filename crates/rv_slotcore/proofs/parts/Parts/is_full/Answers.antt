@@ -1,6 +1,4 @@
-use Rattle.rv_slotcore.specs.Places.{full_bit}
-use Rattle.std.proofs.Common.{sym, ap, ◌∙◌}
-use Rattle.rv_slotcore.specs.Machine.{Slot}
+use Rattle.rv_slotcore.proofs.Common.{full_bit, sym, ap, ◌∙◌, Slot}
 use Rattle.rv_slotcore.proofs.CoreWords.{mask_is}
 use Rattle.rv_slotcore.proofs.parts.Parts.is_full.Goals as goal
 

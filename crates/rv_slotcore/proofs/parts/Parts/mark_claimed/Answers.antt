@@ -1,6 +1,4 @@
-use Rattle.std.proofs.Common.{sym, ap, ◌∙◌}
-use Rattle.rv_slotcore.specs.Machine.{Slot, with_slot, claimed_slot}
-use Rattle.rv_slotcore.specs.CoreIs.{core_of}
+use Rattle.rv_slotcore.proofs.Common.{sym, ap, ◌∙◌, Slot, with_slot, claimed_slot, core_of}
 use Rattle.rv_slotcore.proofs.CoreWords.{claimed_word}
 use Rattle.rv_slotcore.proofs.parts.Parts.mark_claimed.Goals as goal
 

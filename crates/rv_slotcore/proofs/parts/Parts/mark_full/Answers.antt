@@ -1,6 +1,4 @@
-use Rattle.std.proofs.Common.{sym, ap, ◌∙◌}
-use Rattle.rv_slotcore.specs.Machine.{Slot, with_slot, full_slot}
-use Rattle.rv_slotcore.specs.CoreIs.{core_of}
+use Rattle.rv_slotcore.proofs.Common.{sym, ap, ◌∙◌, Slot, with_slot, full_slot, core_of}
 use Rattle.rv_slotcore.proofs.CoreWords.{full_word}
 use Rattle.rv_slotcore.proofs.parts.Parts.mark_full.Goals as goal
 
@@ -8,5 +6,4 @@ pub returns : goal.returns
 returns c =
     let m = core_of c.args.self.now in
     c.set_word.ensures ∙ ap (λ (y : Slot). with_slot m c.args.slot y)
-    (full_word c.word.result (m.slots c.args.slot).content ∙ ap full_slot
-    (sym c.word.ensures.read))
+    (full_word c.word.result (m.slots c.args.slot).content ∙ ap full_slot (sym c.word.ensures.read))

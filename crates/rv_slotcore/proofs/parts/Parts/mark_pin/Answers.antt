@@ -1,6 +1,5 @@
-use Rattle.std.proofs.Common.{ℕ, bit_or, sym, ap, ◌∙◌, true}
-use Rattle.rv_slotcore.specs.Machine.{Slot, with_slot, pinned_slot}
-use Rattle.rv_slotcore.specs.CoreIs.{core_of, slot_read}
+use Rattle.rv_slotcore.proofs.Common.{ℕ, bit_or, sym, ap, ◌∙◌, true, Slot, with_slot, pinned_slot, core_of}
+use Rattle.rv_slotcore.proofs.Common.{slot_read}
 use Rattle.rv_slotcore.proofs.CoreWords.{pinned_word}
 use Rattle.rv_slotcore.proofs.parts.Parts.mark_pin.Goals as goal
 

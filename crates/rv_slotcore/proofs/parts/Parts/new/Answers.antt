@@ -1,5 +1,4 @@
-use Rattle.std.proofs.Common.{◌≡◌, replicate, arith, ap, ◌∙◌}
-use Rattle.rv_slotcore.specs.CoreIs.{idle_seat}
+use Rattle.rv_slotcore.proofs.Common.{◌≡◌, replicate, arith, ap, ◌∙◌, idle_seat}
 use Rattle.rv_slotcore.proofs.Starting.{starts, filled}
 use Rattle.rv_slotcore.proofs.parts.Parts.new.Goals as goal
 
@@ -10,5 +9,4 @@ returns c =
     let all : c.loop-number.number ≡ c.args.seats = omega arith in
     starts (record { slots = c.resize.new.self; seats = c.loop-number.entries }) n c.args.seats
     (filled c.resize.new.self.items c.new-table.result.items n _ c.in_ok-resize.ensures.items
-    table.items table.len)
-    (c.loop-number.invariant ∙ ap (λ m. replicate m idle_seat) all)
+    table.items table.len) (c.loop-number.invariant ∙ ap (λ m. replicate m idle_seat) all)

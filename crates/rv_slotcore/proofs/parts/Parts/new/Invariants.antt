@@ -1,6 +1,4 @@
-use Rattle.std.proofs.Common.{◌≡◌, map, replicate, List}
-use Rattle.rv_slotcore.specs.Machine.{Seat}
-use Rattle.rv_slotcore.specs.CoreIs.{seat_of, idle_seat}
+use Rattle.rv_slotcore.proofs.Common.{◌≡◌, map, replicate, List, Seat, seat_of, idle_seat}
 use Rattle.rv_slotcore.proofs.parts.Parts.new.Given as goal
 
 abbrev pub invariant-loop-number : goal.invariant-loop-number

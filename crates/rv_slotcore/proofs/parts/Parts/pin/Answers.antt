@@ -1,8 +1,6 @@
-use Rattle.std.proofs.Common.{ℕ, List, true, sym, ap, refl, ◌∙◌}
-use Rattle.rv_slotcore.specs.Machine.{Slot, Seat, pins_on, pins_as, pinned_slot, in_state}
-use Rattle.rv_slotcore.specs.Machine.{recorded}
-use Rattle.rv_slotcore.specs.Machine.{Pinned, Stray, Pins, Strays, with_both}
-use Rattle.rv_slotcore.specs.CoreIs.{core_of, state_of}
+use Rattle.rv_slotcore.proofs.Common.{ℕ, List, true, sym, ap, refl, ◌∙◌, Slot, Seat, pins_on, pins_as}
+use Rattle.rv_slotcore.proofs.Common.{pinned_slot, in_state, recorded, Pinned, Stray, Pins, Strays, with_both}
+use Rattle.rv_slotcore.proofs.Common.{core_of, state_of}
 use Rattle.rv_slotcore.proofs.CoreActs.{went, two_writes, two_writes_back}
 use Rattle.rv_slotcore.proofs.parts.Parts.pin.Goals as goal
 

@@ -1,9 +1,6 @@
-use Rattle.std.proofs.Common.{ℕ, List, ◌&&◌, sym, ap, refl, ◌∙◌}
-use Rattle.rv_slotcore.specs.Machine.{publishes, publishes_if, full_slot, recorded}
-use Rattle.rv_slotcore.specs.Machine.{Idle, Published, Unfit, with_both}
-use Rattle.rv_slotcore.specs.Machine.{put_words}
-use Rattle.rv_chunk.specs.Chunks.{is_chunk_text}
-use Rattle.rv_slotcore.specs.CoreIs.{core_of, state_of}
+use Rattle.rv_slotcore.proofs.Common.{ℕ, List, ◌&&◌, sym, ap, refl, ◌∙◌, publishes, publishes_if, full_slot}
+use Rattle.rv_slotcore.proofs.Common.{recorded, Idle, Published, Unfit, with_both, put_words, is_chunk_text}
+use Rattle.rv_slotcore.proofs.Common.{core_of, state_of}
 use Rattle.rv_slotcore.proofs.CoreActs.{put_is, all_is, went, two_writes_back}
 use Rattle.rv_slotcore.proofs.parts.Parts.publish.Goals as goal
 

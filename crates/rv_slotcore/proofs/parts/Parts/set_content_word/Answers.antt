@@ -1,6 +1,4 @@
-use Rattle.std.proofs.Common.{◌<◌, length, refl, arith}
-use Rattle.std.specs.Prelude.{slice_set}
-use Rattle.rv_slotcore.specs.Machine.{Slot, written_slot}
+use Rattle.rv_slotcore.proofs.Common.{◌<◌, length, refl, arith, slice_set, Slot, written_slot}
 use Rattle.rv_slotcore.proofs.CorePlaces.{slots_written}
 use Rattle.rv_slotcore.proofs.parts.Parts.set_content_word.Goals as goal
 
@@ -15,5 +13,4 @@ returns c =
       word = c.index_mut.result.now.word;
       content = slice_set c.index_mut.result.now.content c.args.place c.args.word;
     })
-    (λ (x : Slot). written_slot x c.args.place c.args.word) within c.index_mut.ensures.value
-    refl
+    (λ (x : Slot). written_slot x c.args.place c.args.word) within c.index_mut.ensures.value refl

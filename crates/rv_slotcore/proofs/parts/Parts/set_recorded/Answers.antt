@@ -1,9 +1,5 @@
-use Rattle.std.proofs.Common.{◌≡◌, ◌<◌, List, [], ◌∷◌, ◌++◌, map, length, ap, ◌∙◌}
-use Rattle.std.proofs.Common.{arith}
-use Rattle.std.specs.Prelude.{reverse}
-use Rattle.std.proofs.lemmas.List.{reverse-append, map-append}
-use Rattle.rv_slotcore.specs.Machine.{Seat, recorded}
-use Rattle.rv_slotcore.specs.CoreIs.{core_of, state_of, record_of}
+use Rattle.rv_slotcore.proofs.Common.{◌≡◌, ◌<◌, List, [], ◌∷◌, ◌++◌, map, length, ap, ◌∙◌, arith, reverse}
+use Rattle.rv_slotcore.proofs.Common.{reverse-append, map-append, Seat, recorded, core_of, state_of, record_of}
 use Rattle.rv_slotcore.specs.declared.parts.Record.{Record}
 use Rattle.rv_slotcore.proofs.CorePlaces.{seats_written, same_seat}
 use Rattle.rv_slotcore.proofs.parts.Parts.set_recorded.Goals as goal
@@ -17,8 +13,7 @@ returns-in_default-clause-err c =
     let same = ap (λ (rs : List Record). reverse (map record_of rs)) c.in_default.ensures.items in
     seats_written h c.args.seat x (record { state = x.state; records = c.push.new.self })
     (λ (q : Seat). q) within c.index_mut-entry.ensures.value
-    (λ k. record { state = state_of x.state; records = same k }) ∙ same_seat
-    (core_of h) c.args.seat
+    (λ k. record { state = state_of x.state; records = same k }) ∙ same_seat (core_of h) c.args.seat
 
 one_more : (rs : List Record) (r : Record) → reverse (map record_of (rs ++ r ∷ [])) ≡ record_of r
     ∷ reverse (map record_of rs)

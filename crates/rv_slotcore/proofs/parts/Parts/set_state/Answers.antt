@@ -1,6 +1,4 @@
-use Rattle.std.proofs.Common.{◌<◌, length, refl, arith}
-use Rattle.rv_slotcore.specs.Machine.{Seat, in_state}
-use Rattle.rv_slotcore.specs.CoreIs.{state_of}
+use Rattle.rv_slotcore.proofs.Common.{◌<◌, length, refl, arith, Seat, in_state, state_of}
 use Rattle.rv_slotcore.proofs.CorePlaces.{seats_written}
 use Rattle.rv_slotcore.proofs.parts.Parts.set_state.Goals as goal
 

@@ -1,6 +1,4 @@
-use Rattle.std.proofs.Common.{◌<◌, length, refl, arith}
-use Rattle.rv_slotcore.specs.Machine.{Slot}
-use Rattle.rv_slotcore.specs.CoreIs.{slot_read}
+use Rattle.rv_slotcore.proofs.Common.{◌<◌, length, refl, arith, Slot, slot_read}
 use Rattle.rv_slotcore.proofs.CorePlaces.{slots_written}
 use Rattle.rv_slotcore.proofs.parts.Parts.set_word.Goals as goal
 

@@ -1,6 +1,4 @@
-use Rattle.std.proofs.Common.{◌<◌, arith}
-use Rattle.rv_slotcore.specs.Machine.{moves, puts, frees}
-use Rattle.rv_slotcore.specs.CoreIs.{core_of, act_of}
+use Rattle.rv_slotcore.proofs.Common.{◌<◌, arith, moves, puts, frees, core_of, act_of}
 use Rattle.rv_slotcore.proofs.CoreActs.{went_in_range}
 use Rattle.rv_slotcore.proofs.parts.Parts.step.Goals as goal
 

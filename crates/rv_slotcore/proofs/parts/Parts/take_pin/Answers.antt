@@ -1,15 +1,11 @@
-use Rattle.std.proofs.Common.{◌≡◌, ℕ, sym, ap, ◌∙◌, false, bit_and, w64}
-use Rattle.std.specs.Int.{bit_not}
-use Rattle.std.proofs.Common.{rules}
-use Rattle.rv_slotcore.specs.Machine.{Slot, pinned_slot, word_of}
-use Rattle.rv_slotcore.specs.CoreIs.{core_of, slot_read}
+use Rattle.rv_slotcore.proofs.Common.{◌≡◌, ℕ, sym, ap, ◌∙◌, false, bit_and, w64, bit_not, rules, Slot}
+use Rattle.rv_slotcore.proofs.Common.{pinned_slot, word_of, core_of, slot_read}
 use Rattle.rv_slotcore.proofs.CoreWords.{unpinned_word, word_back, cleared}
 use Rattle.rv_slotcore.proofs.parts.Parts.take_pin.Goals as goal
 
 word_is : (c : goal.After-set_word) → bit_and c.word.result (bit_not w64 c.pin_of.result)
     ≡ cleared c.word.result c.args.seat
-word_is c = ap (λ (n : ℕ). bit_and c.word.result (bit_not w64 n))
-    c.pin_of.ensures
+word_is c = ap (λ (n : ℕ). bit_and c.word.result (bit_not w64 n)) c.pin_of.ensures
 
 slot_is : (c : goal.After-set_word) → slot_read
     (bit_and c.word.result (bit_not w64 c.pin_of.result))

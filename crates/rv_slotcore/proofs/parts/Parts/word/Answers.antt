@@ -1,6 +1,4 @@
-use Rattle.std.proofs.Common.{◌<◌, length, sym, ap, ◌∙◌, arith}
-use Rattle.rv_slotcore.specs.Machine.{word_of, blank_slot}
-use Rattle.rv_slotcore.specs.CoreIs.{slot_of}
+use Rattle.rv_slotcore.proofs.Common.{◌<◌, length, sym, ap, ◌∙◌, arith, word_of, blank_slot, slot_of}
 use Rattle.rv_slotcore.proofs.CoreWords.{word_back}
 use Rattle.rv_slotcore.proofs.CorePlaces.{read_at}
 use Rattle.rv_slotcore.proofs.parts.Parts.word.Goals as goal
@@ -11,6 +9,5 @@ returns-clause-word c =
     let ok = h.slots.ok.0 in
     let x = c.index.result.now in
     let within : c.args.slot < length h.slots.items = omega arith in
-    sym (ap word_of
-    (read_at slot_of blank_slot h.slots.items c.args.slot x within c.index.ensures)
+    sym (ap word_of (read_at slot_of blank_slot h.slots.items c.args.slot x within c.index.ensures)
     ∙ word_back x.word x.content)

@@ -1,8 +1,6 @@
-use Rattle.std.proofs.Common.{arith}
-use Rattle.std.proofs.lemmas.Grind.{common_steps}
+use Rattle.rv_slots.proofs.Common.{arith, common_steps}
 use Rattle.rv_slots.proofs.ClaimSteps.{claims_by}
-use Rattle.rv_slots.proofs.Told.{inside_after, clear_bit}
-use Rattle.rv_slots.proofs.Told.{set_bit}
+use Rattle.rv_slots.proofs.Told.{inside_after, clear_bit, set_bit}
 use Rattle.rv_slots.proofs.slots.Slots.claim.Goals as goal
 
 pub fetch_or-found-requires : goal.fetch_or-found-requires

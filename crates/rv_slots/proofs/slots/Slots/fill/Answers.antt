@@ -1,8 +1,4 @@
-use Rattle.std.proofs.Common.{ℕ, ap, ◌∙◌}
-use Rattle.std.proofs.Common.{rules}
-use Rattle.rv_chunk.specs.Chunks.{is_chunk_text}
-use Rattle.rv_slots.specs.Lines.{put_in, published}
-use Rattle.rv_slots.specs.Calls.{filling_view}
+use Rattle.rv_slots.proofs.Common.{ℕ, ap, ◌∙◌, rules, is_chunk_text, put_in, published, filling_view}
 use Rattle.rv_slots.proofs.Loops.{put_all}
 use Rattle.rv_slots.proofs.slots.Slots.fill.Goals as goal
 

@@ -1,8 +1,5 @@
-use Rattle.std.proofs.Common.{◌≡◌}
-use Rattle.rv_slots.specs.Calls.{filling_view}
-use Rattle.rv_slots.specs.Lines.{put_in}
+use Rattle.rv_slots.proofs.Common.{◌≡◌, filling_view, put_in, IsSameBook}
 use Rattle.rv_slots.proofs.Loops.{HasWords}
-use Rattle.rv_slots.specs.Carried.{IsSameBook}
 use Rattle.rv_slots.proofs.slots.Slots.fill.Given as goal
 
 abbrev pub invariant-loop-place : goal.invariant-loop-place

@@ -1,6 +1,4 @@
-use Rattle.std.proofs.Common.{rules, [], ◌∷◌, arith, ap, ◌∙◌}
-use Rattle.std.proofs.Common.{refl}
-use Rattle.rv_slots.specs.Lines.{the_view}
+use Rattle.rv_slots.proofs.Common.{rules, [], ◌∷◌, arith, ap, ◌∙◌, refl, the_view}
 use Rattle.rv_slots.proofs.Places.{glues, learns, cuts, met_is, met, first_again, second_again}
 use Rattle.rv_slots.proofs.slots.Slots.meet.Goals as goal
 
@@ -27,8 +25,7 @@ split_seat-other-requires c = let a = c.args.first in let b = c.args.second in l
       c.load.ensures.0 ∙ (c.join_seat.ensures.0 ∙ c.requires.first),
       omega arith,
       cuts t.key c.load.new.seat.id c.load.new.seat.me.0 (the_view a.place.me.0)
-          (the_view b.place.me.0 ∷ [])
-          (ap (λ m. m.0)
+          (the_view b.place.me.0 ∷ []) (ap (λ m. m.0)
           (met_is a.number b.number a.place.me b.place.me c.join_seat.new.seat.me
           c.load.new.seat.me a.idle.alone b.idle.alone c.join_seat.ensures.2
           c.load.ensures.2.0)),

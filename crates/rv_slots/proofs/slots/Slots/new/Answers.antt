@@ -1,13 +1,7 @@
-use Rattle.rv_slotcore.specs.Places.{last_seat, seats_at_most}
-use Rattle.std.proofs.Common.{rules, ◌≡◌, ◌+◌, ◌-◌, ℕ, [], arith, subst}
-use Rattle.std.proofs.Common.{sym, ap, ◌∙◌, refl, List}
-use Rattle.rv_slots.specs.Rule.{Kept, opening_view}
-use Rattle.rv_slots.specs.Lines.{fresh_seats}
-use Rattle.rv_slots.specs.Opening.{AreSeats}
-use Rattle.atomic_table.specs.Table.{opening}
+use Rattle.rv_slots.proofs.Common.{last_seat, seats_at_most, rules, ◌≡◌, ◌+◌, ◌-◌, ℕ, [], arith, subst, sym, ap}
+use Rattle.rv_slots.proofs.Common.{◌∙◌, refl, List, Kept, opening_view, fresh_seats, AreSeats, opening}
 use Rattle.rv_slots.proofs.Places.{opens}
-use Rattle.rv_slots.proofs.OpenSteps.{next_cuts, left_is, right_is, idle_fresh}
-use Rattle.rv_slots.proofs.OpenSteps.{seats_pushed, all_ours}
+use Rattle.rv_slots.proofs.OpenSteps.{next_cuts, left_is, right_is, idle_fresh, seats_pushed, all_ours}
 use Rattle.rv_slots.proofs.slots.Slots.new.Goals as goal
 
 pub of_words-requires : goal.of_words-requires

@@ -1,7 +1,4 @@
-use Rattle.rv_slotcore.specs.Places.{last_seat, seats_at_most}
-use Rattle.std.proofs.Common.{◌≡◌, ◌≤◌, ◌-◌, []}
-use Rattle.rv_slots.specs.Opening.{AreSeats}
-use Rattle.rv_slots.specs.Lines.{fresh_seats}
+use Rattle.rv_slots.proofs.Common.{last_seat, seats_at_most, ◌≡◌, ◌≤◌, ◌-◌, [], AreSeats, fresh_seats}
 use Rattle.rv_slots.proofs.slots.Slots.new.Given as goal
 
 abbrev pub invariant-loop-number : goal.invariant-loop-number

@@ -1,12 +1,10 @@
-use Rattle.std.proofs.Common.{rules}
-use Rattle.std.proofs.Common.{arith}
-use Rattle.std.proofs.lemmas.Grind.{common_steps}
+use Rattle.rv_slots.proofs.Common.{rules, arith, common_steps}
 use Rattle.rv_slots.proofs.PinSteps.{pins_with}
-use Rattle.rv_slots.proofs.Told.{zero_one, view_told, inside_after}
-use Rattle.rv_slots.proofs.Told.{latest_told, full_set, full_clear, done_set, done_clear}
-use Rattle.rv_slots.proofs.slots.Slots.pin.Goals as goal
+use Rattle.rv_slots.proofs.Told.{zero_one, view_told, inside_after, latest_told, full_set, full_clear, done_set}
+use Rattle.rv_slots.proofs.Told.{done_clear}
 use Rattle.rv_slots.proofs.slots.Slots.pin.Goals.{else-found-ne0-via-then-found-ne0+else-found-eq0}
 use Rattle.rv_slots.proofs.slots.Slots.pin.Goals.{else-found-ne0-via-else-found-ne0}
+use Rattle.rv_slots.proofs.slots.Slots.pin.Goals as goal
 
 pub fetch_or-found-requires : goal.fetch_or-found-requires
 fetch_or-found-requires c = let sized = c.args.self.now.sized in let below = c.requires.slot in

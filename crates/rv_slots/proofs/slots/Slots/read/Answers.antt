@@ -1,7 +1,5 @@
-use Rattle.std.proofs.Common.{◌≡◌, length, arith, ap, ◌∙◌, List, ℕ, Option, true≢false}
-use Rattle.std.proofs.lemmas.Grind.{common_steps}
-use Rattle.rv_slots.specs.Lines.{pin_words}
-use Rattle.rv_slots.specs.Calls.{pinned_view}
+use Rattle.rv_slots.proofs.Common.{◌≡◌, length, arith, ap, ◌∙◌, List, ℕ, Option, true≢false, common_steps}
+use Rattle.rv_slots.proofs.Common.{pin_words, pinned_view}
 use Rattle.rv_slots.specs.declared.seats.Pinned.{Pinned}
 use Rattle.rv_slots.proofs.Loops.{put_all, pin_words_is}
 use Rattle.rv_slots.proofs.slots.Slots.read.Goals as goal

@@ -1,5 +1,4 @@
-use Rattle.std.proofs.Common.{arith}
-use Rattle.std.proofs.lemmas.Grind.{common_steps}
+use Rattle.rv_slots.proofs.Common.{arith, common_steps}
 use Rattle.rv_slots.proofs.UnpinSteps.{unpins_pinned_by}
 use Rattle.rv_slots.proofs.Told.{slot_below}
 use Rattle.rv_slots.proofs.slots.Slots.unpin.Goals as goal

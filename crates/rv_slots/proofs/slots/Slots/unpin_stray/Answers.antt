@@ -1,6 +1,5 @@
+use Rattle.rv_slots.proofs.Common.{arith, common_steps}
 use Rattle.rv_slots.proofs.Told.{slot_below}
-use Rattle.std.proofs.Common.{arith}
-use Rattle.std.proofs.lemmas.Grind.{common_steps}
 use Rattle.rv_slots.proofs.UnpinSteps.{unpins_stray_by}
 use Rattle.rv_slots.proofs.slots.Slots.unpin_stray.Goals as goal
 

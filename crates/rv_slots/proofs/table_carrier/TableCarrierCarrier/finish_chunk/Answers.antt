@@ -1,11 +1,8 @@
-use Rattle.std.proofs.Common.{◌≡◌, Bool, sym, ap, ◌∙◌, subst}
+use Rattle.rv_slots.proofs.Common.{◌≡◌, Bool, sym, ap, ◌∙◌, subst, pinned_view, IsDone}
 use Rattle.rv_slots.specs.declared.seats.Pinned.{Pinned}
-use Rattle.rv_slots.specs.Calls.{pinned_view}
-use Rattle.rv_slots.specs.Carried.{IsDone}
 use Rattle.rv_slots.proofs.Loops.{let_go}
+use Rattle.rv_slots.proofs.table_carrier.TableCarrierCarrier.finish_chunk.Goals.{then-applied, else-applied}
 use Rattle.rv_slots.proofs.table_carrier.TableCarrierCarrier.finish_chunk.Goals as goal
-use Rattle.rv_slots.proofs.table_carrier.TableCarrierCarrier.finish_chunk.Goals.{then-applied}
-use Rattle.rv_slots.proofs.table_carrier.TableCarrierCarrier.finish_chunk.Goals.{else-applied}
 
 pub returns-clause-finish : goal.returns-clause-finish
 returns-clause-finish g c =

@@ -1,5 +1,4 @@
-use Rattle.std.proofs.Common.{◌<◌, arith, ◌∙◌, inr}
-use Rattle.rv_slots.specs.Calls.{stray_view}
+use Rattle.rv_slots.proofs.Common.{◌<◌, arith, ◌∙◌, inr, stray_view}
 use Rattle.rv_slots.proofs.Loops.{let_go}
 use Rattle.rv_slots.proofs.table_carrier.TableCarrierCarrier.read_chunk.Goals as goal
 

@@ -1,6 +1,4 @@
-use Rattle.std.proofs.Common.{ℕ, ◌+◌, sym, subst, rules}
-use Rattle.std.proofs.lemmas.Option.{same_Some}
-use Rattle.rv_versions.specs.Accesses.{IsNearestAbove}
+use Rattle.rv_versions.proofs.Common.{ℕ, ◌+◌, sym, subst, rules, same_Some, IsNearestAbove}
 use Rattle.rv_versions.proofs.Neighbours.{above_some, above_none}
 use Rattle.rv_versions.proofs.accesses.Accesses.higher_store.Goals as goal
 

@@ -1,6 +1,4 @@
-use Rattle.std.proofs.Common.{sym, ◌∙◌, refl}
-use Rattle.std.proofs.Common.{arith}
-use Rattle.std.proofs.lemmas.Grind.{common_steps}
+use Rattle.rv_versions.proofs.Common.{sym, ◌∙◌, refl, arith, common_steps}
 use Rattle.rv_versions.proofs.Posted.{went, same_itself, same_again}
 use Rattle.rv_versions.proofs.accesses.Accesses.insert.Goals as goal
 

@@ -1,5 +1,4 @@
-use Rattle.std.proofs.Common.{rules}
-use Rattle.std.proofs.lemmas.Option.{same_Some}
+use Rattle.rv_versions.proofs.Common.{rules, same_Some}
 use Rattle.rv_versions.proofs.Neighbours.{below_some, below_none}
 use Rattle.rv_versions.proofs.accesses.Accesses.lower_store.Goals as goal
 

@@ -1,5 +1,4 @@
-use Rattle.std.proofs.Common.{rules}
-use Rattle.std.proofs.lemmas.Option.{same_Some}
+use Rattle.rv_versions.proofs.Common.{rules, same_Some}
 use Rattle.rv_versions.proofs.Neighbours.{parted_by_either}
 use Rattle.rv_versions.proofs.accesses.Accesses.unparted_from.Goals as goal
 

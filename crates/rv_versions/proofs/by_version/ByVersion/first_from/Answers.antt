@@ -1,8 +1,5 @@
-use Rattle.std.proofs.lemmas.Grind.{common_steps}
-use Rattle.std.proofs.Common.{◌≡◌, ◌<◌, ◌∙◌, List, Some, length, get_or, ap, subst, arith, rules}
-use Rattle.std.specs.List.{AllWithin}
-use Rattle.rv_versions.specs.Accesses.{AreByVersion}
-use Rattle.rv_versions.specs.declared.accesses.Access.{Access}
+use Rattle.rv_versions.proofs.Common.{common_steps, ◌≡◌, ◌<◌, ◌∙◌, List, Some, length, get_or, ap, subst, arith}
+use Rattle.rv_versions.proofs.Common.{rules, AllWithin, AreByVersion, Access}
 use Rattle.rv_versions.proofs.Versioned.{first_some}
 use Rattle.rv_versions.proofs.by_version.ByVersion.first_from.Goals as goal
 

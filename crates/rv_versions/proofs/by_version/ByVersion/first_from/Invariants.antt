@@ -1,5 +1,4 @@
-use Rattle.std.proofs.Common.{◌≡◌, Some}
-use Rattle.std.specs.List.{AllWithin}
+use Rattle.rv_versions.proofs.Common.{◌≡◌, Some, AllWithin}
 use Rattle.rv_versions.proofs.by_version.ByVersion.first_from.Given as goal
 
 -- those up to the place are left aside

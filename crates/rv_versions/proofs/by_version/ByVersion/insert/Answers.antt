@@ -1,9 +1,5 @@
-use Rattle.std.proofs.Common.{◌≡◌, ◌+◌, List, ℕ, Some, insert, sym, subst}
-use Rattle.std.proofs.Common.{arith}
-use Rattle.std.proofs.lemmas.Grind.{common_steps}
-use Rattle.rv_versions.specs.Accesses.{AreByVersion, IsStart}
-use Rattle.rv_versions.specs.Indexes.{IsInserted}
-use Rattle.rv_versions.specs.declared.accesses.Access.{Access}
+use Rattle.rv_versions.proofs.Common.{◌≡◌, ◌+◌, List, ℕ, Some, insert, sym, subst, arith, common_steps}
+use Rattle.rv_versions.proofs.Common.{AreByVersion, IsStart, IsInserted, Access}
 use Rattle.rv_versions.proofs.Versioned.{ordered_inserted, was_inserted}
 use Rattle.rv_versions.proofs.by_version.ByVersion.insert.Goals.{In_ok-insert}
 use Rattle.rv_versions.proofs.by_version.ByVersion.insert.Goals as goal

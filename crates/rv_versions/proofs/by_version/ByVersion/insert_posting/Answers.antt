@@ -1,6 +1,4 @@
-use Rattle.std.proofs.Common.{Option, sym, subst}
-use Rattle.rv_versions.specs.Indexes.{IsInserted}
-use Rattle.rv_versions.specs.declared.accesses.Access.{Access}
+use Rattle.rv_versions.proofs.Common.{Option, sym, subst, IsInserted, Access}
 use Rattle.rv_versions.proofs.by_version.ByVersion.insert_posting.Goals as goal
 
 pub returns-in_ok-insert-clause-inserted : goal.returns-in_ok-insert-clause-inserted

@@ -1,7 +1,5 @@
-use Rattle.std.proofs.Common.{◌-◌, ◌∙◌, List, ℕ, get_or, ap, subst, arith}
-use Rattle.std.proofs.lemmas.Grind.{common_steps}
-use Rattle.rv_versions.specs.Accesses.{AreByVersion, IsStart}
-use Rattle.rv_versions.specs.declared.accesses.Access.{Access}
+use Rattle.rv_versions.proofs.Common.{◌-◌, ◌∙◌, List, ℕ, get_or, ap, subst, arith, common_steps, AreByVersion}
+use Rattle.rv_versions.proofs.Common.{IsStart, Access}
 use Rattle.rv_versions.proofs.Versioned.{lower_some}
 use Rattle.rv_versions.proofs.by_version.ByVersion.lower.Goals as goal
 

@@ -1,8 +1,5 @@
-use Rattle.std.proofs.Common.{◌-◌, ◌+◌, ◌≢◌, ◌≡◌, ◌∙◌, List, ℕ, get_or, ap, subst, arith}
-use Rattle.std.specs.List.{AllWithin}
-use Rattle.std.proofs.Common.{rules}
-use Rattle.rv_versions.specs.Accesses.{AreByVersion, IsStart}
-use Rattle.rv_versions.specs.declared.accesses.Access.{Access}
+use Rattle.rv_versions.proofs.Common.{◌-◌, ◌+◌, ◌≢◌, ◌≡◌, ◌∙◌, List, ℕ, get_or, ap, subst, arith, AllWithin}
+use Rattle.rv_versions.proofs.Common.{rules, AreByVersion, IsStart, Access}
 use Rattle.rv_versions.proofs.Versioned.{absent_of}
 use Rattle.rv_versions.proofs.by_version.ByVersion.place_of.Goals as goal
 

@@ -1,5 +1,4 @@
-use Rattle.std.proofs.Common.{◌≢◌}
-use Rattle.std.specs.List.{AllWithin}
+use Rattle.rv_versions.proofs.Common.{◌≢◌, AllWithin}
 use Rattle.rv_versions.proofs.by_version.ByVersion.place_of.Given as goal
 
 -- the access is not among those from the place on

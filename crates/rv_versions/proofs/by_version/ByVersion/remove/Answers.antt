@@ -1,7 +1,4 @@
-use Rattle.std.proofs.Common.{◌∙◌, List, Some, remove, ap, sym, subst}
-use Rattle.rv_versions.specs.Accesses.{AreByVersion}
-use Rattle.rv_versions.specs.Indexes.{IsRemoved}
-use Rattle.rv_versions.specs.declared.accesses.Access.{Access}
+use Rattle.rv_versions.proofs.Common.{◌∙◌, List, Some, remove, ap, sym, subst, AreByVersion, IsRemoved, Access}
 use Rattle.rv_versions.proofs.Versioned.{was_removed}
 use Rattle.rv_versions.proofs.by_version.ByVersion.remove.Goals as goal
 

@@ -1,6 +1,4 @@
-use Rattle.std.proofs.Common.{Option, sym, subst}
-use Rattle.rv_versions.specs.Indexes.{IsRemoved}
-use Rattle.rv_versions.specs.declared.accesses.Access.{Access}
+use Rattle.rv_versions.proofs.Common.{Option, sym, subst, IsRemoved, Access}
 use Rattle.rv_versions.proofs.by_version.ByVersion.remove_posting.Goals as goal
 
 pub returns-in-Some : goal.returns-in-Some

@@ -1,6 +1,4 @@
-use Rattle.std.proofs.Common.{◌-◌, ◌<◌, ◌∙◌, List, get_or, length, ap, subst, arith}
-use Rattle.rv_versions.specs.Accesses.{AreByVersion}
-use Rattle.rv_versions.specs.declared.accesses.Access.{Access}
+use Rattle.rv_versions.proofs.Common.{◌-◌, ◌<◌, ◌∙◌, List, get_or, length, ap, subst, arith, AreByVersion, Access}
 use Rattle.rv_versions.proofs.Versioned.{low_before}
 use Rattle.rv_versions.proofs.by_version.ByVersion.start_back.Goals as goal
 

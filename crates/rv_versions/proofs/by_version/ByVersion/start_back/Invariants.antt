@@ -1,5 +1,4 @@
-use Rattle.std.proofs.Common.{◌≤◌}
-use Rattle.std.specs.List.{AllWithin}
+use Rattle.rv_versions.proofs.Common.{◌≤◌, AllWithin}
 use Rattle.rv_versions.proofs.by_version.ByVersion.start_back.Given as goal
 
 -- those from the place on are of no lower version

@@ -1,9 +1,6 @@
-use Rattle.std.proofs.Common.{arith}
-use Rattle.std.proofs.lemmas.Grind.{common_steps}
-use Rattle.std.proofs.Common.{◌∙◌, Option, Some, sym, subst}
-use Rattle.rv_versions.specs.Indexes.{own_postings, postings_of, AreInserted, AreRemoved, AreSame, AreAbsent}
-use Rattle.rv_versions.specs.declared.accesses.Postings.{Postings}
-use Rattle.rv_versions.specs.declared.reservation.Reservation.{Reservation}
+use Rattle.rv_versions.proofs.Common.{arith, common_steps, ◌∙◌, Option, Some, sym, subst, own_postings}
+use Rattle.rv_versions.proofs.Common.{postings_of, AreInserted, AreRemoved, AreSame, AreAbsent, Postings}
+use Rattle.rv_versions.proofs.Common.{Reservation}
 use Rattle.rv_versions.proofs.Posted.{failed, went, absent_pair, both_inserted, undone}
 use Rattle.rv_versions.proofs.indexes.Indexes.insert.Goals.{In-Some}
 use Rattle.rv_versions.proofs.indexes.Indexes.insert.Goals as goal

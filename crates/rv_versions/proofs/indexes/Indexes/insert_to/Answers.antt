@@ -1,13 +1,10 @@
-use Rattle.std.proofs.Common.{◌≡◌, ◌∙◌, get_or, set, nat_eq, sym, subst}
-use Rattle.std.specs.HashMap.{get}
-use Rattle.std.proofs.Common.{rules}
-use Rattle.rv_versions.specs.Indexes.{AreInserted, AreSame, AreAbsent}
-use Rattle.rv_versions.specs.Words.{no_accesses, together}
-use Rattle.rv_versions.specs.declared.accesses.Accesses.{Accesses}
-use Rattle.rv_versions.proofs.Placed.{here_is, from_inserted, from_same, still_in_place, are_inserted}
-use Rattle.rv_versions.proofs.Placed.{are_same, absent_here}
+use Rattle.rv_versions.proofs.Common.{◌≡◌, ◌∙◌, get_or, set, nat_eq, sym, subst, get, rules, AreInserted, AreSame}
+use Rattle.rv_versions.proofs.Common.{AreAbsent, no_accesses, together, Accesses}
+use Rattle.rv_versions.proofs.Placed.{here_is, from_inserted, from_same, still_in_place, are_inserted, are_same}
+use Rattle.rv_versions.proofs.Placed.{absent_here}
 use Rattle.rv_versions.proofs.Posted.{on_err, all_same}
-use Rattle.rv_versions.proofs.indexes.Indexes.insert_to.Goals.{After-index_mut-accesses, In_ok-insert, In_err-insert}
+use Rattle.rv_versions.proofs.indexes.Indexes.insert_to.Goals.{After-index_mut-accesses, In_ok-insert}
+use Rattle.rv_versions.proofs.indexes.Indexes.insert_to.Goals.{In_err-insert}
 use Rattle.rv_versions.proofs.indexes.Indexes.insert_to.Goals as goal
 
 here : (c : After-index_mut-accesses) →

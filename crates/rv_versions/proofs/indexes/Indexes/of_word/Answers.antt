@@ -1,7 +1,5 @@
-use Rattle.std.proofs.Common.{◌≡◌, Some, get_or, nat_eq, sym, subst}
-use Rattle.std.specs.HashMap.{get}
-use Rattle.rv_versions.specs.Words.{no_accesses, AreThoseTo}
-use Rattle.rv_versions.specs.declared.accesses.Accesses.{Accesses}
+use Rattle.rv_versions.proofs.Common.{◌≡◌, Some, get_or, nat_eq, sym, subst, get, no_accesses, AreThoseTo}
+use Rattle.rv_versions.proofs.Common.{Accesses}
 use Rattle.rv_versions.proofs.Placed.{are_to_word, none_to_word, here_is}
 use Rattle.rv_versions.proofs.indexes.Indexes.of_word.Goals as goal
 
@@ -18,8 +16,7 @@ returns-in-Some c =
     (are_to_word (get nat_eq c.self.inside.places) words in_place word k known))
 
 pub returns-in-None : goal.returns-in-None
-returns-in-None c =
-    subst (AreThoseTo c.args.self.now c.args.word) (sym c.self.invariant.1)
+returns-in-None c = subst (AreThoseTo c.args.self.now c.args.word) (sym c.self.invariant.1)
     (subst (λ (all : Accesses). AreThoseTo all c.args.word no_accesses) c.self.view_is
     (none_to_word (get nat_eq c.self.inside.places) c.self.inside.words.items c.self.invariant.0 c.args.word
     (sym c.in-None.ensures.value)))

@@ -1,7 +1,4 @@
-use Rattle.std.proofs.Common.{Option, sym, subst}
-use Rattle.rv_versions.specs.Indexes.{postings_of, AreRemoved}
-use Rattle.rv_versions.specs.declared.accesses.Postings.{Postings}
-use Rattle.rv_versions.specs.declared.reservation.Reservation.{Reservation}
+use Rattle.rv_versions.proofs.Common.{Option, sym, subst, postings_of, AreRemoved, Postings, Reservation}
 use Rattle.rv_versions.proofs.Posted.{both_removed}
 use Rattle.rv_versions.proofs.indexes.Indexes.remove.Goals as goal
 

@@ -1,10 +1,5 @@
-use Rattle.std.proofs.Common.{◌≡◌, Some, get_or, set, nat_eq, sym, subst}
-use Rattle.std.specs.HashMap.{get}
-use Rattle.std.proofs.Common.{arith}
-use Rattle.std.proofs.lemmas.Grind.{common_steps}
-use Rattle.rv_versions.specs.Indexes.{AreRemoved}
-use Rattle.rv_versions.specs.Words.{no_accesses, together}
-use Rattle.rv_versions.specs.declared.accesses.Accesses.{Accesses}
+use Rattle.rv_versions.proofs.Common.{◌≡◌, Some, get_or, set, nat_eq, sym, subst, get, arith, common_steps}
+use Rattle.rv_versions.proofs.Common.{AreRemoved, no_accesses, together, Accesses}
 use Rattle.rv_versions.proofs.Placed.{here_is, from_removed, still_in_place, are_removed, none_removed}
 use Rattle.rv_versions.proofs.indexes.Indexes.remove_from.Goals.{After-remove}
 use Rattle.rv_versions.proofs.indexes.Indexes.remove_from.Goals as goal

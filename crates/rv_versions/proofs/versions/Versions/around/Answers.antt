@@ -1,8 +1,5 @@
 -- What is listed is what the edges by versions ask for.
-use Rattle.std.proofs.Common.{rules}
-use Rattle.rv_cover.proofs.Indexing.{indexed_from_events}
-use Rattle.rv_event.proofs.Indexed.{Indexed, Sound, sound_of}
-use Rattle.rv_event.specs.Log.{events}
+use Rattle.rv_versions.proofs.Common.{rules, indexed_from_events, Indexed, Sound, sound_of, events}
 use Rattle.rv_versions.proofs.Around.{warranted_before, warranted_after}
 use Rattle.rv_versions.proofs.Carrying.{carried_before, carried_after}
 use Rattle.rv_versions.proofs.Nearest.{nearest}

@@ -1,10 +1,5 @@
 -- What is tested is what an edge to itself takes.
-use Rattle.std.proofs.Common.{List, subst}
-use Rattle.rv_cover.proofs.Indexing.{indexed_from_events}
-use Rattle.rv_event.proofs.Indexed.{sound_of}
-use Rattle.rv_event.specs.declared.event.Entry.{Entry}
-use Rattle.rv_event.specs.WellFormed.{WellFormedEvents}
-use Rattle.rv_event.specs.Log.{events}
+use Rattle.rv_versions.proofs.Common.{List, subst, indexed_from_events, sound_of, Entry, WellFormedEvents, events}
 use Rattle.rv_versions.proofs.Owning.{own_edge}
 use Rattle.rv_versions.proofs.versions.Versions.has_own_edge.Goals as goal
 

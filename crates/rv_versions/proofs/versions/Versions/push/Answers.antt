@@ -1,12 +1,6 @@
 -- The event joins the log and the indexes together.
-use Rattle.std.proofs.Common.{◌≡◌, ◌++◌, ◌∷◌, [], List, Option, None, refl, sym, ap, ◌∙◌, subst}
-use Rattle.std.proofs.Common.{arith}
-use Rattle.std.proofs.lemmas.Grind.{common_steps}
-use Rattle.rv_event.specs.Faults.{event_fault}
-use Rattle.rv_event.specs.Log.{events}
-use Rattle.rv_event.specs.declared.event.Entry.{Entry}
-use Rattle.rv_versions.specs.Reserved.{IsReserved}
-use Rattle.rv_versions.specs.declared.reservation.Reservation.{Reservation}
+use Rattle.rv_versions.proofs.Common.{◌≡◌, ◌++◌, ◌∷◌, [], List, Option, None, refl, sym, ap, ◌∙◌, subst, arith}
+use Rattle.rv_versions.proofs.Common.{common_steps, event_fault, events, Entry, IsReserved, Reservation}
 use Rattle.rv_versions.proofs.Indexing.{absent, indexes_same}
 use Rattle.rv_versions.proofs.Stored.{indexes_are, pushed}
 use Rattle.rv_versions.proofs.versions.Versions.push.Goals as goal
@@ -37,9 +31,7 @@ invariant_of-self-2 c =
     x x.event c.args.reserved c.self.invariant
     (subst (λ (log : List Entry). event_fault (events log) x.event ≡ None) (sym c.self.view_is) c.requires.sound)
     (subst (λ (log : List Entry). IsReserved (events log) x.event c.args.reserved) (sym c.self.view_is)
-    c.requires.reserved)
-    c.in_ok-insert.ensures.inserted
-    (c.push_reserved.ensures.items ∙
+    c.requires.reserved) c.in_ok-insert.ensures.inserted (c.push_reserved.ensures.items ∙
     ap (λ (xs : List Entry). xs ++ x ∷ []) c.reserve.ensures.items) refl
     (c.push_reserved-2.ensures.items ∙
     ap (λ (rs : List (Option Reservation)). rs ++ c.args.reserved ∷ []) c.reserve-2.ensures.items)

@@ -1,10 +1,5 @@
-use Rattle.std.proofs.Common.{◌≡◌, ◌≢◌, ◌∷◌, ◌++◌, [], List, Some, take, get_or, sym, subst, arith}
-use Rattle.std.proofs.lemmas.List.{take_more, take_all}
-use Rattle.std.proofs.lemmas.Grind.{common_steps}
-use Rattle.rv_event.specs.declared.reason.Link.{Link}
-use Rattle.rv_versions.specs.Accesses.{id_of}
-use Rattle.rv_versions.specs.Linked.{link, IsExtended}
-use Rattle.rv_versions.specs.declared.accesses.Access.{Access}
+use Rattle.rv_versions.proofs.Common.{◌≡◌, ◌≢◌, ◌∷◌, ◌++◌, [], List, Some, take, get_or, sym, subst, arith}
+use Rattle.rv_versions.proofs.Common.{take_more, take_all, common_steps, Link, id_of, link, IsExtended, Access}
 use Rattle.rv_versions.proofs.Linking.{Passed, linked_none, linked_more, linked_past, extended_same}
 use Rattle.rv_versions.proofs.versions.links.append.Goals.{then-ne+in_ok-push, else-ne}
 use Rattle.rv_versions.proofs.versions.links.append.Goals as goal

@@ -1,5 +1,4 @@
-use Rattle.std.proofs.Common.{◌≢◌, Some, take}
-use Rattle.rv_versions.specs.Linked.{IsExtended}
+use Rattle.rv_versions.proofs.Common.{◌≢◌, Some, take, IsExtended}
 use Rattle.rv_versions.proofs.Linking.{Passed}
 use Rattle.rv_versions.proofs.versions.links.append.Given as goal
 
