@@ -78,12 +78,15 @@ impl History {
     pub fn new(alloc: Global, model: MemoryModel) -> Self
         ensures { result ≡ record { model = model; log = []; kept = [] } }
     {
+        let versions = Versions::new(alloc);
+        let harts = Vec::new(alloc);
+        let links = KeptLinks::new(alloc);
         History {
             alloc,
             model,
-            versions: Versions::new(alloc),
-            harts: Vec::new(alloc),
-            links: KeptLinks::new(alloc),
+            versions,
+            harts,
+            links,
         }
     }
 
@@ -159,9 +162,11 @@ impl History {
         let reserved = self.reserved(event);
         let rules = self.rule_links(event)?;
         let VersionLinks { before, after } = self.versions.around(event, reserved, rules)?;
+        let before = Links::from_vec(before);
+        let after = Links::from_vec(after);
         Ok(Around {
-            before: Links::from_vec(before),
-            after: Links::from_vec(after),
+            before,
+            after,
             itself: self.versions.has_own_edge(event, reserved),
             stale: self.stale(event),
         })

@@ -37,10 +37,9 @@ impl HartOrder {
         ensures number { result.kept.number ≡ number }
         ensures none { (log : List Event) → (hart_of_log log result).events ≡ [] → IsHartOf log result }
     {
-        HartOrder {
-            places: Vec::new(alloc),
-            kept: Kept::new(alloc, model, number),
-        }
+        let places = Vec::new(alloc);
+        let kept = Kept::new(alloc, model, number);
+        HartOrder { places, kept }
     }
 
     /// The hart's events, in program order.

@@ -38,13 +38,16 @@ impl Kept {
         ensures number { result.number ≡ number }
         ensures kept { IsKept [] result }
     {
+        let rows = Rows::new(alloc);
+        let sets = Sets::new();
+        let words = Words::new(alloc);
         Kept {
             alloc,
             model,
             number,
-            rows: Rows::new(alloc),
-            sets: Sets::new(),
-            words: Words::new(alloc),
+            rows,
+            sets,
+            words,
         }
     }
 

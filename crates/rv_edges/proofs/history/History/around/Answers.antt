@@ -44,10 +44,10 @@ module _ (c : goal.After-stale) where
       c.self.invariant c.args.self.now c.self.view_is
 
   abbrev before : List Link
-  before = c.from_vec.result
+  before = c.from_vec-before.result
 
   abbrev after : List Link
-  after = c.from_vec-2.result
+  after = c.from_vec-after.result
 
   abbrev rules : List Link
   rules = c.in_ok-rules.rules.items
@@ -56,7 +56,7 @@ module _ (c : goal.After-stale) where
   others = c.in_ok-before.ensures.0
 
   joined : before ≡ rules ++ others
-  joined = c.from_vec.ensures ∙ c.in_ok-before.ensures.1
+  joined = c.from_vec-before.ensures ∙ c.in_ok-before.ensures.1
 
   by_rules : AreRuleLinks (hart_in c.args.self.now c.args.event.now.id.hart) c.args.event.now rules
   by_rules = c.in_ok-rules.ensures
@@ -64,7 +64,7 @@ module _ (c : goal.After-stale) where
   by_versions : AreVersionLinks c.args.self.now.model (happened c.args.self.now.kept) c.args.event.now others after
   by_versions =
       subst (λ (ls : List Link). AreVersionLinks c.args.self.now.model (happened c.args.self.now.kept) c.args.event.now
-      others ls) (sym c.from_vec-2.ensures)
+      others ls) (sym c.from_vec-after.ensures)
       (subst (λ (l : List Event). AreVersionLinks c.args.self.now.model l c.args.event.now others
       c.in_ok-before.field-0.after.items) log (c.in_ok-before.ensures.2 c.args.self.now.model))
 

@@ -6,12 +6,12 @@ use Rattle.rv_edges.proofs.history.History.new.Goals as goal
 
 pub invariant_of-result : goal.invariant_of-result
 invariant_of-result c =
-    let none = no_sides (events c.new.result) c.new-3.result (ap events c.new.ensures) c.new-3.ensures in
+    let none = no_sides (events c.new-versions.result) c.new-links.result (ap events c.new-versions.ensures) c.new-links.ensures in
     record {
       lengths = none.0;
       history = subst (IsHistory _) (sym none.1) (IsHistory-nil _);
       own = record {
-        each = λ h x low. absurd (omega (arith, low, ap length c.new-2.ensures.items));
-        none = λ h high. ap (λ (es : List Event). of_hart h es) (ap events c.new.ensures);
+        each = λ h x low. absurd (omega (arith, low, ap length c.new-harts.ensures.items));
+        none = λ h high. ap (λ (es : List Event). of_hart h es) (ap events c.new-versions.ensures);
       };
     }

@@ -5,6 +5,6 @@ use Rattle.rv_hart.proofs.hart.HartOrder.new.Goals as goal
 
 pub returns-clause-none : goal.returns-clause-none
 returns-clause-none c = λ log none. record {
-  places = c.new.ensures.items ∙ sym (places-none _ log none);
-  kept = subst (λ (es : List Event). IsKept es c.new-2.result) (sym none) c.new-2.ensures.kept;
+  places = c.new-places.ensures.items ∙ sym (places-none _ log none);
+  kept = subst (λ (es : List Event). IsKept es c.new-kept.result) (sym none) c.new-kept.ensures.kept;
 }
