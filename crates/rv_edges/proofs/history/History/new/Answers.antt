@@ -6,7 +6,8 @@ use Rattle.rv_edges.proofs.history.History.new.Goals as goal
 
 pub invariant_of-result : goal.invariant_of-result
 invariant_of-result c =
-    let none = no_sides (events c.new-versions.result) c.new-links.result (ap events c.new-versions.ensures) c.new-links.ensures in
+    let none = no_sides (events c.new-versions.result) c.new-links.result (ap events c.new-versions.ensures)
+    c.new-links.ensures in
     record {
       lengths = none.0;
       history = subst (IsHistory _) (sym none.1) (IsHistory-nil _);

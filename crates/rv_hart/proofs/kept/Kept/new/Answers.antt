@@ -7,4 +7,5 @@ returns-clause-kept c =
     let h : Hart = record { model = c.args.model; number = c.args.number; events = [] } in
     kept_from [] _ h refl (hart-none c.args.model c.args.number)
     (rows-none c.args.model c.args.number c.new-rows.result c.new-rows.ensures)
-    (ap (λ (rs : List (List ℕ)). length rs) c.new-rows.ensures) (c.new-sets.ensures h refl) (c.new-words.ensures [] refl)
+    (ap (λ (rs : List (List ℕ)). length rs) c.new-rows.ensures) (c.new-sets.ensures h refl)
+    (c.new-words.ensures [] refl)
