@@ -1,12 +1,14 @@
 //! The events of one hart, and the links that its next event asks for by preserved program order.
 //!
 //! Preserved program order is what the manual's thirteen rules order of a hart's operations
-//! (section 14.1, "Preserved Program Order"). A [`HartOrder`] keeps a hart's events, and lists for
-//! the next one the earlier events that a rule orders before it, each with the lowest such rule,
-//! and leaves out those from which rules lead on to another listed one. It looks at no pair of
-//! events: sets of the hart's events, one bit an event, are joined and subtracted 64 at a time.
+//! (section 14.1, "Preserved Program Order"). A [`HartOrder`] lists for a hart's next event the
+//! earlier events that a rule orders before it, each with the lowest such rule, and leaves out those
+//! from which rules lead on to another listed one. It looks at no pair of events: sets of the hart's
+//! events, one bit an event, are joined and subtracted 64 at a time. The events themselves stay in
+//! the log, which the calls take: a hart keeps their places there.
 //!
-//! - [`hart`]: the type. Inside it [`kept`]: events, rows, sets and words together.
+//! - [`hart`]: the type. Inside it [`kept`]: rows, sets and words together. [`own_events`]: a hart's
+//!   events, read from the log. [`next`]: the hart's next event, of which the rest is asked.
 //! - [`sets`]: rows of the events by what a rule asks of them (loads, acquires, what a fence
 //!   orders); they grow with the events. [`words`]: each word's operations, linked from the last
 //!   one back.
@@ -17,7 +19,7 @@
 //!   it. [`rows`]: small steps on rows.
 //! - `specs/`: a hart and what may follow (`Harts`), its links (`RuleLinks`), what rows mean
 //!   (`Rows`, `RuleRows`, `Linked`), the parts of the table (`Parts`), what the sets and the words
-//!   mean (`Sets`, `Words`), and what is kept (`Kept`).
+//!   mean (`Sets`, `Words`), what is kept (`Kept`), and the places in the log (`Places`).
 //! - `proofs/OfHart`, `proofs/Reservations`: rules, pairs, stale pairs, faults and reservations are
 //!   the same among a hart's events as in the whole log.
 //!
