@@ -1,8 +1,7 @@
 -- Circles of ids, step by step.
-use Rattle.rv_book.proofs.Common.{common_steps, rules, ◌≡◌, ℕ, ◌+◌, ◌<◌, ◌≤◌, true, false, List, [], ◌∷◌, ◌++◌}
-use Rattle.rv_book.proofs.Common.{length, ltb, refl, sym, arith, subst, if◌then◌else◌, nat_lt, take, map-append}
-use Rattle.rv_book.proofs.Common.{take_more, IsEdge, MemoryModel, Id, Event, Reason, start_of, IsWalk}
-use Rattle.rv_book.proofs.Common.{IsClosedWalk, at, walked}
+use Rattle.rv_book.proofs.Common.{rules, ◌≡◌, ℕ, ◌+◌, ◌<◌, ◌≤◌, true, false, List, [], ◌∷◌, ◌++◌, length, ltb, refl}
+use Rattle.rv_book.proofs.Common.{sym, arith, subst, if◌then◌else◌, nat_lt, take, map-append, take_more, IsEdge}
+use Rattle.rv_book.proofs.Common.{MemoryModel, Id, Event, Reason, start_of, IsWalk, at, walked}
 
 -- the id at place k of a circle of ids, or the first past its end
 abbrev pub end_at : List Id → ℕ → Id
@@ -29,11 +28,6 @@ IsWalk-push model log (s ∷ rest) from to r w e = (
   subst (λ (i : Id). IsEdge model log s.0 s.1 i) (sym (start-push rest from to r)) w.0,
   IsWalk-push model log rest from to r w.1 e,
 )
-
--- a walk that comes back to its first id is closed
-pub closed_walk : (model : MemoryModel) (log : List Event) (steps : List (Id × Reason)) (ids : List Id) →
-    0 < length ids → walked steps ≡ ids → IsWalk model log steps (at ids 0) → IsClosedWalk model log steps
-closed_walk model log steps ids h l e = grind (arith, common_steps)
 
 -- one step more of a circle
 pub walk_step : (model : MemoryModel) (log : List Event) (ids : List Id) (steps new : List (Id × Reason)) (k : ℕ)

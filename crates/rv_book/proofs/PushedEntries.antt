@@ -1,11 +1,11 @@
 -- A log with one more entry, and its verdicts.
 use Rattle.rv_book.proofs.Common.{common_steps, rules, ◌≡◌, ◌<◌, List, [], ◌∷◌, ◌++◌, length, Option, Some, None}
 use Rattle.rv_book.proofs.Common.{refl, ap, ◌∙◌, subst, arith, Bool, length-map, length_push, events, Lawful}
-use Rattle.rv_book.proofs.Common.{WellFormed, fault_of, event_fault, first_faults, source_fault, deps_fault}
-use Rattle.rv_book.proofs.Common.{lowest, lowest-none, none-lowest, lowest-append_some, sound_of, WellFormed-push}
-use Rattle.rv_book.proofs.Common.{length-WellFormed, MemoryModel, Entry, Fault, none-some, Certifies, Refusal}
-use Rattle.rv_book.proofs.Common.{no_certificate, Kept, happened, grown, Arranged, IsOwn, order_of, Booked}
-use Rattle.rv_book.proofs.Common.{IsBooked, IsTaken, IsForbiddenOn, booked_of}
+use Rattle.rv_book.proofs.Common.{WellFormed, fault_of, event_fault, first_faults, source_fault, deps_fault, lowest}
+use Rattle.rv_book.proofs.Common.{lowest-none, none-lowest, lowest-append_some, WellFormed-push, length-WellFormed}
+use Rattle.rv_book.proofs.Common.{MemoryModel, Entry, Fault, none-some, Certifies, Refusal, no_certificate, Kept}
+use Rattle.rv_book.proofs.Common.{happened, grown, Arranged, IsOwn, order_of, Booked, IsBooked, IsTaken}
+use Rattle.rv_book.proofs.Common.{IsForbiddenOn, booked_of}
 
 -- an entry without a fault is an event without one
 pub event_sound : (log : List Entry) (x : Entry) → fault_of log x ≡ None → event_fault (events log) x.event ≡ None
@@ -14,10 +14,6 @@ event_sound log x none = search (lowest-none, none-lowest, rules)
 -- nor has it one of its source, and its hart is one of sixteen
 pub source_sound : (log : List Entry) (x : Entry) → fault_of log x ≡ None → source_fault log x ≡ None
 source_sound log x none = search (lowest-none, rules)
-
--- an entry without a fault is of one of sixteen harts
-pub hart_sound : (log : List Entry) (x : Entry) → fault_of log x ≡ None → x.event.id.hart < 16
-hart_sound log x none = (sound_of (events log) x.event (event_sound log x none)).hart
 
 -- a log that takes one entry more has room for it
 pub room_in : (log : List Entry) (x : Entry) → WellFormed log → fault_of log x ≡ None → length log < 65536

@@ -8,9 +8,6 @@ pub record IsBack (was now : Past) (x y : Entry) : Type 0 where
   pub history : now ≡ was
   pub entry : y ≡ x
 
-same_last : {X : Type 0} (xs ys : List X) (x y : X) → xs ++ x ∷ [] ≡ ys ++ y ∷ [] → x ≡ y
-same_last {X} xs ys x y e = grind (arith, common_steps)
-
 -- an entry that is added and taken off again leaves the history as it was
 pub back :
     (was pushed now : Past) (x y : Entry) (around : Around) → pushed ≡ with_entry was x around →
@@ -40,11 +37,6 @@ refused : (v : Arranged) (x : Entry) (a : Added) →
     IsRefused (record { model = v.model; log = v.log; kept = v.history }) x a → IsAdded v v x a
 refused v x Taken told = absurd told
 refused v x (Refused evidence c) told = (refl, told.0, told.1, told.2)
-
-refused_ok : (v : Arranged) (x : Entry) {E : Type 0} (r : Result Added E) →
-    IfOk r (IsRefused (record { model = v.model; log = v.log; kept = v.history }) x) → IfOk r (IsAdded v v x)
-refused_ok v x (Ok a) told = refused v x a told
-refused_ok v x (Err e) told = told
 
 -- a refusal by the history is one by the arrangement, where nothing changed
 pub added_refused :

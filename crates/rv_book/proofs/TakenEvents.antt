@@ -1,9 +1,8 @@
 -- A book that has taken the first of some events.
-use Rattle.rv_book.proofs.Common.{common_steps, rules, ◌≡◌, ℕ, ◌<◌, ◌+◌, ◌-◌, List, [], ◌∷◌, ◌++◌, length, sym}
-use Rattle.rv_book.proofs.Common.{arith, refl, take-append_seam, take-append-add, ◌==◌, count_by, length-filter}
-use Rattle.rv_book.proofs.Common.{length-map, append-nil, length-append, length-drop, Event, Entry, Booked}
-use Rattle.rv_book.proofs.Common.{IsTaken, Content, count_of_source, entries_of, HasTaken, StopsAt, IsTurn}
-use Rattle.rv_book.proofs.Common.{rest_of, first_of}
+use Rattle.rv_book.proofs.Common.{rules, ◌≡◌, ℕ, ◌<◌, ◌+◌, ◌-◌, List, [], ◌∷◌, ◌++◌, length, sym, arith, refl}
+use Rattle.rv_book.proofs.Common.{take-append_seam, take-append-add, ◌==◌, count_by, length-filter, length-map}
+use Rattle.rv_book.proofs.Common.{append-nil, length-append, length-drop, Event, Entry, Booked, Content}
+use Rattle.rv_book.proofs.Common.{count_of_source, entries_of, StopsAt, IsTurn, rest_of, first_of}
 
 -- a book with the events of the first list, where the second is still to come
 pub record IsWithin (old new : Booked) (source : ℕ) (done rest events : List Event) (left : ℕ) : Type 0 where
@@ -12,19 +11,6 @@ pub record IsWithin (old new : Booked) (source : ℕ) (done rest events : List E
   pub split : done ++ rest ≡ events
   pub left_is : left ≡ length rest
 
--- before the first event nothing was taken
-pub within-begin : (old : Booked) (source : ℕ) (events rest : List Event) (left : ℕ) → rest ≡ events →
-    left ≡ length events → IsWithin old old source [] rest events left
-within-begin old source events rest left same long = grind (arith, common_steps)
-
--- one event more was taken
-pub within-turn :
-    (old mid new : Booked) (source : ℕ) (done rest more events : List Event) (e : Event) (left less : ℕ) →
-    IsWithin old mid source done rest events left → rest ≡ e ∷ more → less + 1 ≡ left →
-    IsTaken mid new (record { source = source; event = e }) → IsWithin old new source (done ++ e ∷ []) more events less
-within-turn old mid new source done rest more events e left less w front count taken =
-    grind (arith, common_steps)
-
 -- the next event was not taken
 pub within-stops :
     (old mid new : Booked) (source : ℕ) (done rest more events : List Event) (e : Event) (left : ℕ) →
@@ -32,12 +18,6 @@ pub within-stops :
     StopsAt old new source events (length done) e
 within-stops old mid new source done rest more events e left w front model log =
     search (take-append_seam, take-append-add, length-append, rules)
-
--- all events were taken
-pub within-end : (old new : Booked) (source : ℕ) (done rest events : List Event) (left count : ℕ) →
-    IsWithin old new source done rest events left → left ≡ 0 → count ≡ length events →
-    HasTaken old new source events count
-within-end old new source done rest events left count w none long = grind (arith, common_steps)
 
 -- nothing was taken yet, and something is to come
 pub stops-first : (old : Booked) (source : ℕ) (events : List Event) → 0 < length events →

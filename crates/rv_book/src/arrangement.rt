@@ -178,15 +178,16 @@ impl Arrangement {
                 self.ids.push(id).unwrap();
                 Ok(Added::Taken)
             }
-            Err(Refused::NoMemory) => {
-                self.history.pop();
-                Err(NoMemory)
-            }
-            Err(Refused::Circle(path)) => {
-                let last = self.history.pop();
-                let names = self.ids.as_slice();
-                let nodes = path.as_slice();
-                refuse(self.alloc, &self.history, names, &last, nodes)
+            Err(refused) => {
+                let removed = self.history.pop();
+                match refused {
+                    Refused::NoMemory => Err(NoMemory),
+                    Refused::Circle(path) => {
+                        let names = self.ids.as_slice();
+                        let nodes = path.as_slice();
+                        refuse(self.alloc, &self.history, names, &removed, nodes)
+                    }
+                }
             }
         }
     }

@@ -311,7 +311,7 @@ impl Book {
         }
         let added = self.arrangement.add(entry)?;
         // For the proof alone, which has from this call that the model stayed.
-        let _model = self.arrangement.model();
+        let _unchanged = self.arrangement.model();
         match added {
             Added::Taken => {
                 let Some(last) = self.arrangement.log().last() else {

@@ -13,8 +13,8 @@ use Rattle.rv_event.specs.declared.event.Dep.{Dep}
 use Rattle.rv_event.specs.declared.event.DepKind.{DepKind}
 use Rattle.rv_chunk.specs.Chunks.{set_code, op_code, pred_code, succ_code, kind_code, flag_code, two, head_word}
 use Rattle.rv_chunk.specs.Chunks.{dep_code, dep_at, event_words, chunk_text, IsPackable, IsTyped, IsInRange, bits}
-use Rattle.rv_chunk.specs.Chunks.{set_of, op_of, kind_of, dep_of, deps_of, halves, head_op, event_of, events_from}
-use Rattle.rv_chunk.specs.Chunks.{source_of, number_of, count_of, events_of, rewritten}
+use Rattle.rv_chunk.specs.Chunks.{set_of, op_of, dep_of, deps_of, halves, head_op, event_of, events_from, source_of}
+use Rattle.rv_chunk.specs.Chunks.{number_of, count_of, events_of, rewritten}
 
 -- ---- two halves
 pub two_low : (a b : ℕ) → a < 2 ^ 32 → bits (two a b) 0 32 ≡ a
@@ -24,26 +24,12 @@ two_low a b h = omega arith
 pub two_high : (a b : ℕ) → a < 2 ^ 32 → b < 2 ^ 32 → bits (two a b) 32 32 ≡ b
 two_high a b h k = omega arith
 
--- a word is its two halves
-pub two_back : (w : ℕ) → w < 2 ^ 64 → two (bits w 0 32) (bits w 32 32) ≡ w
-two_back w h = omega arith
-
 -- ---- one dependency
 kind_small : (k : DepKind) → kind_code k < 4
 kind_small k = grind (arith, common_steps)
 
 kind_some : (k : DepKind) → 0 < kind_code k
 kind_some k = grind (arith, common_steps)
-
--- a kind is read back
-pub kind_back : (k : DepKind) → kind_of (kind_code k) ≡ k
-kind_back k = grind (arith, common_steps)
-
-top_of : (s k : ℕ) → s < 2 ^ 30 → k < 4 → bits (s + k * 2 ^ 30) 30 2 ≡ k
-top_of s k h l = omega arith
-
-rest_of : (s k : ℕ) → s < 2 ^ 30 → k < 4 → bits (s + k * 2 ^ 30) 0 30 ≡ s
-rest_of s k h l = omega arith
 
 below_word : (s k : ℕ) → s < 2 ^ 30 → k < 4 → s + k * 2 ^ 30 < 2 ^ 32
 below_word s k h l = omega arith
@@ -54,10 +40,6 @@ dep_small d h = below_word d.seq (kind_code d.kind) h (kind_small d.kind)
 
 above_zero : (s k : ℕ) → 0 < k → (s + k * 2 ^ 30 == 0) ≡ false
 above_zero s k h = grind arith
-
-same_dep : (k l : DepKind) (s t : ℕ) → k ≡ l → s ≡ t → ◌≡◌ {A = Dep} (record { kind = k; seq = s })
-    (record { kind = l; seq = t })
-same_dep k l s t a b = cc
 
 -- a dependency is read back
 pub dep_back : (d : Dep) → d.seq < 2 ^ 30 → dep_of (dep_code d) ≡ d
@@ -106,9 +88,6 @@ code_small [] i h = omega arith
 code_small (d ∷ ds) zero h = dep_small d (All-head (λ (x : Dep). x.seq < 2 ^ 30) d ds h)
 code_small (d ∷ ds) (suc i) h = code_small ds i (All-tail (λ (x : Dep). x.seq < 2 ^ 30) d ds h)
 
-halves_step : (a b : ℕ) (ws ns : List ℕ) → a < 2 ^ 32 → b < 2 ^ 32 → halves ws ≡ ns → halves (two a b ∷ ws) ≡ a ∷ b ∷ ns
-halves_step a b ws ns h k e = let p = two_low a b h in let q = two_high a b h k in cc
-
 halves_of : (a b c d e f g i : ℕ) → a < 2 ^ 32 → b < 2 ^ 32 → c < 2 ^ 32 → d < 2 ^ 32 → e < 2 ^ 32 → f < 2 ^ 32 →
     g < 2 ^ 32 → i < 2 ^ 32 →
     halves (two a b ∷ two c d ∷ two e f ∷ two g i ∷ []) ≡ a ∷ b ∷ c ∷ d ∷ e ∷ f ∷ g ∷ i ∷ []
@@ -121,10 +100,6 @@ halves_back ds h = search (code_small, halves_of)
 pub deps_back_words : (ds : List Dep) → length ds ≤ 8 → All (λ d. d.seq < 2 ^ 30) ds →
     deps_of (halves (two_each (codes ds))) ≡ ds
 deps_back_words ds n h = ap deps_of (halves_back ds h ∙ codes_are ds n) ∙ deps_back ds (8 - length ds) h
-
--- ---- the head word
-set_small : (x : Set) → set_code x < 4
-set_small x = grind (arith, common_steps)
 
 op_small : (o : Op) → op_code o < 16
 op_small o = grind (arith, common_steps)

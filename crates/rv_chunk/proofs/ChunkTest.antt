@@ -44,12 +44,6 @@ pub read_packable : (ws : List ℕ) → IsPackable (event_of ws)
 read_packable ws = let ns : List ℕ = halves (slice_index ws 3 ∷ slice_index ws 4 ∷ slice_index ws 5 ∷
     slice_index ws 6 ∷ []) in record { few = deps_few ns; small = deps_small ns }
 
-low_byte : (w : ℕ) → bits w 0 8 < 2 ^ 8
-low_byte w = omega arith
-
-low_half : (w : ℕ) → bits w 0 32 < 2 ^ 32
-low_half w = omega arith
-
 high_half : (w : ℕ) → bits w 32 32 < 2 ^ 32
 high_half w = omega arith
 

@@ -13,11 +13,6 @@ use Rattle.rv_cli.proofs.Options.{IsOption, option_holds}
 use Rattle.rv_cli.proofs.Places.{has_none, has_one}
 use Rattle.clap.specs.declared.builder.value_parser.ValueParser.TheVariants as parser
 
--- ---- the options of the command
-
-other_text : (a b : Text) → bytes_eq a b ≡ false → a ≡ b → ⊥
-other_text a b differs same = let equal = (bytes_eq-Decides a b).1 same in cc
-
 workers_option : (names : Names) → IsOption (app_over names).top.rules 0 (parser.Signed (pos 1) (pos 24)) workers_rule
 unfolding has_none has_one
 workers_option names = grind (arith, common_steps)

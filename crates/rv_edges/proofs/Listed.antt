@@ -10,7 +10,3 @@ Contains-old xs y x h = grind (arith, common_steps)
 pub Contains-last : {X : Type 0} (xs : List X) (x : X) → Contains (xs ++ x ∷ []) x
 Contains-last [] x = Contains-here x [] x refl
 Contains-last (z ∷ xs) x = Contains-there z (xs ++ x ∷ []) x (Contains-last xs x)
-
--- the empty list contains nothing
-pub Contains-none : {X : Type 0} (x : X) → Contains [] x → ⊥
-Contains-none x (k, l, e) = omega arith

@@ -24,7 +24,7 @@ use rv_event::{
     first_fault, is_bad_dependency, lowest_rule,
 };
 use rv_hart::{HartOrder, OwnEvents};
-use rv_versions::{Reservation, VersionLinks, Versions};
+use rv_versions::{Reservation, Versions};
 use std::alloc::Global;
 use std::marker::Model;
 
@@ -161,9 +161,9 @@ impl History {
     {
         let reserved = self.reserved(event);
         let rules = self.rule_links(event)?;
-        let VersionLinks { before, after } = self.versions.around(event, reserved, rules)?;
-        let before = Links::from_vec(before);
-        let after = Links::from_vec(after);
+        let links = self.versions.around(event, reserved, rules)?;
+        let before = Links::from_vec(links.before);
+        let after = Links::from_vec(links.after);
         Ok(Around {
             before,
             after,

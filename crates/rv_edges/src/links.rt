@@ -86,7 +86,8 @@ impl KeptLinks {
     {
         self.sides.reserve(1)?;
         self.links.extend_from_slice(before)?;
-        if let Err(AllocError) = self.links.extend_from_slice(after) {
+        let extended = self.links.extend_from_slice(after);
+        if let Err(AllocError) = extended {
             self.links.truncate(self.links.len() - before.len());
             return Err(NoMemory);
         }

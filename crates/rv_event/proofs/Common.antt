@@ -2,9 +2,8 @@
 pub use Rattle.rv_event.specs.Annotations.{IsAcquire, IsRcsc, IsRelease}
 pub use Rattle.rv_event.specs.Contexts.{IsContext, faults_in, taken_in}
 pub use Rattle.rv_event.specs.Edges.{HasReason, IsEdge, IsStale}
-pub use Rattle.rv_event.specs.Faults.{dependency_fault, deps_fault, event_fault, expected, fault_if, fault_of}
-pub use Rattle.rv_event.specs.Faults.{first_faults, is_lr, is_reserved, lowest, reservation_fault, source_fault}
-pub use Rattle.rv_event.specs.Faults.{taken_fault}
+pub use Rattle.rv_event.specs.Faults.{dependency_fault, deps_fault, event_fault, expected, fault_of, first_faults}
+pub use Rattle.rv_event.specs.Faults.{is_reserved, lowest, reservation_fault, source_fault, taken_fault}
 pub use Rattle.rv_event.specs.Log.{Between, Earlier, did_write, events, named, of_hart, same_id, writer}
 pub use Rattle.rv_event.specs.Merges.{SameSources}
 pub use Rattle.rv_event.specs.Operations.{IsStore, is_exclusive, is_store}
@@ -25,7 +24,6 @@ pub use Rattle.rv_event.specs.declared.event.Id.{Id}
 pub use Rattle.rv_event.specs.declared.event.Op.{Op}
 pub use Rattle.rv_event.specs.declared.event.Op.TheVariants.{Branch}
 pub use Rattle.rv_event.specs.declared.fault.Fault.{Fault}
-pub use Rattle.rv_event.specs.declared.fault.Fault.TheVariants.{VersionTaken}
 pub use Rattle.rv_event.specs.declared.memory_model.MemoryModel.{MemoryModel}
 pub use Rattle.rv_event.specs.declared.reason.Reason.{Reason}
 pub use Rattle.rv_event.specs.declared.reason.Reason.TheVariants.{AtomicIn, AtomicOut, Coherence, FromRead, Preserved}
@@ -41,7 +39,7 @@ pub use Rattle.std.proofs.lemmas.Bool.{and_from, and_parts, cases_eq, false≢tr
 pub use Rattle.std.proofs.lemmas.Bool.Decides.{Decides-and, Decides-eqb, Decides-like}
 pub use Rattle.std.proofs.lemmas.Grind.{common_steps}
 pub use Rattle.std.proofs.lemmas.Iterator.{YieldsList-from_slice, cases_from_all, cases_from_any}
-pub use Rattle.std.proofs.lemmas.List.{get_or-map, length-map, map-append, reverse-append, take_more}
+pub use Rattle.std.proofs.lemmas.List.{get_or-map, length-map, map-append, take_more}
 pub use Rattle.std.proofs.lemmas.List.Elements.{All-contains, Contains-append_right, Contains-get_or}
 pub use Rattle.std.proofs.lemmas.List.Elements.{Contains-push_cases, filter-append, filter_passes}
 pub use Rattle.std.proofs.lemmas.List.Folds.{find-append}

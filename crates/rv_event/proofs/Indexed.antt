@@ -1,12 +1,12 @@
 -- In a well formed log each event is the one that its id names, a hart's numbers have no gap, and
 -- each store is the writer of its version.
-use Rattle.rv_event.proofs.Common.{common_steps, rules, ◌≡◌, ℕ, ◌+◌, ◌<◌, ◌≤◌, Bool, true, false, ◌&&◌, ◌==◌}
-use Rattle.rv_event.proofs.Common.{cond, List, [], ◌∷◌, ◌++◌, length, filter, Contains, find, Option, Some, None}
-use Rattle.rv_event.proofs.Common.{◌⊎◌, inl, inr, refl, sym, ◌∙◌, arith, eq-eqb, append_assoc, append-nil, subst}
-use Rattle.rv_event.proofs.Common.{and_from, cases_eq, none-some, Contains-push_cases, find-append, is_store}
-use Rattle.rv_event.proofs.Common.{IsStore, same_id, named, of_hart, writer, events, fault_if, lowest, expected}
-use Rattle.rv_event.proofs.Common.{first_faults, source_fault, deps_fault, taken_fault, event_fault, WellFormed}
-use Rattle.rv_event.proofs.Common.{Id, Event, Entry, Fault, map-append}
+use Rattle.rv_event.proofs.Common.{common_steps, rules, ◌≡◌, ℕ, ◌+◌, ◌<◌, ◌≤◌, Bool, true, false, ◌&&◌, ◌==◌, cond}
+use Rattle.rv_event.proofs.Common.{List, [], ◌∷◌, ◌++◌, length, Contains, find, Option, Some, None, ◌⊎◌, inl, inr}
+use Rattle.rv_event.proofs.Common.{refl, sym, ◌∙◌, arith, eq-eqb, append_assoc, append-nil, subst, and_from}
+use Rattle.rv_event.proofs.Common.{cases_eq, none-some, Contains-push_cases, find-append, is_store, IsStore}
+use Rattle.rv_event.proofs.Common.{same_id, named, of_hart, writer, events, lowest, expected, first_faults}
+use Rattle.rv_event.proofs.Common.{source_fault, deps_fault, taken_fault, event_fault, WellFormed, Id, Event, Entry}
+use Rattle.rv_event.proofs.Common.{Fault, map-append}
 use Rattle.rv_event.proofs.Names.{same_id-refl, named-is}
 
 -- what the laws use of an event without a fault
@@ -30,9 +30,6 @@ pub record Indexed (log : List Event) : Type 0 where
   pub harts : (a : Event) → Contains log a → a.id.hart < 16
   pub few : (hart : ℕ) → length (of_hart hart log) ≤ 4096
 
-none_contained : {X : Type 0} (x : X) → Contains [] x → ⊥
-none_contained x (k, l, e) = omega arith
-
 -- the empty log is indexed
 pub indexed-nil : Indexed []
 indexed-nil = grind (arith, common_steps)
@@ -48,22 +45,6 @@ find-append_none p xs ys e = rw (find-append p xs ys, e)
 
 find-one : {X : Type 0} (p : X → Bool) (x : X) → p x ≡ true → find p (x ∷ []) ≡ Some x
 find-one p x e = rw e
-
-one-filtered : {X : Type 0} (p : X → Bool) (x : X) → length (filter p (x ∷ [])) ≡ cond (p x) 1 0
-one-filtered {X} p x = grind (arith, common_steps)
-
-length-of_hart-push : (hart : ℕ) (log : List Event) (e : Event) → length (of_hart hart (log ++ e ∷ [])) ≡ length
-    (of_hart hart log) + cond (hart == e.id.hart) 1 0
-length-of_hart-push hart log e = grind (arith, common_steps)
-
--- the count of a hart's events never falls, and grows at an event of the hart
-count-grows : (hart : ℕ) (log : List Event) (e : Event) → length (of_hart hart log) ≤ length
-    (of_hart hart (log ++ e ∷ []))
-count-grows hart log e = omega (arith, length-of_hart-push hart log e)
-
-count-own : (log : List Event) (e : Event) → length (of_hart e.id.hart (log ++ e ∷ [])) ≡ length
-    (of_hart e.id.hart log) + 1
-count-own log e = grind (arith, common_steps)
 
 count-other : (hart : ℕ) (log : List Event) (e : Event) → (hart ≡ e.id.hart → ⊥) →
     length (of_hart hart (log ++ e ∷ [])) ≡ length (of_hart hart log)
@@ -158,11 +139,6 @@ indexed-all before (e ∷ rest) known all =
     indexed-all (before ++ e ∷ []) rest (indexed-push before e known all.0) all.1 in
     subst Indexed (append_assoc before (e ∷ []) rest) more
 
--- a fault that does not hold fails its test
-pub fault_if-none : (b : Bool) (f : Fault) → fault_if b f ≡ None → b ≡ false
-fault_if-none true f e = absurd (none-some f (sym e))
-fault_if-none false f e = refl
-
 -- none of them is a fault
 abbrev pub NoneOf : List (Option Fault) → Type 0
 NoneOf [] = Unit {0}
@@ -189,9 +165,6 @@ lowest-append_some (None ∷ xs) ys f e = lowest-append_some xs ys f e
 -- a version that is not taken has no writer
 pub not_taken : (log : List Event) (e : Event) → taken_fault log e ≡ None → IsStore e → writer log e.word e.wrote ≡ None
 not_taken log e none s = grind (arith, common_steps)
-
-not_zero : (e : Event) → (is_store e.op && (e.wrote == 0)) ≡ false → IsStore e → (e.wrote == 0) ≡ false
-not_zero e none s = rw s at none
 
 -- an event without the first faults is sound
 pub sound_from_none : (log : List Event) (e : Event) (more : List (Option Fault)) →

@@ -3,7 +3,6 @@ pub mod Bounded
 pub mod Checked
 pub mod Conditions
 pub mod Contexts
-pub mod Counting
 pub mod Equal
 pub mod Growing
 pub mod Indexed

@@ -1,16 +1,12 @@
 -- A log is well formed whatever the order in which its sources were merged.
-use Rattle.rv_event.proofs.Common.{rules, common_steps, ◌≡◌, ℕ, Bool, true, false, not, ◌&&◌, ◌==◌, cond, List}
-use Rattle.rv_event.proofs.Common.{[], ◌∷◌, ◌++◌, filter, Contains, None, ◌⊎◌, inl, inr, refl, sym, ap, ◌∙◌}
-use Rattle.rv_event.proofs.Common.{arith, subst, eq-eqb, eqb-true, append_assoc, append-nil, list_any, false≢true}
-use Rattle.rv_event.proofs.Common.{not-false, Contains-push_cases, All-contains, filter_passes, events}
-use Rattle.rv_event.proofs.Common.{first_faults, source_fault, deps_fault, fault_of, WellFormed, entries_of}
-use Rattle.rv_event.proofs.Common.{SameSources, Entry}
+use Rattle.rv_event.proofs.Common.{rules, common_steps, ◌≡◌, ℕ, Bool, true, false, not, ◌&&◌, ◌==◌, cond, List, []}
+use Rattle.rv_event.proofs.Common.{◌∷◌, ◌++◌, filter, Contains, None, ◌⊎◌, inl, inr, refl, sym, ap, ◌∙◌, arith}
+use Rattle.rv_event.proofs.Common.{subst, eq-eqb, eqb-true, append_assoc, append-nil, false≢true, not-false}
+use Rattle.rv_event.proofs.Common.{Contains-push_cases, All-contains, filter_passes, events, first_faults}
+use Rattle.rv_event.proofs.Common.{source_fault, deps_fault, fault_of, WellFormed, entries_of, SameSources, Entry}
 use Rattle.rv_event.proofs.Names.{Contains-here, Contains-there}
 use Rattle.rv_event.proofs.Indexed.{NoneOf, lowest-none}
 use Rattle.rv_event.proofs.Merged.{SameHarts, Contains-filter, Contains-unfilter, WellFormed-merge}
-
-none_passes : {X : Type 0} (p : X → Bool) (xs : List X) (x : X) → list_any p xs ≡ false → Contains xs x → p x ≡ false
-none_passes p xs x h l = grind (arith, common_steps)
 
 -- a second filter changes nothing where it passes all that the first keeps
 filter-through : {X : Type 0} (p q : X → Bool) (xs : List X) → ((x : X) → Contains xs x → p x ≡ true → q x ≡ true) →

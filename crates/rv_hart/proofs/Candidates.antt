@@ -1,8 +1,8 @@
 -- The candidates, to which each rule has added what it orders, are enough.
-use Rattle.rv_hart.proofs.Common.{◌≡◌, ℕ, ◌+◌, ◌<◌, ◌≤◌, List, length, Contains, ◌⊎◌, inl, inr, refl, arith}
-use Rattle.rv_hart.proofs.Common.{subst, cases_lt, cases_eq, common_steps, rules, Condition-number}
-use Rattle.rv_hart.proofs.Common.{Condition-above, Rule, Event, Has, RowHas, Hart, followed, IsOrderedBy}
-use Rattle.rv_hart.proofs.Common.{IsCandidate, IsGenerated, IsEnough, RowsMean, IsOverlapRow, Adds}
+use Rattle.rv_hart.proofs.Common.{◌≡◌, ℕ, ◌+◌, ◌<◌, ◌≤◌, List, length, Contains, ◌⊎◌, inl, inr, refl, arith, subst}
+use Rattle.rv_hart.proofs.Common.{cases_lt, cases_eq, rules, Condition-number, Condition-above, Rule, Event, Has}
+use Rattle.rv_hart.proofs.Common.{RowHas, Hart, followed, IsOrderedBy, IsCandidate, IsGenerated, IsEnough, RowsMean}
+use Rattle.rv_hart.proofs.Common.{IsOverlapRow, Adds}
 use Rattle.rv_hart.proofs.HartFacts.{Fits}
 use Rattle.rv_hart.proofs.RowMeanings.{row_own, rule-old}
 
@@ -11,10 +11,6 @@ pub record AreAdded (h : Hart) (e : Event) (k : ℕ) (first row : List ℕ) : Ty
   pub sound : (s : ℕ) → Has row s → Has first s ⊎ IsCandidate h e s
   pub kept : (s : ℕ) → Has first s → Has row s
   pub each : (j s : ℕ) → 1 < j → j ≤ k → IsOrderedBy h e j s → Has row s
-
--- before rule 2 only rule 1 was added
-pub added-none : (h : Hart) (e : Event) (first : List ℕ) → AreAdded h e 1 first first
-added-none h e first = grind (arith, common_steps)
 
 -- one rule more
 pub added-more : (h : Hart) (e : Event) (k : ℕ) (first row row' : List ℕ) → AreAdded h e k first row →

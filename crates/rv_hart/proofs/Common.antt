@@ -75,7 +75,6 @@ pub use Rattle.std.proofs.lemmas.List.{length-map, length_push, take_all, take_m
 pub use Rattle.std.proofs.lemmas.List.Elements.{All-contains, All-filter, Contains-append_left, Contains-get_or}
 pub use Rattle.std.proofs.lemmas.List.Elements.{Contains-push, Contains-push_cases, filter_passes}
 pub use Rattle.std.proofs.lemmas.Nat.Bits.{bit_at-zero}
-pub use Rattle.std.proofs.lemmas.Option.{get_or_from_slice_get, none-some, same_Some, slice_get-get_or}
-pub use Rattle.std.proofs.lemmas.Option.{slice_get_within}
+pub use Rattle.std.proofs.lemmas.Option.{get_or_from_slice_get, none-some, same_Some, slice_get_within}
 pub use Rattle.std.specs.HashMap.{get}
 pub use Rattle.std.specs.List.{list_any}

@@ -131,52 +131,54 @@ module _ (events : List Event) (loads stores : List ℕ) (loads_are : RowIs load
             ((stores_are s).1 (record { a = x.a; of_list = x.of_list; at = x.at; holds = w }))
       ]
 
-  -- the two joins at a fence
-  pub fence-joins : (e : Event) (op : Op) (first second : Bool) (row row' row'' : List ℕ) →
-      first ≡ fence_orders e.op Load op → second ≡ fence_orders e.op Store op →
-      ((s : ℕ) → has_bit row' s ≡ (has_bit row s || (first && has_bit loads s))) →
-      ((s : ℕ) → has_bit row'' s ≡ (has_bit row' s || (second && has_bit stores s))) →
-      (s : ℕ) → Has row'' s ↔ (Has row s ⊎ HasEvent (λ a. IsTrue (fence_orders e.op a.op op)) events s)
-  fence-joins e op first second row row' row'' is_first is_second one two s = (to, from)
+  -- the joins at a fence
+  pub fence-joins : (e : Event) (op : Op) (row row' : List ℕ) →
+      ((s : ℕ) → has_bit row' s ≡ (has_bit row s || (fence_orders e.op Load op && has_bit loads s)
+      || (fence_orders e.op Store op && has_bit stores s))) →
+      (s : ℕ) → Has row' s ↔ (Has row s ⊎ HasEvent (λ a. IsTrue (fence_orders e.op a.op op)) events s)
+  fence-joins e op row row' both s = (to, from)
     where
-      by_load : (a : Event) → IsTrue first → IsLoad a → IsTrue (fence_orders e.op a.op op)
+      loads_too : Bool
+      loads_too = fence_orders e.op Load op && has_bit loads s
+
+      stores_too : Bool
+      stores_too = fence_orders e.op Store op && has_bit stores s
+
+      by_load : (a : Event) → IsTrue (fence_orders e.op Load op) → IsLoad a → IsTrue (fence_orders e.op a.op op)
       by_load a t l = grind (arith, common_steps)
 
-      by_store : (a : Event) → IsTrue second → IsStore a → IsTrue (fence_orders e.op a.op op)
+      by_store : (a : Event) → IsTrue (fence_orders e.op Store op) → IsStore a → IsTrue (fence_orders e.op a.op op)
       by_store a t w = grind (arith, common_steps)
 
-      at_load : IsTrue (first && has_bit loads s) → HasEvent (λ a. IsTrue (fence_orders e.op a.op op)) events s
-      at_load x = let p = and_parts first (has_bit loads s) x in
+      at_load : IsTrue loads_too → HasEvent (λ a. IsTrue (fence_orders e.op a.op op)) events s
+      at_load x = let p = and_parts (fence_orders e.op Load op) (has_bit loads s) x in
           has-map IsLoad (λ a. IsTrue (fence_orders e.op a.op op)) events events s (λ a c l. (c, by_load a p.0 l))
           ((loads_are s).0 p.1)
 
-      at_store : IsTrue (second && has_bit stores s) → HasEvent (λ a. IsTrue (fence_orders e.op a.op op)) events s
-      at_store x = let p = and_parts second (has_bit stores s) x in
+      at_store : IsTrue stores_too → HasEvent (λ a. IsTrue (fence_orders e.op a.op op)) events s
+      at_store x = let p = and_parts (fence_orders e.op Store op) (has_bit stores s) x in
           has-map IsStore (λ a. IsTrue (fence_orders e.op a.op op)) events events s (λ a c l. (c, by_store a p.0 l))
           ((stores_are s).0 p.1)
 
-      to : Has row'' s → Has row s ⊎ HasEvent (λ a. IsTrue (fence_orders e.op a.op op)) events s
-      to x = elim (or_cases (has_bit row' s) (second && has_bit stores s) (sym (two s) ∙ x)) [
-        | inl y ↦ elim (or_cases (has_bit row s) (first && has_bit loads s) (sym (one s) ∙ y))
-            [ inl z ↦ inl z | inr z ↦ inr (at_load z) ]
+      to : Has row' s → Has row s ⊎ HasEvent (λ a. IsTrue (fence_orders e.op a.op op)) events s
+      to x = elim (or_cases (has_bit row s || loads_too) stores_too (sym (both s) ∙ x)) [
+        | inl y ↦ elim (or_cases (has_bit row s) loads_too y) [ inl z ↦ inl z | inr z ↦ inr (at_load z) ]
         | inr y ↦ inr (at_store y)
       ]
 
-      loaded : IsTrue (first && has_bit loads s) → Has row'' s
-      loaded y = two s ∙ or_left (has_bit row' s) (second && has_bit stores s)
-          (one s ∙ or_right (has_bit row s) (first && has_bit loads s) y)
+      loaded : IsTrue loads_too → Has row' s
+      loaded y = both s ∙ or_left (has_bit row s || loads_too) stores_too (or_right (has_bit row s) loads_too y)
 
-      from : Has row s ⊎ HasEvent (λ a. IsTrue (fence_orders e.op a.op op)) events s → Has row'' s
-      from (inl y) = two s ∙ or_left (has_bit row' s) (second && has_bit stores s)
-          (one s ∙ or_left (has_bit row s) (first && has_bit loads s) y)
+      from : Has row s ⊎ HasEvent (λ a. IsTrue (fence_orders e.op a.op op)) events s → Has row' s
+      from (inl y) = both s ∙ or_left (has_bit row s || loads_too) stores_too (or_left (has_bit row s) loads_too y)
       from (inr x) = elim (or_cases (is_load x.a.op && fence_orders e.op Load op)
           (is_store x.a.op && fence_orders e.op Store op) (sym (orders_by_kind e.op x.a.op op) ∙ x.holds)) [
             | inl l ↦ (let p = and_parts (is_load x.a.op) (fence_orders e.op Load op) l in
-                loaded (and_from first (has_bit loads s) (is_first ∙ p.1)
+                loaded (and_from (fence_orders e.op Load op) (has_bit loads s) p.1
                 ((loads_are s).1 (record { a = x.a; of_list = x.of_list; at = x.at; holds = p.0 }))))
-            | inr w ↦ (let p = and_parts (is_store x.a.op) (fence_orders e.op Store op) w in two s ∙
-                or_right (has_bit row' s) (second && has_bit stores s)
-                (and_from second (has_bit stores s) (is_second ∙ p.1)
+            | inr w ↦ (let p = and_parts (is_store x.a.op) (fence_orders e.op Store op) w in both s ∙
+                or_right (has_bit row s || loads_too) stores_too
+                (and_from (fence_orders e.op Store op) (has_bit stores s) p.1
                 ((stores_are s).1 (record { a = x.a; of_list = x.of_list; at = x.at; holds = p.0 }))))
           ]
 
@@ -261,17 +263,15 @@ module _ {h : Hart} {e : Event} (f : Fits h e) where
   ]
 
   -- the fences of both kinds
-  pub fences-absorbed : (op : Op) (first second : Bool) (loads stores row row' row'' : List ℕ) →
-      RowIs loads IsLoad h.events → RowIs stores IsStore h.events → RowIs row (IsFencedFor op h.events) h.events →
-      first ≡ fence_orders e.op Load op → second ≡ fence_orders e.op Store op →
-      ((s : ℕ) → has_bit row' s ≡ (has_bit row s || (first && has_bit loads s))) →
-      ((s : ℕ) → has_bit row'' s ≡ (has_bit row' s || (second && has_bit stores s))) →
-      RowIs row'' (IsFencedFor op (followed h e)) (followed h e)
-  fences-absorbed op first second loads stores row row' row'' loads_are stores_are is is_first is_second one two =
+  pub fences-absorbed : (op : Op) (loads stores row row' : List ℕ) → RowIs loads IsLoad h.events →
+      RowIs stores IsStore h.events → RowIs row (IsFencedFor op h.events) h.events →
+      ((s : ℕ) → has_bit row' s ≡ (has_bit row s || (fence_orders e.op Load op && has_bit loads s)
+      || (fence_orders e.op Store op && has_bit stores s))) →
+      RowIs row' (IsFencedFor op (followed h e)) (followed h e)
+  fences-absorbed op loads stores row row' loads_are stores_are is both =
       row-join f (IsFencedFor op h.events) (IsFencedFor op (followed h e))
-      (λ a. IsTrue (fence_orders e.op a.op op)) row row'' is
-      (fence-joins h.events loads stores loads_are stores_are e op first second row row' row'' is_first
-      is_second one two) (fenced-more f op) (fenced-never f op)
+      (λ a. IsTrue (fence_orders e.op a.op op)) row row' is
+      (fence-joins h.events loads stores loads_are stores_are e op row row' both) (fenced-more f op) (fenced-never f op)
 
   -- what a new branch depends on
   pub controls-absorbed : (loads stores row row' : List ℕ) → RowIs loads IsLoad h.events →

@@ -1,11 +1,11 @@
 -- What is known of the events of a hart, and of one that follows them.
-use Rattle.rv_hart.proofs.Common.{◌≡◌, ℕ, suc, ◌+◌, ◌<◌, ◌≤◌, ◌==◌, Bool, true, false, List, [], ◌∷◌, ◌++◌}
-use Rattle.rv_hart.proofs.Common.{length, get_or, Contains, All, None, ◌⊎◌, inl, inr, refl, sym, ap, ◌∙◌, arith}
-use Rattle.rv_hart.proofs.Common.{subst, append-nil, append_assoc, eq-eqb, list_any, length_push, Contains-get_or}
-use Rattle.rv_hart.proofs.Common.{Contains-push_cases, Contains-append_left, same_Some, rules, common_steps}
-use Rattle.rv_hart.proofs.Common.{Contains-here, Contains-there, Indexed, Sound, indexed-push, sound_of}
-use Rattle.rv_hart.proofs.Common.{split_push, event_fault, expected, of_hart, Earlier, Dep, Event, Hart, Follows}
-use Rattle.rv_hart.proofs.Common.{IsHart, followed, hart_with, IsAsked, hart_at, Next}
+use Rattle.rv_hart.proofs.Common.{◌≡◌, ℕ, suc, ◌+◌, ◌<◌, ◌≤◌, ◌==◌, true, List, [], ◌∷◌, ◌++◌, length, get_or}
+use Rattle.rv_hart.proofs.Common.{Contains, All, None, ◌⊎◌, inl, inr, refl, sym, ap, ◌∙◌, arith, subst, append-nil}
+use Rattle.rv_hart.proofs.Common.{append_assoc, eq-eqb, length_push, Contains-get_or, Contains-push_cases}
+use Rattle.rv_hart.proofs.Common.{Contains-append_left, same_Some, rules, common_steps, Contains-here}
+use Rattle.rv_hart.proofs.Common.{Contains-there, Indexed, Sound, indexed-push, sound_of, split_push, event_fault}
+use Rattle.rv_hart.proofs.Common.{expected, of_hart, Earlier, Dep, Event, Hart, Follows, IsHart, followed}
+use Rattle.rv_hart.proofs.Common.{hart_with, IsAsked, hart_at, Next}
 use Rattle.rv_event.specs.Log.{named}
 
 -- the event depends on earlier numbers alone
@@ -30,10 +30,6 @@ pub record Fits (h : Hart) (e : Event) : Type 0 where
   pub seq : e.id.seq ≡ length h.events
   pub room : length h.events < 4096
   pub deps : DependsBelow e
-
-none_passes : {X : Type 0} (p : X → Bool) (xs : List X) (x : X) → list_any p xs ≡ false → Contains xs x → p x ≡ false
-none_passes p [] x e (k, l, is) = absurd (omega arith)
-none_passes {X} p (y ∷ ys) x e c = grind (arith, common_steps)
 
 -- without a fault an event depends on earlier numbers alone
 depends_below : (log : List Event) (e : Event) → event_fault log e ≡ None → DependsBelow e
@@ -119,7 +115,7 @@ fits_of h e ok follows = fits_from h e (known_of h ok) follows
 
 -- the next event of a hart fits
 pub fits : {n : Next} → IsAsked n → Fits (hart_at n) n.event.now
-fits {n} asked = fits_of (hart_at n) n.event.now asked.kept.hart asked.follows
+fits {n} asked = fits_of (hart_at n) n.event.now asked.next.kept.hart asked.next.follows
 
 -- the hart with the event is a hart
 pub hart-push : (h : Hart) (e : Event) → IsHart h → Follows h e → IsHart (hart_with h e)

@@ -1,11 +1,10 @@
 -- The links of words with one more event, and with one less.
-use Rattle.rv_hart.proofs.Common.{◌≡◌, ◌≢◌, ℕ, ◌+◌, ◌<◌, ◌≤◌, List, [], ◌∷◌, ◌++◌, length, get_or, Contains}
-use Rattle.rv_hart.proofs.Common.{Option, Some, None, nat_eq, slice_get, ◌-◌, ◌⊎◌, inl, inr, sym, refl, ap, ◌∙◌}
-use Rattle.rv_hart.proofs.Common.{arith, subst, cases_order, cases_eq, or_right, get, same_Some, slice_get-get_or}
-use Rattle.rv_hart.proofs.Common.{length_push, get_or_append_left, get_or_at, Contains-push_cases, Contains-push}
-use Rattle.rv_hart.proofs.Common.{Contains-append_left, rules, common_steps, is_load, is_store, IsMemory, IsStore}
-use Rattle.rv_hart.proofs.Common.{Event, AreNumbered, IsOfWord, NamesOfWord, IsLastBelow, IsWordLink}
-use Rattle.rv_hart.proofs.Common.{IsHighestStore, link_at, AreWords, WordLink, Words}
+use Rattle.rv_hart.proofs.Common.{◌≡◌, ◌≢◌, ℕ, ◌+◌, ◌<◌, ◌≤◌, List, [], ◌∷◌, ◌++◌, length, get_or, Contains, Option}
+use Rattle.rv_hart.proofs.Common.{Some, None, nat_eq, ◌-◌, ◌⊎◌, inl, inr, sym, refl, ap, ◌∙◌, arith, subst}
+use Rattle.rv_hart.proofs.Common.{cases_order, cases_eq, or_right, get, length_push, get_or_append_left, get_or_at}
+use Rattle.rv_hart.proofs.Common.{Contains-push_cases, Contains-push, Contains-append_left, rules, common_steps}
+use Rattle.rv_hart.proofs.Common.{is_load, is_store, IsMemory, IsStore, Event, AreNumbered, IsOfWord, NamesOfWord}
+use Rattle.rv_hart.proofs.Common.{IsLastBelow, IsWordLink, IsHighestStore, link_at, AreWords, WordLink, Words}
 
 -- an event of a numbered list has a number below the list's length
 pub numbered-below : (events : List Event) → AreNumbered events → (a : Event) → Contains events a →
@@ -29,11 +28,6 @@ names-weaker : (events more : List Event) (word limit limit' : ℕ) (o : Option 
 names-weaker events more word limit limit' None grows le names = tt
 names-weaker events more word limit limit' (Some p) grows le names = grind (arith, common_steps)
 
--- what is named of another number's event
-names-word : (events : List Event) (word word' limit : ℕ) (o : Option ℕ) → word ≡ word' →
-    NamesOfWord events word limit o → NamesOfWord events word' limit o
-names-word events word word' limit o same names = subst (λ (w : ℕ). NamesOfWord events w limit o) same names
-
 -- ---- the link of the next event
 module _ (events : List Event) (e : Event) (numbered : AreNumbered events) (next : e.id.seq ≡ length events) where
   -- the word's last operation is the previous one
@@ -43,11 +37,6 @@ module _ (events : List Event) (e : Event) (numbered : AreNumbered events) (next
 -- ---- the store of the highest version
 store-of-word : (word : ℕ) (m : Event) → IsStore m → m.word ≡ word → IsOfWord word m
 store-of-word word m s w = (or_right (is_load m.op) (is_store m.op) s, w)
-
--- a word without operations has no store
-pub highest-none : (events : List Event) (word : ℕ) → AreNumbered events →
-    IsLastBelow events word (length events) None → IsHighestStore events word (length events) None
-highest-none events word numbered last m c s w low = last.none_later m c (store-of-word word m s w) tt low
 
 module _ (events : List Event) (numbered : AreNumbered events) (word p : ℕ) (a : Event) (ca : Contains events a)
     (at : a.id.seq ≡ p) (last : IsLastBelow events word (length events) (Some p)) where
@@ -251,18 +240,6 @@ module _ (events : List Event) (e : Event) (numbered : AreNumbered events) (next
       IsLastBelow events word (length events) (new word)
   lasts-kept old new none lasts same word = subst (IsLastBelow events word (length events)) (sym (same word))
       (last-other-settled word (old word) (λ w. none w.0) (lasts word))
-
--- what `last` gives of a list with an event at its end
-pub last-is : (events front : List Event) (e x : Event) → events ≡ front ++ e ∷ [] →
-    slice_get events (length events - 1) ≡ Some x → e ≡ x
-last-is events front e x is got =
-    let low : length front < length (front ++ e ∷ []) = omega (arith, length_push front e) in
-    let n : length (front ++ e ∷ []) - 1 ≡ length front = omega (arith, length_push front e) in
-    let here : slice_get (front ++ e ∷ []) (length front) ≡ Some e =
-    slice_get-get_or (front ++ e ∷ []) (length front) e low ∙
-    ap Some (get_or_at front e [] e (length front) refl) in
-    same_Some e x (sym here ∙ ap (λ (k : ℕ). slice_get (front ++ e ∷ []) k) (sym n) ∙
-    ap (λ (es : List Event). slice_get es (length es - 1)) (sym is) ∙ got)
 
 -- the numbers of a list without its last event
 pub numbered-front : (front : List Event) (e : Event) → AreNumbered (front ++ e ∷ []) → AreNumbered front

@@ -24,12 +24,6 @@ names-low : (events : List Event) (word limit limit' : ℕ) (o : Option ℕ) →
 names-low events word limit limit' None le names = tt
 names-low events word limit limit' (Some p) le names = (let low = names.0 in omega arith, names.1)
 
--- where a walk goes on it comes nearer to the start
-pub left-falls : (events : List Event) (word p : ℕ) (o : Option ℕ) → NamesOfWord events word p o →
-    left o < left (Some p)
-left-falls events word p None names = omega arith
-left-falls events word p (Some q) names = let low = names.0 in omega arith
-
 -- ---- rule 1: all operations above the walk's place are in the row
 pub record IsOverlapWalk (h : Hart) (e : Event) (next : Option ℕ) (row : List ℕ) : Type 0 where
   pub names : NamesOfWord h.events e.word (length h.events) next

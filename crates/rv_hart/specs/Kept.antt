@@ -48,9 +48,7 @@ pub record IsNext (n : Next) : Type 0 where
 
 -- and it is a memory operation
 pub record IsAsked (n : Next) : Type 0 where
-  pub kept : IsKept n.events n.kept.now
-  pub follows : Follows (hart_at n) n.event.now
-  pub returned : IsReturned (hart_at n) n.event.now n.returned
+  pub next : IsNext n
   pub memory : IsMemory n.event.now
 
 -- the LR of the hart with which the event is paired, exactly where there is one

@@ -20,7 +20,7 @@ use std::alloc::Global;
 ///
 /// Each call takes that log, of the events of all harts. Contracts see the fields, and
 /// [`IsHartOf`](specs/Kept.antt) says that they are those of the log's events. An event takes some
-/// 60 bytes, and 8 for each 64 events from the first that leads to it by rules to itself: at most
+/// 30 bytes, and 8 for each 64 events from the first that leads to it by rules to itself: at most
 /// n / 8 for event n.
 #[derive(Drop)]
 pub struct HartOrder {
@@ -88,7 +88,8 @@ impl HartOrder {
     /// rule, and no other link leads to its event.
     ///
     /// # Errors
-    /// `NoMemory` where it could not be kept; the hart stays as it is.
+    /// `NoMemory` where it could not be kept, and where the log has 2^32 events or more, as a place
+    /// has four bytes; the hart stays as it is.
     pub fn push(
         &mut self,
         log: &[Entry],
@@ -97,7 +98,6 @@ impl HartOrder {
         links: &[Link],
     ) -> Result<(), NoMemory>
         requires of_log { IsHartOf (events log.now) self.old }
-        requires few { length log.now < 4294967296 }
         requires follows { Follows (hart_of_log (events log.now) self.old) event.now }
         requires returned { IsReturned (hart_of_log (events log.now) self.old) event.now returned }
         requires linked { AreEnoughLinks (hart_of_log (events log.now) self.old) event.now links.now }
@@ -106,12 +106,15 @@ impl HartOrder {
         ensures pushed { OnOk result (IsHartOf (events log.now ++ event.now ∷ []) self.new) }
         ensures unchanged { OnErr result (IsHartOf (events log.now) self.new) }
     {
+        let Ok(place) = u32::try_from(log.len()) else {
+            return Err(NoMemory);
+        };
         let mut row = Row::new();
         self.next(log, event, returned).fill_row(links, &mut row);
         self.places.reserve(1)?;
         let events = OwnEvents::new(log, self.kept.number, self.places.as_slice());
         self.kept.push(&events, event, &row)?;
-        self.places.push_reserved(log.len() as u32);
+        self.places.push_reserved(place);
         Ok(())
     }
 

@@ -40,7 +40,7 @@ fn join_linked(row: &mut Row, rows: &Rows, links: &[Link])
     ensures { (s : ℕ) → Has row.new s ↔ (Has row.old s ⊎ IsLinked rows.now links.now s) }
 {
     for link in links {
-        if let Reason::Preserved(_) = link.reason {
+        if let Reason::Preserved(_rule) = link.reason {
             rows.join_into(link.id.seq as usize, row);
         }
     }

@@ -1,8 +1,9 @@
 //! Sets of a hart's events that grow with them.
-ghost use Rattle.std.specs.Prelude.{ℕ, ◌≡◌, ◌<◌, ◌↔◌, ◌⊎◌, ◌||◌, ◌++◌, ◌∷◌, [], All, List};
+ghost use Rattle.std.specs.Prelude.{ℕ, ◌≡◌, ◌<◌, ◌↔◌, ◌⊎◌, ◌||◌, ◌&&◌, ◌++◌, ◌∷◌, [], All, List};
 ghost use Rattle.rv_rows.specs.Bits.{Has, has_bit};
 ghost use Rattle.rv_event.specs.declared.event.DepKind.TheVariants.{Ctrl};
-ghost use Rattle.rv_event.specs.declared.event.Op.TheVariants.{Branch};
+ghost use Rattle.rv_event.specs.Relations.{fence_orders};
+ghost use Rattle.rv_event.specs.declared.event.Op.TheVariants.{Branch, Load, Store};
 ghost use Rattle.rv_hart.specs.Harts.{Hart, IsHart, Follows, followed, hart_with};
 ghost use Rattle.rv_hart.specs.Sets.{AreSets, IsReservation, NamesMemory};
 
@@ -62,40 +63,27 @@ impl Sets {
     {
         let op = event.op;
         let number = event.id.seq as usize;
-        join_if(
-            &mut self.fenced_for_load,
-            does_order(op, Op::Load, Op::Load),
-            &self.loads,
-        );
-        join_if(
-            &mut self.fenced_for_load,
-            does_order(op, Op::Store, Op::Load),
-            &self.stores,
-        );
-        join_if(
-            &mut self.fenced_for_store,
-            does_order(op, Op::Load, Op::Store),
-            &self.loads,
-        );
-        join_if(
-            &mut self.fenced_for_store,
-            does_order(op, Op::Store, Op::Store),
-            &self.stores,
-        );
-        add_tested(&mut self.controlled, event, &self.loads, &self.stores);
-        add_dependencies(
-            &mut self.addressed,
-            event,
-            DepKind::Addr,
-            &self.loads,
-            &self.stores,
-        );
+        let (loads, stores) = (&self.loads, &self.stores);
+        add_fenced(&mut self.fenced_for_load, op, Op::Load, loads, stores);
+        add_fenced(&mut self.fenced_for_store, op, Op::Store, loads, stores);
+        add_tested(&mut self.controlled, event, loads, stores);
+        add_dependencies(&mut self.addressed, event, DepKind::Addr, loads, stores);
         insert_if(&mut self.loads, event.is_load(), number);
         insert_if(&mut self.stores, event.is_store(), number);
         insert_if(&mut self.acquires, is_acquire(model, event), number);
         insert_if(&mut self.rcsc, is_rcsc(model, event), number);
         self.reserved = reserved_after(self.reserved, event);
     }
+}
+
+/// Puts in the loads and the stores that the operation, where it is a fence, orders before a later
+/// one of this kind.
+fn add_fenced(row: &mut Row, op: Op, later: Op, loads: &Row, stores: &Row)
+    ensures { (s : ℕ) → has_bit row.new s ≡ (has_bit row.old s || (fence_orders op Load later && has_bit loads.now s)
+        || (fence_orders op Store later && has_bit stores.now s)) }
+{
+    join_if(row, does_order(op, Op::Load, later), loads);
+    join_if(row, does_order(op, Op::Store, later), stores);
 }
 
 /// Puts in the memory operations, by the loads and the stores, on which the event lists a

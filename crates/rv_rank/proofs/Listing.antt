@@ -49,11 +49,6 @@ pub listed_down_more : (t u : ℕ → Bool) (xs : List ℕ) (r : ℕ) → r < le
 listed_down_more t u xs r l h e =
     grind (arith, common_steps, drop-cons, reverse-append, filter_same, length-drop, get_or-drop)
 
--- one that fails, downward
-pub listed_down_skip : (t : ℕ → Bool) (xs : List ℕ) (r : ℕ) → r < length xs → t (get_or xs r 0) ≡ false →
-    reverse (filter t (drop (r + 1) xs)) ≡ reverse (filter t (drop r xs))
-listed_down_skip t xs r l e = grind (arith, common_steps)
-
 -- all that pass do so from place r on
 pub listed_from : (t : ℕ → Bool) (xs : List ℕ) (r : ℕ) →
     ((k : ℕ) → k < r → k < length xs → t (get_or xs k 0) ≡ false) → filter t (drop r xs) ≡ filter t xs

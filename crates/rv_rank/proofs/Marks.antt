@@ -43,13 +43,6 @@ not_behind Start e = λ q. cc
 not_behind (After u) e = λ q. cc
 not_behind Behind e = cc
 
--- and the other way round
-pub is_behind_no : (m : Mark) → m ≢ Behind → is_behind m ≡ false
-is_behind_no Free n = refl
-is_behind_no Start n = refl
-is_behind_no (After u) n = refl
-is_behind_no Behind n = absurd (n refl)
-
 -- no mark is both
 pub behind_not_ahead : (m : Mark) → is_behind m ≡ true → is_ahead m ≡ false
 behind_not_ahead Free e = cc

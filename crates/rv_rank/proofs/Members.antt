@@ -1,18 +1,14 @@
 -- The members of a placement, as the visits tell them.
 use Rattle.rv_rank.proofs.Common.{◌≡◌, ℕ, ◌+◌, ◌<◌, ◌≤◌, Bool, true, false, List, [], ◌∷◌, ◌++◌, length, get_or}
-use Rattle.rv_rank.proofs.Common.{set, reverse, ◌∙◌, arith, ap, All, filter, get_or_default, rules, common_steps}
-use Rattle.rv_rank.proofs.Common.{Mark, Free, IsInverse, mark_of, is_ahead, is_behind, is_ahead_of, is_behind_of}
-use Rattle.rv_rank.proofs.Common.{is_slot, members_of, IsMended, Found, IsPlan, IsRoster, IsLocal}
+use Rattle.rv_rank.proofs.Common.{set, ◌∙◌, arith, ap, All, filter, get_or_default, rules, common_steps, Mark, Free}
+use Rattle.rv_rank.proofs.Common.{IsInverse, mark_of, is_ahead, is_behind, is_ahead_of, is_behind_of, is_slot}
+use Rattle.rv_rank.proofs.Common.{members_of, IsMended, Found, IsPlan, IsRoster, IsLocal}
 use Rattle.rv_rank.proofs.Marks.{cases_free, marked_within, ahead_marked, behind_is, behind_not_ahead}
 use Rattle.rv_rank.proofs.Tracing.{behind_marked}
 use Rattle.rv_rank.proofs.Counting.{count_to, count_below-count_to}
 use Rattle.rv_rank.proofs.Slots.{members_of-long}
 use Rattle.rv_rank.proofs.Mending.{either_of, members_long, members_apart, members_below, mended_inverse}
 use Rattle.rv_rank.proofs.Mending.{mended_local}
-
-members_of-found : (first back : List ℕ) (node : ℕ) →
-    members_of (first ++ reverse back) (length first) node ≡ back ++ node ∷ first
-members_of-found first back node = grind (arith, common_steps)
 
 module _ (found : Found) (nodes ranks visits : List ℕ) (inverse : IsInverse nodes ranks)
     (plan : IsPlan found nodes ranks visits) where

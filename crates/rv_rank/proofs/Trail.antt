@@ -13,11 +13,6 @@ pub record IsWayBack (edges : List (List ℕ)) (low : ℕ) (ranks : List ℕ) (m
   pub marked : IsMarked low ranks marks node
   pub steps : (k : ℕ) → k + 1 < length back → Edge edges (get_or back (k + 1) 0) (get_or back k 0)
 
--- the way back begins at its end
-pub IsWayBack-begin : (edges : List (List ℕ)) (low : ℕ) (ranks : List ℕ) (marks : List Mark) (end : ℕ) →
-    IsMarked low ranks marks end → IsWayBack edges low ranks marks end end (end ∷ [])
-IsWayBack-begin edges low ranks marks end m = grind (arith, common_steps)
-
 -- one step further back
 pub IsWayBack-more : (edges : List (List ℕ)) (low : ℕ) (ranks : List ℕ) (marks : List Mark) (end node from : ℕ)
     (back : List ℕ) → IsWayBack edges low ranks marks end node back → Edge edges from node →

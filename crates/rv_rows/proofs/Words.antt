@@ -109,12 +109,6 @@ has-top words k n pos fits above is =
     (omega (arith, is, (leading_top 64 (get_or words k 0) pos fits).1))
     (omega (arith, (leading_top 64 (get_or words k 0) pos fits).1))
 
--- where all numbers are below the limit, and the words from k up to the limit are empty, no number
--- is in word k or later
-pub none_above : (words : List ℕ) (limit start k : ℕ) → limit ≤ start * 64 → ((j : ℕ) → Has words j → j < limit) →
-    ((j : ℕ) → k ≤ j → j < start → get_or words j 0 ≡ 0) → (j : ℕ) → k ≤ j / 64 → has_bit words j ≡ false
-none_above words limit start k enough below empty j high = grind (arith, common_steps)
-
 abbrev zeros : List ℕ
 zeros = replicate 64 0
 
@@ -224,13 +218,6 @@ pub none_from : (words : List ℕ) (low high limit top start k : ℕ) → IsBetw
     start ≡ min top high → ((j : ℕ) → Has words j → j < limit)
     → ((j : ℕ) → k ≤ j → j < start → get_or words j 0 ≡ 0) → (j : ℕ) → k ≤ j / 64 → has_bit words j ≡ false
 none_from words low high limit top start k between enough least below empty j from =
-    grind (arith, common_steps)
-
--- where also those before word k are empty, there is none
-pub none_at_all : (words : List ℕ) (low high limit top start k : ℕ) → IsBetween words low high → limit ≤ top * 64 →
-    start ≡ min top high → k ≤ low → ((j : ℕ) → Has words j → j < limit)
-    → ((j : ℕ) → k ≤ j → j < start → get_or words j 0 ≡ 0) → (j : ℕ) → has_bit words j ≡ false
-none_at_all words low high limit top start k between enough least first below empty j =
     grind (arith, common_steps)
 
 -- all words in use lie between the ends

@@ -20,19 +20,19 @@ pub use Rattle.rv_slotcore.specs.declared.parts.SeatEntry.{SeatEntry}
 pub use Rattle.rv_slotcore.specs.declared.parts.SlotState.{SlotState}
 pub use Rattle.rv_slotcore.specs.declared.step.Answer.{Answer}
 pub use Rattle.std.proofs.Common.{Bool, Contains, List, None, Option, Some, [], ap, arith, bit_and, bit_or, eq-eqb}
-pub use Rattle.std.proofs.Common.{eqb-true, false, get_or, inl, inr, length, length-set, ltb-true, map, nat_lt}
-pub use Rattle.std.proofs.Common.{ne_eqb, not, pow-suc, refl, replicate, rules, set, shr-shr, slice_index_or, subst}
-pub use Rattle.std.proofs.Common.{suc, sym, take, true, true≢false, w64, zero, zero-mul, ℕ, ⊎_elim, ◌%◌, ◌&&◌, ◌*◌}
-pub use Rattle.std.proofs.Common.{◌++◌, ◌+◌, ◌-◌, ◌/◌, ◌<◌, ◌==◌, ◌^◌, ◌∙◌, ◌∷◌, ◌≡◌, ◌≢◌, ◌≤◌, ◌⊎◌}
+pub use Rattle.std.proofs.Common.{eqb-true, false, get_or, length, length-set, ltb-true, map, nat_lt, ne_eqb, not}
+pub use Rattle.std.proofs.Common.{pow-suc, refl, replicate, rules, set, shr-shr, subst, suc, sym, take, true}
+pub use Rattle.std.proofs.Common.{true≢false, w64, zero, zero-mul, ℕ, ⊎_elim, ◌%◌, ◌&&◌, ◌*◌, ◌++◌, ◌+◌, ◌-◌, ◌/◌}
+pub use Rattle.std.proofs.Common.{◌<◌, ◌==◌, ◌^◌, ◌∙◌, ◌∷◌, ◌≡◌, ◌≢◌, ◌≤◌, ◌⊎◌}
 pub use Rattle.std.proofs.Math.Nat.{div-eq_of_lt}
 pub use Rattle.std.proofs.lemmas.Bool.{cases_Bool, cases_eq, cases_lt}
 pub use Rattle.std.proofs.lemmas.Grind.{common_steps}
 pub use Rattle.std.proofs.lemmas.List.{get_or-map, get_or-set_other, get_or-set_same, length-map, length-replicate}
 pub use Rattle.std.proofs.lemmas.List.{map-append, reverse-append, take_all, take_more}
-pub use Rattle.std.proofs.lemmas.Nat.{and_le_l, and_shr, or_shr, pow_below, pow_pos, shr_high}
+pub use Rattle.std.proofs.lemmas.Nat.{and_le_l, or_shr, pow_below, pow_pos, shr_high}
 pub use Rattle.std.proofs.lemmas.Nat.Bits.{and_pow, bit_at-lt, bit_at-pow_other, bit_at-pow_same, bit_at-zero}
-pub use Rattle.std.proofs.lemmas.Nat.Bits.{bit_at_above, bit_at_and, bit_at_cat_high, bit_at_cat_low}
-pub use Rattle.std.proofs.lemmas.Nat.Bits.{bit_at_clear_other, bit_at_clear_same, bit_at_or, same_from_bits}
+pub use Rattle.std.proofs.lemmas.Nat.Bits.{bit_at_above, bit_at_cat_high, bit_at_cat_low, bit_at_clear_other}
+pub use Rattle.std.proofs.lemmas.Nat.Bits.{bit_at_clear_same, bit_at_or, same_from_bits}
 pub use Rattle.std.specs.Int.{bit_at, bit_not}
 pub use Rattle.std.specs.Int.Bits.{or_zero_r}
 pub use Rattle.std.specs.List.{list_all}

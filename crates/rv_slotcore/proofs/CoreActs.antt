@@ -1,8 +1,8 @@
 -- An act of the code is the machine's.
-use Rattle.rv_slotcore.proofs.Common.{Option, Some, None, unwrap_or, is_some, list_all, nat_lt, ◌≡◌, ◌<◌, ◌&&◌}
-use Rattle.rv_slotcore.proofs.Common.{Bool, true, ℕ, List, [], ◌∷◌, map, refl, ap, ◌∙◌, arith, common_steps, Slot}
-use Rattle.rv_slotcore.proofs.Common.{Seat, with_slot, with_seat, with_both, Moved, if_fits, put_words, all_put}
-use Rattle.rv_slotcore.proofs.Common.{core_of, answer_of, Went, Parts}
+use Rattle.rv_slotcore.proofs.Common.{Option, Some, None, unwrap_or, is_some, list_all, nat_lt, ◌≡◌, ◌<◌, ◌&&◌, ℕ}
+use Rattle.rv_slotcore.proofs.Common.{List, [], ◌∷◌, map, refl, ap, ◌∙◌, arith, common_steps, Slot, Seat, with_slot}
+use Rattle.rv_slotcore.proofs.Common.{with_seat, with_both, Moved, if_fits, put_words, all_put, core_of, answer_of}
+use Rattle.rv_slotcore.proofs.Common.{Went, Parts}
 use Rattle.rv_slotcore.specs.Machine as machine
 use Rattle.rv_slotcore.specs.declared.step.Answer as coded
 
@@ -34,9 +34,6 @@ pub all_is : (ws : List (Option ℕ)) → list_all is_some ws ≡ all_put ws
 all_is [] = refl
 all_is (None ∷ ws) = refl
 all_is (Some w ∷ ws) = all_is ws
-
-both_true : (a b : Bool) → a ≡ true → b ≡ true → (a && b) ≡ true
-both_true a b e f = cc
 
 -- an act whose numbers are in range is tried
 pub went_in_range : (h : Parts) (a : coded.Answer) (c : machine.Core) (s i n k : ℕ)

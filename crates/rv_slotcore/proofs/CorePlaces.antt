@@ -60,10 +60,6 @@ seats_written h s q p z within is e =
       seats = w k;
     }
 
--- a place that keeps its value
-pub put_same : {A : Type 0} (f : ℕ → A) (i : ℕ) → put_at f i (f i) ≡ f
-put_same {A} f i = grind (arith, common_steps)
-
 -- a seat written as it is
 pub same_seat : (c : machine.Core) (s : ℕ) → with_seat c s (c.seats s) ≡ c
 same_seat c s = grind (arith, common_steps)

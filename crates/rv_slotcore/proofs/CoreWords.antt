@@ -1,14 +1,13 @@
 -- The state word under one exchange.
-use Rattle.rv_slotcore.proofs.Common.{◌≡◌, ◌≢◌, ℕ, zero, suc, ◌+◌, ◌*◌, ◌/◌, ◌%◌, ◌^◌, ◌<◌, ◌≤◌, Bool, true}
-use Rattle.rv_slotcore.proofs.Common.{false, ◌&&◌, ◌==◌, List, bit_and, bit_or, not, sym, refl, ap, ◌∙◌, subst}
-use Rattle.rv_slotcore.proofs.Common.{arith, ⊎_elim, eq-eqb, ne_eqb, zero-mul, ltb-true, eqb-true, cases_lt}
-use Rattle.rv_slotcore.proofs.Common.{nat_lt, nat_eq, true≢false, w64, bit_at, bit_not, or_zero_r, div-eq_of_lt}
-use Rattle.rv_slotcore.proofs.Common.{or_shr, pow_below, pow_pos, and_le_l, bit_at_or, bit_at-pow_same}
-use Rattle.rv_slotcore.proofs.Common.{bit_at-pow_other, bit_at-lt, and_pow, bit_at_clear_same, bit_at_clear_other}
-use Rattle.rv_slotcore.proofs.Common.{bit_at_above, same_from_bits, bit_at_cat_low, bit_at-zero, common_steps}
-use Rattle.rv_slotcore.proofs.Common.{seats_at_most, claimed_bit, full_bit, done_bit, generation_bit, Slot, flag}
-use Rattle.rv_slotcore.proofs.Common.{word_of, put_at, claimed_slot, full_slot, done_slot, pinned_slot}
-use Rattle.rv_slotcore.proofs.Common.{freed_slot, Reads, slot_read}
+use Rattle.rv_slotcore.proofs.Common.{◌≡◌, ◌≢◌, ℕ, zero, suc, ◌+◌, ◌*◌, ◌/◌, ◌%◌, ◌^◌, ◌<◌, ◌≤◌, Bool, true, false}
+use Rattle.rv_slotcore.proofs.Common.{◌&&◌, ◌==◌, List, bit_and, bit_or, not, sym, refl, ap, ◌∙◌, subst, arith}
+use Rattle.rv_slotcore.proofs.Common.{⊎_elim, eq-eqb, ne_eqb, zero-mul, ltb-true, eqb-true, cases_lt, nat_lt}
+use Rattle.rv_slotcore.proofs.Common.{nat_eq, true≢false, w64, bit_at, bit_not, or_zero_r, div-eq_of_lt, or_shr}
+use Rattle.rv_slotcore.proofs.Common.{pow_below, pow_pos, and_le_l, bit_at_or, bit_at-pow_same, bit_at-pow_other}
+use Rattle.rv_slotcore.proofs.Common.{bit_at-lt, and_pow, bit_at_clear_same, bit_at_clear_other, bit_at_above}
+use Rattle.rv_slotcore.proofs.Common.{same_from_bits, bit_at_cat_low, bit_at-zero, common_steps, seats_at_most}
+use Rattle.rv_slotcore.proofs.Common.{claimed_bit, full_bit, done_bit, generation_bit, Slot, word_of, put_at}
+use Rattle.rv_slotcore.proofs.Common.{claimed_slot, full_slot, done_slot, pinned_slot, freed_slot, Reads, slot_read}
 use Rattle.rv_slotcore.proofs.Words.{one_word, word_reads, high_bit}
 
 -- the bit that was set
@@ -92,13 +91,6 @@ mask_is w k =
       ne_eqb,
       not_both,
     )
-
-flag_of_bit : (n : ℕ) → n < 2 → n ≡ flag (n == 1)
-flag_of_bit n h = grind (arith, common_steps)
-
-guarded : (b c : Bool) → b ≡ true → (b && c) ≡ c
-guarded true c e = refl
-guarded false c e = absurd (true≢false (sym e))
 
 reads_itself : (w : ℕ) (content : List ℕ) → Reads w (slot_read w content)
 reads_itself w content = grind (arith, common_steps)

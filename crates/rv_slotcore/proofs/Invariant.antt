@@ -1,9 +1,8 @@
 -- What every step keeps.
-use Rattle.rv_slotcore.proofs.Common.{seats_at_most, ◌≡◌, ◌⊎◌, ℕ, zero, suc, ◌<◌, ◌≤◌, Bool, true, false, ◌==◌}
-use Rattle.rv_slotcore.proofs.Common.{List, [], ◌∷◌, length, get_or, replicate, slice_index_or, Option, Some}
-use Rattle.rv_slotcore.proofs.Common.{None, Contains, sym, refl, ap, ◌∙◌, arith, inl, inr, common_steps, Slot}
-use Rattle.rv_slotcore.proofs.Common.{SeatState, Idle, Filling, Pinned, Stray, Seat, Core, put_at, all_put}
-use Rattle.rv_slotcore.proofs.Common.{put_words}
+use Rattle.rv_slotcore.proofs.Common.{seats_at_most, ◌≡◌, ℕ, suc, ◌<◌, ◌≤◌, Bool, true, false, ◌==◌, List, [], ◌∷◌}
+use Rattle.rv_slotcore.proofs.Common.{length, get_or, replicate, Option, Some, None, Contains, sym, refl, ap, ◌∙◌}
+use Rattle.rv_slotcore.proofs.Common.{arith, common_steps, Slot, SeatState, Idle, Filling, Pinned, Stray, Seat}
+use Rattle.rv_slotcore.proofs.Common.{Core, put_at, all_put, put_words}
 use Rattle.rv_slotcore.specs.Machine.{Record}
 
 -- the seat's own bit is set on this slot
@@ -99,15 +98,6 @@ in_head r rs = (0, omega arith, refl)
 -- what the rest contains the list contains
 pub in_tail : (x r : Record) (rs : List Record) → Contains rs r → Contains (x ∷ rs) r
 in_tail x r rs c = let h = c.1 in (suc c.0, omega arith, c.2)
-
-in_cons_at : (x r : Record) (rs : List Record) (k : ℕ) → k < length (x ∷ rs) → slice_index_or
-    (x ∷ rs) k r ≡ r → (x ≡ r) ⊎ Contains rs r
-in_cons_at x r rs zero h e = inl e
-in_cons_at x r rs (suc k) h e = inr (k, omega arith, e)
-
--- an element is the first or one of the rest
-pub in_cons : (x r : Record) (rs : List Record) → Contains (x ∷ rs) r → (x ≡ r) ⊎ Contains rs r
-in_cons x r rs c = in_cons_at x r rs c.0 c.1 c.2
 
 -- so many words that were not put
 abbrev pub nothing : ℕ → List (Option ℕ)

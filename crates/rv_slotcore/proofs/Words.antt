@@ -11,10 +11,6 @@ flag_bit : (b : Bool) → bit_at (flag b) 0 ≡ flag b
 flag_bit true = refl
 flag_bit false = refl
 
-flag_small : (b : Bool) → flag b < 2
-flag_small true = omega arith
-flag_small false = omega arith
-
 room : (b : Bool) (p r t : ℕ) → r < p → t ≡ 2 * p → flag b * p + r < t
 room true p r t h e = omega arith
 room false p r t h e = omega arith

@@ -9,9 +9,9 @@ pub use Rattle.rv_slotcore.proofs.Invariant.{Safe, none_put, on, whole_is}
 pub use Rattle.rv_slotcore.proofs.Run.{run_keeps, safe_means, start_safe}
 pub use Rattle.rv_slotcore.proofs.Updates.{put_cases, put_else, put_here, run-append}
 pub use Rattle.rv_slotcore.proofs.Words.{flag_none, flag_one, one_word, word_reads}
-pub use Rattle.rv_slotcore.specs.Machine.{Act, Claim, Core, Moved, Slot, Step, after, all_put, claimed_slot, claims}
-pub use Rattle.rv_slotcore.specs.Machine.{done_slot, flag, freed_slot, full_slot, if_fits, in_state, moves, no_words}
-pub use Rattle.rv_slotcore.specs.Machine.{pinned_slot, put_at, put_words, run, start, with_both, with_slot}
+pub use Rattle.rv_slotcore.specs.Machine.{Claim, Core, Moved, Slot, Step, after, all_put, claimed_slot, claims}
+pub use Rattle.rv_slotcore.specs.Machine.{done_slot, flag, freed_slot, full_slot, if_fits, in_state, moves}
+pub use Rattle.rv_slotcore.specs.Machine.{no_words, pinned_slot, put_at, put_words, start, with_both, with_slot}
 pub use Rattle.rv_slotcore.specs.Machine.{written_slot}
 pub use Rattle.rv_slotcore.specs.Places.{claimed_bit, done_bit, full_bit, generation_bit, last_generation, last_seat}
 pub use Rattle.rv_slotcore.specs.Places.{seats_at_most, slot_words}
@@ -21,7 +21,7 @@ pub use Rattle.rv_slots.specs.Carried.{IsDone, IsLetGo, IsRefused, IsSameBook}
 pub use Rattle.rv_slots.specs.Knows.{IsAlone, IsFilling, IsIdle, IsPinned, IsStray, pin_record, pinned_at}
 pub use Rattle.rv_slots.specs.Lines.{IsNewest, IsText, Meet, ToldFor, claim_state, claim_told, claimed, cut_left}
 pub use Rattle.rv_slots.specs.Lines.{cut_right, done_told, finished, free_told, freed, fresh, fresh_seats, get_told}
-pub use Rattle.rv_slots.specs.Lines.{got, got_in, joined, known, meet_told, only, pin_records, pin_state, pin_told}
+pub use Rattle.rv_slots.specs.Lines.{got, joined, known, meet_told, only, pin_records, pin_state, pin_told}
 pub use Rattle.rv_slots.specs.Lines.{pin_words, pinned, publish_told, published, put_in, put_line, put_told, spent}
 pub use Rattle.rv_slots.specs.Lines.{the_view, unpin_told, unpinned}
 pub use Rattle.rv_slots.specs.Opening.{AreSeats}
@@ -39,9 +39,9 @@ pub use Rattle.rv_slots.specs.declared.views.View.{View}
 pub use Rattle.std.proofs.Common.{Bool, Contains, List, None, Option, Some, [], ap, arith, bit_and, bit_or, drop}
 pub use Rattle.std.proofs.Common.{eq-eqb, eqb, eqb-true, false, get_or, get_or-set_other, if◌then◌else◌, inl, inr}
 pub use Rattle.std.proofs.Common.{length, length-append, length-set, lt-ltb, nat_lt, ne_eqb, not, pred, refl}
-pub use Rattle.std.proofs.Common.{replicate, rules, set, slice_index_or, subst, suc, sym, take, true, true≢false}
-pub use Rattle.std.proofs.Common.{zero, ℕ, ⊎_elim, ◌&&◌, ◌*◌, ◌++◌, ◌+◌, ◌-◌, ◌/◌, ◌<◌, ◌==◌, ◌^◌, ◌∙◌, ◌∷◌, ◌≡◌, ◌≢◌}
-pub use Rattle.std.proofs.Common.{◌≤◌, ◌⊎◌}
+pub use Rattle.std.proofs.Common.{replicate, rules, set, slice_index_or, subst, suc, sym, true, true≢false, zero, ℕ}
+pub use Rattle.std.proofs.Common.{⊎_elim, ◌&&◌, ◌*◌, ◌++◌, ◌+◌, ◌-◌, ◌/◌, ◌<◌, ◌==◌, ◌^◌, ◌∙◌, ◌∷◌, ◌≡◌, ◌≢◌, ◌≤◌}
+pub use Rattle.std.proofs.Common.{◌⊎◌}
 pub use Rattle.std.proofs.lemmas.Bool.{cases_Bool, cases_eq, cases_lt}
 pub use Rattle.std.proofs.lemmas.Grind.{common_steps, get_or-set_at}
 pub use Rattle.std.proofs.lemmas.List.{set-get_or}

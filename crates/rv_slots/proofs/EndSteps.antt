@@ -8,7 +8,6 @@ use Rattle.rv_slots.proofs.Common.{put_here, View, Mark, SeatView, Kept, Marked,
 use Rattle.rv_slots.proofs.Common.{eq-eqb, ne_eqb, cases_lt, common_steps, rules, either, exchanged, one_word}
 use Rattle.rv_slots.proofs.Common.{word_reads, the_view, finished, freed, done_told, free_told, DoneIsStep}
 use Rattle.rv_slots.proofs.Common.{FreeIsStep, of_seat, IsIdle, IsPinned}
-use Rattle.rv_slotcore.specs.Machine.{Seat}
 use Rattle.rv_slots.proofs.Words.{state_changes, loads, reads_done, reads_free}
 use Rattle.rv_slots.proofs.Knowing.{knows, shown_pinned, in_head, in_tail}
 use Rattle.rv_slots.proofs.Seating.{Goes, allows_of, one, keeps_by, marked_same, whole_same, field_same}

@@ -8,7 +8,6 @@ use Rattle.rv_slots.proofs.Common.{Record, SeatView, Kept, Whole, RecordsFit, Re
 use Rattle.rv_slots.proofs.Common.{get_or-set_other, drop, rules, common_steps, dite, ℕ_discrete, whole_is}
 use Rattle.rv_slots.proofs.Common.{the_view, got, get_told, known, pin_words, IsText, GetIsStep, of_seat}
 use Rattle.rv_slots.proofs.Common.{IsPinned, pin_record, pinned_at}
-use Rattle.rv_slotcore.specs.Machine.{Seat}
 use Rattle.rv_slots.proofs.Words.{loads}
 use Rattle.rv_slots.proofs.Knowing.{knows, shown_pinned, safe_of, in_head, in_tail, in_cons, fit_there}
 use Rattle.rv_slots.proofs.Seating.{Goes, allows_of, one, keeps_by, marked_same}

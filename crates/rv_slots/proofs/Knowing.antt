@@ -8,13 +8,6 @@ use Rattle.rv_slots.specs.declared.views.SeatState.TheVariants.{Pinned}
 use Rattle.rv_slots.proofs.Seating.{one, seat_is}
 use Rattle.rv_slotcore.specs.Machine as core
 
--- who is shown as idle is idle
-pub shown_idle : (st : core.SeatState) → Idle ≡ shown st → st ≡ core.Idle
-shown_idle core.Idle e = refl
-shown_idle (core.Filling i p) e = absurd (cc)
-shown_idle (core.Pinned i g w) e = absurd (cc)
-shown_idle (core.Stray i) e = absurd (cc)
-
 -- what the rule says of the seat that steps
 pub record Knows {n : ℕ} {s : State (Unit {0}) View} (k : Kept n s) (id : ℕ)
     (p : SeatView) : Type 0 where

@@ -1,23 +1,12 @@
 -- What the calls of a carrier come to: the loops that put and get 58 words, and a pin let go.
-use Rattle.rv_slots.proofs.Common.{◌≡◌, ℕ, suc, ◌+◌, ◌<◌, ◌≤◌, true, List, [], ◌∷◌, length, get_or, set, Option}
-use Rattle.rv_slots.proofs.Common.{Some, None, sym, refl, ap, ◌∙◌, subst, arith, drop, common_steps, all_put}
-use Rattle.rv_slots.proofs.Common.{put_words, Record, SeatView, pin_words, got_in, pin_record, Free, IsUnpin}
-use Rattle.rv_slots.proofs.Common.{IsFree, IsLetGo}
+use Rattle.rv_slots.proofs.Common.{◌≡◌, ℕ, suc, ◌<◌, ◌≤◌, true, List, [], ◌∷◌, length, get_or, Option, Some, None}
+use Rattle.rv_slots.proofs.Common.{sym, refl, ap, ◌∙◌, subst, arith, drop, all_put, put_words, SeatView, pin_words}
+use Rattle.rv_slots.proofs.Common.{pin_record, Free, IsUnpin, IsFree, IsLetGo}
 use Rattle.rv_slots.specs.declared.seats.Seat.{Seat}
 
 -- the words below j are there
 abbrev pub HasWords : List (Option ℕ) → List ℕ → ℕ → Type 0
 HasWords ws xs j = (m : ℕ) → m < j → get_or ws m None ≡ Some (get_or xs m 0)
-
--- no words so far
-pub has_none : (ws : List (Option ℕ)) (xs : List ℕ) → HasWords ws xs 0
-has_none ws xs m h = absurd (omega arith)
-
--- one word more, which the list has at that place
-pub has_more : (ws vs : List (Option ℕ)) (xs ys : List ℕ) (j w : ℕ) → length ws ≡ 58 → j < 58
-    → HasWords ws xs j → vs ≡ set ws j (Some w) → get_or ys j 0 ≡ w →
-    ((m : ℕ) → m < j → get_or ys m 0 ≡ get_or xs m 0) → HasWords vs ys (j + 1)
-has_more ws vs xs ys j w long within h is here same m l = grind (arith, common_steps)
 
 -- all words are there
 pub all_there : (ws : List (Option ℕ)) (xs : List ℕ) → length ws ≡ length xs → HasWords ws xs
@@ -34,12 +23,6 @@ all_there (Some w ∷ ws) (x ∷ xs) l h = let e : Some w ≡ Some x = h 0 (omeg
 pub pin_words_is : (p : SeatView) → p.records ≡ pin_record p ∷ drop 1 p.records
     → pin_words p.records ≡ (pin_record p).words
 pin_words_is p e = ap pin_words e
-
--- a word more of it
-pub got_words : (p : SeatView) (j w : ℕ) → p.records ≡ pin_record p ∷ drop 1 p.records → pin_words
-    (got_in p.records j w) ≡ set (pin_words p.records) j (Some w)
-got_words p j w e = ap (λ (l : List Record). pin_words (got_in l j w)) e ∙ ap
-    (λ (l : List (Option ℕ)). set l j (Some w)) (sym (pin_words_is p e))
 
 -- 58 words that are there are all
 pub put_all : (ws : List (Option ℕ)) (xs : List ℕ) (j : ℕ) → 58 ≤ j → j ≤ 58 → length ws ≡ 58

@@ -11,7 +11,6 @@ use Rattle.rv_slots.proofs.Common.{some-injective, some-ne-none, dite, ℕ_discr
 use Rattle.rv_slots.proofs.Common.{set_here, set_else, set_again, at_longer, at_last, IsSeated, opening_view}
 use Rattle.rv_slots.proofs.Common.{the_view, cut_left, cut_right, joined, spent, fresh, fresh_seats, Meet}
 use Rattle.rv_slots.proofs.Common.{meet_told}
-use Rattle.rv_slotcore.specs.Machine.{Seat}
 use Rattle.rv_slots.proofs.Knowing.{safe_of, in_head, in_tail, fit_there}
 use Rattle.rv_slots.proofs.Seating.{one, seat_is, there_below, at_one, only_first}
 use Rattle.rv_slotcore.specs.Machine as core
@@ -24,10 +23,6 @@ in_longer [] a b (suc k) e = absurd (some-ne-none b (sym e))
 in_longer (x ∷ l) a b zero e = inr (omega arith, e)
 in_longer (x ∷ l) a b (suc k) e = ⊎_elim (λ h. let n = h.0 in inl (omega arith, h.1))
     (λ h. let n = h.0 in inr (omega arith, h.1)) (in_longer l a b k e)
-
-choose : {A : Type 0} (P : A → Type 0) (a b : ℕ) (x y : A) → (a ≡ b → P x) → (a ≢ b → P y) → P
-    (if a == b then x else y)
-choose P a b x y same other = grind (arith, common_steps)
 
 abbrev first_or : ℕ → ℕ → ℕ → ℕ
 first_or zero a b = a
@@ -324,9 +319,6 @@ fresh_only (suc k) zero p l e = let n : last_seat - k ≡ seats_at_most - suc k 
 fresh_only (suc k) (suc t) p l e = let r = fresh_only k t p (omega arith) e in let h = r.0 in
     let n : seats_at_most - k + t ≡ seats_at_most - suc k + suc t = omega arith in
     (omega arith, r.1 ∙ ap fresh n)
-
-in_none : {A : Type 0} (a : A) → Contains [] a → ⊥
-in_none a c = let h = c.1 in omega arith
 
 opening_only : (k m : ℕ) (p : SeatView) → At (opening_view ∷ []) k m p →
     (p.number < seats_at_most) × (0 ≡ k) × (p.number ≡ m)

@@ -4,7 +4,6 @@ use Rattle.rv_slots.proofs.Common.{List, get_or, Contains, sym, ap, ◌∙◌, s
 use Rattle.rv_slots.proofs.Common.{eq-eqb, rules, common_steps, State, flag, flag_one, flag_none}
 use Rattle.rv_slots.proofs.Common.{Safe, on, safe_means, View, Record, SeatView, At, Kept, Fits, RecordFits}
 use Rattle.rv_slots.proofs.Common.{shown, HasMark, Stands, IsOn, Says, RuleSays}
-use Rattle.rv_slotcore.specs.Machine.{Seat}
 use Rattle.rv_slots.proofs.Seating.{at_one}
 use Rattle.rv_slots.proofs.Knowing.{safe_of, shown_filling, shown_pinned, fit_back, fit_there}
 use Rattle.rv_slotcore.specs.Machine as core

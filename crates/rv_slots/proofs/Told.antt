@@ -1,19 +1,13 @@
 -- What a step told, for the type that the seat becomes.
 use Rattle.rv_slots.proofs.Common.{last_generation, claimed_bit, done_bit, full_bit, generation_bit, slot_words}
-use Rattle.rv_slots.proofs.Common.{◌≡◌, ◌≢◌, ℕ, zero, suc, ◌+◌, ◌*◌, ◌/◌, ◌^◌, ◌<◌, ◌≤◌, Contains, Bool, false}
-use Rattle.rv_slots.proofs.Common.{[], bit_and, sym, refl, ap, ◌∙◌, arith, bit_at, and_pow, bit_at-lt, Me}
-use Rattle.rv_slots.proofs.Common.{TableId, View, SeatView, Idle, Stray, ◌==◌, eq-eqb, true≢false, common_steps}
-use Rattle.rv_slots.proofs.Common.{Record, pin_state, IsNewest, the_view, ToldFor, IsAlone, IsIdle}
+use Rattle.rv_slots.proofs.Common.{◌≡◌, ◌≢◌, ℕ, ◌+◌, ◌*◌, ◌/◌, ◌^◌, ◌<◌, ◌≤◌, Contains, Bool, false, [], bit_and}
+use Rattle.rv_slots.proofs.Common.{sym, ap, ◌∙◌, arith, bit_at, and_pow, bit_at-lt, Me, TableId, View, SeatView}
+use Rattle.rv_slots.proofs.Common.{◌==◌, eq-eqb, true≢false, common_steps, Record, IsNewest, the_view, ToldFor}
 use Rattle.rv_slots.proofs.Seating.{one}
 
 -- what one thread knows: a view
 abbrev pub Mine : Type 0
 Mine = Me (Unit {0}) View
-
--- a seat stays alone
-pub alone_after : (q : ℕ) (m w : Mine) (p : SeatView) → IsAlone q m → w ≡ (one p, []) → p.number ≡
-    (the_view m.0).number → IsAlone q w
-alone_after q m w p a e same = grind (arith, common_steps)
 
 -- the claim is clear
 pub clear_bit : (n : ℕ) → bit_and n (2 ^ claimed_bit) ≡ 0 → bit_at n claimed_bit ≡ 0
@@ -48,12 +42,6 @@ pub slot_below : (i n key : ℕ) (t u : TableId) → slot_words * i < u.words �
 slot_below i n key t u h a e f = let w : u.words ≡ t.words = ap (λ (z : TableId). z.words) a in
     (omega arith, omega arith)
 
--- the seat is idle
-pub idle_after : (q i : ℕ) (m w : Mine) (line : ℕ → SeatView) → IsAlone q m → ToldFor
-    (slot_words * i) line w → (line i).number ≡ (the_view m.0).number → (line i).state ≡ Idle
-    → IsIdle q w
-idle_after q i m w line a t named st = grind (arith, common_steps)
-
 -- the flag full is clear
 pub full_clear : (n : ℕ) → bit_and n (2 ^ full_bit) ≡ 0 → bit_at n full_bit ≡ 0
 full_clear n h = let e : bit_and n (2 ^ full_bit) ≡ bit_at n full_bit * 2 ^ full_bit =
@@ -77,11 +65,6 @@ done_set n h = let e : bit_and n (2 ^ done_bit) ≡ bit_at n done_bit * 2 ^ done
 -- 0 is not 1
 pub zero_one : ◌≡◌ {A = ℕ} 0 1 → ⊥
 zero_one e = omega arith
-
-stray_state : (i g f d : ℕ) → (f ≡ 1 → d ≡ 1) → f < 2 → pin_state i g f d ≡ Stray i
-stray_state i g zero d h l = refl
-stray_state i g (suc f) zero h l = let one : suc f ≡ 1 = omega arith in absurd (zero_one (h one))
-stray_state i g (suc f) (suc d) h l = refl
 
 -- no record is of a later generation
 pub latest_told : (p : SeatView) (i n : ℕ) → IsNewest p (slot_words * i) n → (r : Record)

@@ -32,12 +32,6 @@ pub digit-more : (text : List ℕ) (i acc : ℕ) → i < length text → is_digi
 unfolding decimal_from
 digit-more text i acc h d = rw (add-one, drop-cons text i 0, d) refl
 
--- what is no digit ends it without one
-pub digit-stop : (text : List ℕ) (i acc : ℕ) → i < length text → is_digit (get_or text i 0) ≡ false
-    → decimal_from acc (drop i text) ≡ None
-unfolding decimal_from
-digit-stop text i acc h d = rw (drop-cons text i 0, d) refl
-
 -- the end of the text
 pub digit-end : (text : List ℕ) (i acc : ℕ) → length text ≤ i → decimal_from acc (drop i text) ≡ Some acc
 unfolding decimal_from

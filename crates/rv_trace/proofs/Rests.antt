@@ -28,10 +28,6 @@ found : (o : Option Read) (f : Fields) (s : State) (z : List ℕ) → NextIs o t
 found None f s z n = cc n
 found (Some p) f s z n = rw (n.1, n.2, n.3) refl
 
-none : (o : Option Read) (f : Fields) (s : State) (z : List ℕ) → NextIs o false f s z → o ≡ None
-none None f s z n = refl
-none (Some p) f s z n = cc n.0
-
 take-known : (a b : State) (old new : Option (List ℕ)) (row : Row)
     → ReadsNext default_config a old new true (fields_of row) b
     → TakesRow (option_map (rest_of a) old) (option_map (rest_of b) new) row

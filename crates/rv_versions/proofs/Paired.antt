@@ -1,21 +1,16 @@
 -- A new event changes no pair of old ones, and an SC is paired with one LR alone.
-use Rattle.rv_versions.proofs.Common.{◌≡◌, ◌≢◌, ◌<◌, List, [], ◌∷◌, ◌++◌, Contains, Option, Some, None, IsFalse}
-use Rattle.rv_versions.proofs.Common.{inl, inr, sym, ap, ◌∙◌, arith, subst, same_Some, All-contains}
+use Rattle.rv_versions.proofs.Common.{◌≡◌, ◌≢◌, List, [], ◌∷◌, ◌++◌, Contains, Option, Some, None, IsFalse, inl}
+use Rattle.rv_versions.proofs.Common.{inr, sym, ap, ◌∙◌, arith, subst, same_Some, All-contains}
 use Rattle.rv_versions.proofs.Common.{Contains-append_left, Contains-push_cases, common_steps, All-from_contains}
-use Rattle.rv_versions.proofs.Common.{Paired-grows, Indexed, Sound, indexed-push, grows-push, is_exclusive}
-use Rattle.rv_versions.proofs.Common.{Earlier, Between, Paired, Event, Rvwmo, IsPair, IsReservation, IsPartner}
-use Rattle.rv_versions.proofs.Common.{IsReserved, Reservation}
+use Rattle.rv_versions.proofs.Common.{Paired-grows, Indexed, Sound, indexed-push, grows-push, is_exclusive, Earlier}
+use Rattle.rv_versions.proofs.Common.{Between, Paired, Event, Rvwmo, IsPair, IsReservation, IsPartner, IsReserved}
+use Rattle.rv_versions.proofs.Common.{Reservation}
 use Rattle.rv_event.specs.Log.{named}
 
 -- one id, one event
 pub same_event : (log : List Event) → Indexed log → (a b : Event) → Contains log a → Contains log b → a.id ≡ b.id →
     a ≡ b
 same_event log known a b ca cb same = same_Some a b (sym (known.own a ca) ∙ ap (named log) same ∙ known.own b cb)
-
--- of two LRs that are paired with one SC, neither is earlier
-not_earlier : (log : List Event) (a b sc : Event) → Contains log b → IsPair log a sc → IsPair log b sc →
-    a.id.seq < b.id.seq → ⊥
-not_earlier log a b sc cb p q low = grind (arith, common_steps)
 
 -- an SC has one partner
 pub one_partner : (log : List Event) → Indexed log → (a b sc : Event) → IsPair log a sc → IsPair log b sc → a ≡ b

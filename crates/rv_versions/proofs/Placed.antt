@@ -1,11 +1,11 @@
 -- The accesses of each word in its place.
 use Rattle.rv_versions.proofs.Common.{◌≡◌, ◌≢◌, ℕ, ◌+◌, ◌<◌, List, [], ◌∷◌, ◌++◌, length, get_or, set, flat_map}
-use Rattle.rv_versions.proofs.Common.{Contains, Option, Some, None, ◌⊎◌, inl, inr, refl, sym, ap, ◌∙◌, arith}
-use Rattle.rv_versions.proofs.Common.{subst, length-append, cases_eq, length-set, get_or-set_same}
-use Rattle.rv_versions.proofs.Common.{get_or-set_other, at_read, same_Some, none-some, rules, common_steps, IsOf}
-use Rattle.rv_versions.proofs.Common.{AreAllOf, ArePostingsTo, IsInserted, IsRemoved, ByEach, AreInserted}
-use Rattle.rv_versions.proofs.Common.{AreRemoved, AreSame, AreAbsent, no_accesses, together, AreNumbers}
-use Rattle.rv_versions.proofs.Common.{StandInPlace, AreInPlace, AreThoseTo, Access, Accesses, Postings}
+use Rattle.rv_versions.proofs.Common.{Contains, Option, Some, None, ◌⊎◌, inl, inr, refl, sym, ap, ◌∙◌, arith, subst}
+use Rattle.rv_versions.proofs.Common.{cases_eq, length-set, get_or-set_same, get_or-set_other, at_read, same_Some}
+use Rattle.rv_versions.proofs.Common.{none-some, rules, common_steps, IsOf, AreAllOf, ArePostingsTo, IsInserted}
+use Rattle.rv_versions.proofs.Common.{IsRemoved, ByEach, AreInserted, AreRemoved, AreSame, AreAbsent, no_accesses}
+use Rattle.rv_versions.proofs.Common.{together, AreNumbers, StandInPlace, AreInPlace, AreThoseTo, Access, Accesses}
+use Rattle.rv_versions.proofs.Common.{Postings}
 use Rattle.rv_versions.proofs.Members.{Contains-none, Contains-flat, Contains-in_flat}
 use Rattle.rv_versions.proofs.Posted.{put_none, none_put}
 
@@ -18,14 +18,6 @@ here_is xs k x d l e = at_read xs (λ y. y ≡ x) k x l e refl d
 still : (words : List Accesses) (k : ℕ) →
     get_or (words ++ no_accesses ∷ []) k no_accesses ≡ get_or words k no_accesses
 still words k = grind (arith, common_steps)
-
-longer : (words : List Accesses) → length (words ++ no_accesses ∷ []) ≡ length words + 1
-longer words = length-append words (no_accesses ∷ [])
-
-flat_same : (these : Accesses → List Access) → these no_accesses ≡ [] → (words : List Accesses) →
-    flat_map these (words ++ no_accesses ∷ []) ≡ flat_map these words
-flat_same these none [] = ap (λ (xs : List Access). xs ++ []) none
-flat_same these none (w ∷ words) = ap (λ (xs : List Access). these w ++ xs) (flat_same these none words)
 
 module _ (place_of place_of' : ℕ → Option ℕ) (words words' : List Accesses) (in_place : AreInPlace place_of words)
     (more : words' ≡ words ++ no_accesses ∷ []) where

@@ -1,8 +1,9 @@
 //! Accesses to words: a single one, those under which an event is found, and those to one word.
-ghost use Rattle.std.specs.Prelude.{◌≡◌, OnOk, OnErr};
+ghost use Rattle.std.specs.Prelude.{◌≡◌, Contains, Some, OnOk, OnErr};
 ghost use Rattle.rv_versions.specs.Accesses.{id_of};
-ghost use Rattle.rv_versions.specs.Indexes.{AreInserted, AreRemoved, AreSame, AreAbsent};
+ghost use Rattle.rv_versions.specs.Indexes.{AreInserted, AreRemoved, AreSame, AreAbsent, IsInserted};
 ghost use Rattle.rv_versions.specs.Words.{no_accesses};
+ghost use Rattle.rv_versions.specs.declared.accesses.Access.{Access};
 
 mod lookups;
 
@@ -80,13 +81,29 @@ impl Accesses {
         ensures unchanged { OnErr result (AreSame self.old postings self.new) }
     {
         self.stores.insert_posting(postings.store)?;
-        if self.loads.insert_posting(postings.load).is_err() {
+        if self.insert_reads(postings).is_err() {
             self.stores.remove_posting(postings.store);
             return Err(NoMemory);
         }
-        if self.pairs.insert_posting(postings.pair).is_err() {
+        Ok(())
+    }
+
+    /// Puts in what an event, or its LR, returned.
+    ///
+    /// # Errors
+    /// `NoMemory`; the accesses are then as they were.
+    fn insert_reads(&mut self, postings: Postings) -> Result<(), NoMemory>
+        requires loads { (x : Access) → postings.load ≡ Some x → Contains self.old.loads x → ⊥ }
+        requires pairs { (x : Access) → postings.pair ≡ Some x → Contains self.old.pairs x → ⊥ }
+        ensures stores { self.new.stores ≡ self.old.stores }
+        ensures loads { OnOk result (IsInserted self.old.loads postings.load self.new.loads) }
+        ensures pairs { OnOk result (IsInserted self.old.pairs postings.pair self.new.pairs) }
+        ensures unchanged { OnErr result (AreSame self.old postings self.new) }
+    {
+        self.loads.insert_posting(postings.load)?;
+        let paired = self.pairs.insert_posting(postings.pair);
+        if paired.is_err() {
             self.loads.remove_posting(postings.load);
-            self.stores.remove_posting(postings.store);
             return Err(NoMemory);
         }
         Ok(())

@@ -112,11 +112,12 @@ impl ByVersion {
     pub fn between(&self, from: u64, to: u64) -> &[Access]
         ensures { (x : Access) → Contains result.now x ↔ (Contains self.now x × (from ≤ x.version) × (x.version < to)) }
     {
+        let accesses = self.accesses.as_slice();
         if to <= from {
-            return &self.accesses[0..0];
+            return &accesses[0..0];
         }
         let end = self.start(to);
-        &self.accesses[self.start_back(from, end)..end]
+        &accesses[self.start_back(from, end)..end]
     }
 
     /// Puts an access in that is not there, behind all of its version or a lower one.

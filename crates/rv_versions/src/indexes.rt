@@ -141,7 +141,8 @@ impl Indexes {
             return Ok(());
         };
         let pair = pair_postings(event.id, reservation);
-        if self.insert_to(reservation.word, pair).is_err() {
+        let paired = self.insert_to(reservation.word, pair);
+        if paired.is_err() {
             self.remove_from(event.word, own);
             return Err(NoMemory);
         }
@@ -156,10 +157,9 @@ impl Indexes {
         ensures { AreRemoved self.old (postings_of event.now reserved) self.new }
     {
         self.remove_from(event.word, own_postings(event));
-        let Some(reservation) = reserved else {
-            return;
-        };
-        self.remove_from(reservation.word, pair_postings(event.id, reservation));
+        if let Some(reservation) = reserved {
+            self.remove_from(reservation.word, pair_postings(event.id, reservation));
+        }
     }
 
     /// Puts the postings in, all of which are of the word. Where there are none, it takes no

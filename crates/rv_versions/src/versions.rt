@@ -164,10 +164,12 @@ impl Versions {
         ensures unchanged { OnErr result (self.new ≡ self.old) }
     {
         self.entries.reserve(1)?;
-        self.reserved.reserve(1)?;
-        self.indexes.insert(&entry.event, reserved)?;
+        self.reserved.push(reserved)?;
+        if let Err(error) = self.indexes.insert(&entry.event, reserved) {
+            self.reserved.pop();
+            return Err(error);
+        }
         self.entries.push_reserved(entry);
-        self.reserved.push_reserved(reserved);
         Ok(())
     }
 
@@ -178,10 +180,10 @@ impl Versions {
         requires { self.old ≢ [] }
         ensures { self.old ≡ self.new ++ result ∷ [] }
     {
-        let Some(entry) = self.entries.pop() else {
-            unreachable!()
-        };
-        let Some(reserved) = self.reserved.pop() else {
+        let last = self.entries.pop();
+        let Some(entry) = last else { unreachable!() };
+        let last_reserved = self.reserved.pop();
+        let Some(reserved) = last_reserved else {
             unreachable!()
         };
         self.indexes.remove(&entry.event, reserved);

@@ -1,6 +1,6 @@
 -- From a step's ending to the program's.
 use Rattle.std.proofs.lemmas.Grind.{common_steps}
-use Rattle.std.proofs.Common.{Global, String, ◌≡◌, ◌≢◌, ◌≤◌, ◌<◌, ℕ, List, [], ◌∷◌, Option, None, Ok, length, map}
+use Rattle.std.proofs.Common.{Global, String, ◌≡◌, ◌≢◌, ◌<◌, ℕ, List, [], ◌∷◌, Option, None, Ok, length, map}
 use Rattle.std.proofs.Common.{slice_index_or, string_bytes, sym, ◌∙◌, subst, ap, refl, arith, nat_eq, false}
 use Rattle.std.proofs.Common.{replicate}
 use Rattle.std.proofs.lemmas.Bool.{false≢true}
@@ -17,11 +17,6 @@ use Rattle.rv_cli.specs.declared.request.Asked.{Asked}
 use Rattle.rvmon.specs.Starting.{IsUnopened, IsUnopenedFile, EndsAsked, EndsBy, sources_of}
 use Rattle.rvmon.specs.declared.ending.Ending.{Ending}
 use Rattle.rvmon.specs.declared.ending.Ending.TheVariants.{Ran, Failed, Words, NotText, NotOpened}
-
--- at most eight files are one to eight sources
-pub sources_few : {X : Type 0} (files : List X) → length files ≤ 8 → (0 < sources_of files) × (sources_of files ≤ 8)
-sources_few [] few = (omega arith, omega arith)
-sources_few (x ∷ xs) few = (omega arith, few)
 
 -- so the numbers of a request are those that a run takes
 pub in_range :

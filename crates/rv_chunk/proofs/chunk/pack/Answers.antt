@@ -1,13 +1,9 @@
-use Rattle.std.proofs.Common.{◌≡◌, ℕ, zero, suc, ◌==◌, false, true≢false, ◌≤◌, List, arith, sym, subst}
+use Rattle.std.proofs.Common.{ℕ, List, arith, sym, subst}
 use Rattle.std.specs.Prelude.{IsTrue}
 use Rattle.std.proofs.lemmas.Grind.{common_steps}
 use Rattle.rv_chunk.specs.Chunks.{IsInRange, is_chunk_text}
 use Rattle.rv_chunk.proofs.ChunkTest.{tests_text, content_back}
 use Rattle.rv_chunk.proofs.chunk.pack.Goals as goal
-
-not_none : (n : ℕ) → (n == 0) ≡ false → 1 ≤ n
-not_none zero e = absurd (true≢false e)
-not_none (suc n) e = omega arith
 
 in_range : (c : goal.After-text_of) → IsInRange c.args.source c.args.number c.args.events.now
 in_range c = grind (arith, common_steps)

@@ -9,7 +9,7 @@ join_into-requires c =
     let links : List Link = c.args.links.now in
     let i : ℕ = c.loop-link.link-index in
     let d : Link = record { id = record { hart = 0; seq = 0 }; reason = Preserved 0 } in
-    c.requires (get_or links i d) c.in-Preserved.field-0 (Contains-get_or links i d c.loop-link-test.true)
+    c.requires (get_or links i d) c.in-Preserved._rule (Contains-get_or links i d c.loop-link-test.true)
     c.in-Preserved.is
 
 pub loop-link-init : goal.loop-link-init

@@ -1,14 +1,9 @@
-use Rattle.rv_slotcore.proofs.Common.{◌≡◌, ◌<◌, ◌≤◌, ◌+◌, ℕ, List, get_or, map, take, set, length, sym, ap, ◌∙◌}
-use Rattle.rv_slotcore.proofs.Common.{arith, None, Option, unwrap_or, take_all, common_steps}
+use Rattle.rv_slotcore.proofs.Common.{◌≡◌, ◌≤◌, ℕ, List, map, take, length, sym, ap, ◌∙◌, arith, Option, unwrap_or}
+use Rattle.rv_slotcore.proofs.Common.{take_all, common_steps}
 use Rattle.rv_slotcore.proofs.acts.put_words.Goals as goal
 
 abbrev or_none : Option ℕ → ℕ
 or_none o = unwrap_or o 0
-
-next : (ws : List (Option ℕ)) (xs : List ℕ) (j y : ℕ) → j < length xs → j < length ws → y ≡ or_none
-    (get_or ws j None) → take j xs ≡ map or_none (take j ws) → take (j + 1) (set xs j y)
-    ≡ map or_none (take (j + 1) ws)
-next ws xs j y h k is same = grind (arith, common_steps)
 
 whole : (ws : List (Option ℕ)) (xs : List ℕ) (j : ℕ) → length xs ≤ j → length ws ≤ j → take j xs
     ≡ map or_none (take j ws) → xs ≡ map or_none ws

@@ -4,6 +4,7 @@ use Rattle.rv_book.proofs.CallValues.{nodes_low, circle_between, grown_between, 
 use Rattle.rv_book.proofs.GrownHistories.{before_node, after_node, arranged_node}
 use Rattle.rv_book.proofs.Circles.{circle_shown}
 use Rattle.rv_book.proofs.Refusals.{IsBack, back, arranged_of, arranged_same, added_refused, OnErr-always}
+use Rattle.rv_book.proofs.arrangement.Arrangement.place.Goals.{After-drop-removed-in-Err}
 use Rattle.rv_book.proofs.arrangement.Arrangement.place.Goals as goal
 
 pub find_ends-requires-clause-before : goal.find_ends-requires-clause-before
@@ -69,70 +70,61 @@ invariant_of-self-in-Ok c =
     })) (sym ids) whole)
 
 -- the path that the order keeper found shows a circle over the event
-shown : (c : goal.After-last-1) →
-    ShowsCircle c.pop-last.new.self.model c.pop-last.new.self.kept c.as_slice-names.result.now
-    c.as_slice-nodes.result.now c.pop-last.result.event
-shown c =
+pub refuse-requires : goal.refuse-requires
+refuse-requires c =
     let k = kept_of c.args.entry.event c.args.around.now in
     let fit = subst (λ (w : Arranged). IsFit w k) (sym c.self.view_is) c.requires.fit in
     let ids = c.as_slice-ids.ensures.value ∙ c.in_ok-reserve.ensures.items in
     let found = c.in_ok-find_ends.ensures in
     let preds = c.find_ends.new.preds.items in
     let succs = c.find_ends.new.succs.items in
-    let path = c.in-Err-Circle.path.items in
-    let nodes : c.as_slice-nodes.result.now ≡ path = cc (c.as_slice-nodes.ensures.value, c.in-Err-Circle.path-is) in
-    let was = back c.self.inside.history c.push_entry.new.self c.pop-last.new.self c.args.entry c.pop-last.result
-    c.args.around.now c.in_ok-push_entry.ensures.pushed c.pop-last.ensures.model c.pop-last.ensures.log
-    c.pop-last.ensures.popped in
-    subst (λ (x : Entry). ShowsCircle c.pop-last.new.self.model c.pop-last.new.self.kept c.as_slice-names.result.now
-    c.as_slice-nodes.result.now x.event) (sym was.entry) (circle_at _ _ _ _ _ _ path _ k.event
+    let path = c.in-Circle.path.items in
+    let was = back c.self.inside.history c.push_entry.new.self c.pop-removed.new.self c.args.entry
+    c.pop-removed.result c.args.around.now c.in_ok-push_entry.ensures.pushed c.pop-removed.ensures.model
+    c.pop-removed.ensures.log c.pop-removed.ensures.popped in
+    let shown : ShowsCircle c.pop-removed.new.self.model c.pop-removed.new.self.kept c.as_slice-names.result.now
+    c.as_slice-nodes.result.now c.pop-removed.result.event =
+    subst (λ (x : Entry). ShowsCircle c.pop-removed.new.self.model c.pop-removed.new.self.kept
+    c.as_slice-names.result.now c.as_slice-nodes.result.now x.event) (sym was.entry) (circle_at _ _ _ _ _ _ path _ k.event
     (ap (λ (w : Past). w.model) was.history) (ap (λ (w : Past). w.kept) was.history)
-    (c.as_slice-names.ensures.value ∙ c.in_ok-reserve.ensures.items) nodes
+    (c.as_slice-names.ensures.value ∙ c.in_ok-reserve.ensures.items) c.as_slice-nodes.ensures.value
     (circle_shown _ c.self.invariant k fit preds succs
     (subst (λ (x : List Id). AreNodes x k.before preds) ids found.before)
     (subst (λ (x : List Id). AreNodes x k.after succs) ids found.after) path
     (circle_between _ preds _ succs _ path c.as_slice-preds.ensures.value c.as_slice-succs.ensures.value
-    (rw c.in-Err-Circle.field-0-is at c.in-Err-Circle.ensures.refused))))
+    (rw c.in-Circle.is at c.in-Err.ensures.refused)))) in
+    record { low = shown.low; leads = shown.leads; once = shown.once }
 
-pub refuse-requires-clause-low : goal.refuse-requires-clause-low
-refuse-requires-clause-low c = (shown c).low
-
-pub refuse-requires-clause-leads : goal.refuse-requires-clause-leads
-refuse-requires-clause-leads c = (shown c).leads
-
-pub refuse-requires-clause-once : goal.refuse-requires-clause-once
-refuse-requires-clause-once c = (shown c).once
-
-module _ (c : goal.After-drop-path) where
-  was : IsBack c.self.inside.history c.pop-last.new.self c.args.entry c.pop-last.result
+-- what is left where the event did not get in
+module _ (c : After-drop-removed-in-Err) where
+  was : IsBack c.self.inside.history c.pop-removed.new.self c.args.entry c.pop-removed.result
   was =
-      back c.self.inside.history c.push_entry.new.self c.pop-last.new.self c.args.entry c.pop-last.result
-      c.args.around.now c.in_ok-push_entry.ensures.pushed c.pop-last.ensures.model c.pop-last.ensures.log
-      c.pop-last.ensures.popped
+      back c.self.inside.history c.push_entry.new.self c.pop-removed.new.self c.args.entry c.pop-removed.result
+      c.args.around.now c.in_ok-push_entry.ensures.pushed c.pop-removed.ensures.model c.pop-removed.ensures.log
+      c.pop-removed.ensures.popped
 
   abbrev left : Arranged
-  left = arranged_of c.pop-last.new.self c.place.new.self.edges c.place.new.self.ranks c.reserve.new.self.items
+  left = arranged_of c.pop-removed.new.self c.place.new.self.edges c.place.new.self.ranks c.reserve.new.self.items
 
   as_it_was : left ≡ arranged_of c.self.inside.history c.self.inside.ranks.edges c.self.inside.ranks.ranks
       c.self.inside.ids.items
-  as_it_was = arranged_same was.history c.in-Err-Circle.ensures.edges c.in-Err-Circle.ensures.ranks
-      c.in_ok-reserve.ensures.items
+  as_it_was = arranged_same was.history c.in-Err.ensures.edges c.in-Err.ensures.ranks c.in_ok-reserve.ensures.items
 
-pub invariant_of-self-in-Err-Circle : goal.invariant_of-self-in-Err-Circle
-invariant_of-self-in-Err-Circle c = subst IsArranged (sym (as_it_was c)) c.self.invariant
+pub invariant_of-self-in-Err : goal.invariant_of-self-in-Err
+invariant_of-self-in-Err c = subst IsArranged (sym (as_it_was c)) c.self.invariant
 
-pub returns-in-Err-NoMemory-clause-unchanged : goal.returns-in-Err-NoMemory-clause-unchanged
-returns-in-Err-NoMemory-clause-unchanged c =
-    let was = back c.self.inside.history c.push_entry.new.self c.pop.new.self c.args.entry c.pop.result
-    c.args.around.now c.in_ok-push_entry.ensures.pushed c.pop.ensures.model c.pop.ensures.log
-    c.pop.ensures.popped in
-    arranged_same was.history c.in-Err-NoMemory.ensures.edges c.in-Err-NoMemory.ensures.ranks
+pub returns-in-NoMemory-clause-unchanged : goal.returns-in-NoMemory-clause-unchanged
+returns-in-NoMemory-clause-unchanged c =
+    let was = back c.self.inside.history c.push_entry.new.self c.pop-removed.new.self c.args.entry
+    c.pop-removed.result c.args.around.now c.in_ok-push_entry.ensures.pushed c.pop-removed.ensures.model
+    c.pop-removed.ensures.log c.pop-removed.ensures.popped in
+    arranged_same was.history c.in-Err.ensures.edges c.in-Err.ensures.ranks
     c.in_ok-reserve.ensures.items ∙ c.self.view_is
 
-pub returns-in-Err-Circle-clause-added : goal.returns-in-Err-Circle-clause-added
-returns-in-Err-Circle-clause-added c =
-    added_refused c.args.self.now (left c) c.args.entry c.pop-last.result (as_it_was c ∙ c.self.view_is) (was c).entry
-    c.refuse.result c.refuse.ensures
+pub returns-clause-added : goal.returns-clause-added
+returns-clause-added c =
+    added_refused c.args.self.now (left c) c.args.entry c.pop-removed.result (as_it_was c ∙ c.self.view_is)
+    (was c).entry c.refuse.result c.refuse.ensures
 
-pub returns-in-Err-Circle-clause-unchanged : goal.returns-in-Err-Circle-clause-unchanged
-returns-in-Err-Circle-clause-unchanged c = OnErr-always c.refuse.result (as_it_was c ∙ c.self.view_is)
+pub returns-clause-unchanged : goal.returns-clause-unchanged
+returns-clause-unchanged c = OnErr-always c.refuse.result (as_it_was c ∙ c.self.view_is)

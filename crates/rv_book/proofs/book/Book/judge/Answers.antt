@@ -26,7 +26,7 @@ invariant_of-self-in-Taken c =
     let all : c.self.inside.arrangement.log ++ c.in-Some-last.last.now ∷ [] ≡ c.add.new.self.log =
     ap (λ (x : Entry). c.self.inside.arrangement.log ++ x ∷ []) last ∙ sym grew.2 in (
       booked_push c.self.inside.arrangement.log c.add.new.self.log c.self.inside.arrangement c.add.new.self
-          c.args.entry c.self.invariant.0 none grew.1 c.model-model-2.ensures.lawful grew.2,
+          c.args.entry c.self.invariant.0 none grew.1 c.model-unchanged.ensures.lawful grew.2,
       subst (λ (l : List Entry). IsTallied l c.add-in-Taken.new.self.sources c.add-in-Taken.new.self.counts)
           all tallied,
     )
@@ -41,7 +41,7 @@ returns-in-Some-last-clause-judged c =
     let grew = rw c.in-Taken.is at c.in_ok-added.ensures.added in
     taken_of c.self.inside.arrangement.log c.add.new.self.log c.self.inside.arrangement c.add.new.self
     c.self.inside.stopped c.args.self.now c.args.entry
-    c.self.view_is c.self.invariant.0 none grew.0 grew.1 c.model-model-2.ensures.lawful grew.2
+    c.self.view_is c.self.invariant.0 none grew.0 grew.1 c.model-unchanged.ensures.lawful grew.2
 
 pub new-requires-in-Refused-clause-well_formed : goal.new-requires-in-Refused-clause-well_formed
 new-requires-in-Refused-clause-well_formed c = search (WellFormed-push, rules)

@@ -53,10 +53,10 @@ module _ (c : goal.After-stale) where
   rules = c.in_ok-rules.rules.items
 
   abbrev others : List Link
-  others = c.in_ok-before.ensures.0
+  others = c.in_ok-links.ensures.0
 
   joined : before ≡ rules ++ others
-  joined = c.from_vec-before.ensures ∙ c.in_ok-before.ensures.1
+  joined = c.from_vec-before.ensures ∙ c.in_ok-links.ensures.1
 
   by_rules : AreRuleLinks (hart_in c.args.self.now c.args.event.now.id.hart) c.args.event.now rules
   by_rules = c.in_ok-rules.ensures
@@ -66,7 +66,7 @@ module _ (c : goal.After-stale) where
       subst (λ (ls : List Link). AreVersionLinks c.args.self.now.model (happened c.args.self.now.kept) c.args.event.now
       others ls) (sym c.from_vec-after.ensures)
       (subst (λ (l : List Event). AreVersionLinks c.args.self.now.model l c.args.event.now others
-      c.in_ok-before.field-0.after.items) log (c.in_ok-before.ensures.2 c.args.self.now.model))
+      c.in_ok-links.links.after.items) log (c.in_ok-links.ensures.2 c.args.self.now.model))
 
   abbrev found : Kept
   found = record { event = c.args.event.now; before = before; after = after }

@@ -1,14 +1,13 @@
 -- The entry joins the history with the links handed in, and its hart with it.
-use Rattle.rv_edges.proofs.Common.{arith, common_steps, ◌≡◌, List, [], ◌∷◌, ◌++◌, ◌≤◌, None, sym, ap, ◌∙◌, subst}
-use Rattle.rv_edges.proofs.Common.{length, slice_set, event_fault, events, Entry, Event, Hart, Follows}
-use Rattle.rv_edges.proofs.Common.{IsReturned, IsHartOf, hart_of_log, AreEnoughLinks, IsReserved, Past, kept_from}
-use Rattle.rv_edges.proofs.Common.{happened, Joined, IsHistory, kept_of, AreHarts, hart_from, hart_in, OwnLinks}
+use Rattle.rv_edges.proofs.Common.{arith, common_steps, ◌≡◌, List, [], ◌∷◌, ◌++◌, None, sym, ap, ◌∙◌, subst, length}
+use Rattle.rv_edges.proofs.Common.{slice_set, event_fault, events, Event, Hart, Follows, IsReturned, IsHartOf}
+use Rattle.rv_edges.proofs.Common.{hart_of_log, AreEnoughLinks, IsReserved, Past, kept_from, happened, Joined}
+use Rattle.rv_edges.proofs.Common.{IsHistory, kept_of, AreHarts, hart_from, hart_in, OwnLinks}
 use Rattle.std.proofs.Common.{rules}
 use Rattle.rv_edges.proofs.CarriedEdges.{pushed_sides}
 use Rattle.rv_edges.proofs.Enough.{enough_is}
-use Rattle.rv_edges.proofs.IndexFacts.{log-is, follows, past-few, past-indexed}
+use Rattle.rv_edges.proofs.IndexFacts.{log-is, follows, past-indexed}
 use Rattle.rv_edges.proofs.GrownHarts.{events-pop, event-is, found-is, found-of_log, harts-grow, harts-stay}
-use Rattle.rv_edges.proofs.GrownHarts.{log-was}
 use Rattle.rv_edges.proofs.Sides.{kept_one, same_front}
 use Rattle.rv_edges.proofs.history.History.push_entry.Goals.{After-push-arg-1}
 use Rattle.rv_edges.proofs.history.History.push_entry.Goals as goal
@@ -60,14 +59,6 @@ module _ (c : goal.In-Some-get_mut) where
 
 pub push-joined-requires-clause-of_log : goal.push-joined-requires-clause-of_log
 push-joined-requires-clause-of_log c = of_log c
-
-pub push-joined-requires-clause-few : goal.push-joined-requires-clause-few
-push-joined-requires-clause-few c =
-    let few : length c.self.inside.versions ≤ 65536 = search (past-few, rules) in
-    let was = log-was c.self.inside.model c.self.inside.versions c.in-Some.log.now c.args.entry c.in-Some.last.now
-    c.open_harts.new.harts.items c.in-Some-get_mut.hart.now (both c) (own c) c.in_ok-open_harts.ensures.open
-    c.in-Some-get_mut.ensures.value in
-    omega (arith, few, ap (λ (l : List Entry). length l) was)
 
 pub push-joined-requires-clause-follows : goal.push-joined-requires-clause-follows
 push-joined-requires-clause-follows c = subst (Follows (before_it c)) (sym (same-event c))

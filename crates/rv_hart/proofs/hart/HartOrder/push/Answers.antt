@@ -23,10 +23,10 @@ returns-clause-pushed c =
     let e : Event = c.args.event.now in
     let h = c.args.self.now in
     let own = c.requires.follows.hart in
-    let count : length c.args.log.now ≡ length log = sym (length-map c.args.log.now (λ (x : Entry). x.event)) in
+    let count : c.in-Ok.place ≡ length log = c.in-Ok.ensures.1 ∙ sym (length-map c.args.log.now (λ (x : Entry). x.event)) in
     hart-same log (log ++ e ∷ []) h (record { places = c.push_reserved.new.self; kept = c.push.new.self })
     c.in_ok-push.ensures.number (c.push_reserved.ensures.items
-    ∙ ap (λ (ps : List ℕ). ps ++ length c.args.log.now ∷ []) (c.reserve.ensures.items ∙ c.requires.of_log.places)
+    ∙ ap (λ (ps : List ℕ). ps ++ c.in-Ok.place ∷ []) (c.reserve.ensures.items ∙ c.requires.of_log.places)
     ∙ ap (λ (n : ℕ). places_of h.kept.number log ++ n ∷ []) count ∙ sym (places-grow h.kept.number log e own))
     (subst (λ (es : List Event). IsKept es c.push.new.self)
     (ap (λ (es : List Event). es ++ e ∷ []) c.new-events.ensures ∙ sym (own-push log e h.kept.number own))

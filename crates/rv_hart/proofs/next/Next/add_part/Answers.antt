@@ -49,7 +49,7 @@ pub returns-in-Named : goal.returns-in-Named
 returns-in-Named c =
     let e : Event = c.args.self.now.event.now in
     let f = fits c.requires.asked in
-    let are = c.requires.asked.kept.sets in
+    let are = c.requires.asked.next.kept.sets in
     rw c.in-Named.is (more-named f.known e f.hart f.deps c.in-Named.kind _ _ c.args.row.now
     c.add_dependencies.new.row are.loads are.stores c.add_dependencies.ensures)
 
@@ -73,7 +73,7 @@ returns-in-NamedBy c =
     let w : Event = c.at-store.result.now in
     let kind = c.in-NamedBy.kind in
     let read = read-event f.known w c.in-NamedBy.number low c.at-store.ensures in
-    let are = c.requires.asked.kept.sets in
+    let are = c.requires.asked.next.kept.sets in
     let named = more-named f.known w (f.known.own w read.0) (f.known.deps w read.0) kind _ _ c.args.row.now
     c.add_dependencies-in-NamedBy.new.row are.loads are.stores c.add_dependencies-in-NamedBy.ensures in
     rw c.in-NamedBy.is (more-same (λ a. IsMemory a × DependsOn kind w a)

@@ -11,7 +11,7 @@ at-store-requires c =
     let e : Event = c.args.self.now.event.now in
     let f = fits c.requires.asked in
     let own : (w : Event) × IsOwnStore h e w × (w.id.seq ≡ c.in-Some.number) =
-    subst (IsReturned h e) c.in-Some.is c.requires.asked.returned in
+    subst (IsReturned h e) c.in-Some.is c.requires.asked.next.returned in
     let low : own.0.id.seq < length h.events = f.known.below own.0 own.1.of_hart in
     let at : own.0.id.seq ≡ c.in-Some.number = own.2 in
     omega arith
@@ -22,7 +22,7 @@ returns-in-Some c =
     let e : Event = c.args.self.now.event.now in
     let f = fits c.requires.asked in
     let own : (w : Event) × IsOwnStore h e w × (w.id.seq ≡ c.in-Some.number) =
-    subst (IsReturned h e) c.in-Some.is c.requires.asked.returned in
+    subst (IsReturned h e) c.in-Some.is c.requires.asked.next.returned in
     let w : Event = own.0 in
     let same : c.at-store.result.now ≡ w = grind (arith, common_steps) in
     let test : IsTrue c.is_atomic.result ↔ ((w.op ≡ Amo) ⊎ (w.op ≡ Sc)) =
@@ -42,5 +42,5 @@ returns-in-None c =
     let h : Hart = hart_at c.args.self.now in
     let e : Event = c.args.self.now.event.now in
     let f = fits c.requires.asked in
-    let none : (w : Event) → IsOwnStore h e w → ⊥ = subst (IsReturned h e) c.in-None.is c.requires.asked.returned in
+    let none : (w : Event) → IsOwnStore h e w → ⊥ = subst (IsReturned h e) c.in-None.is c.requires.asked.next.returned in
     record { says = atomic-none f c.requires.asked.memory none; names = tt }

@@ -19,7 +19,7 @@ met-init c =
     let f = fits c.requires.asked in
     reads-begin f c.requires.asked.memory c.args.row.now c.last-next.result c.requires.empty
     (subst (IsLastBelow h.events e.word (length h.events)) (sym c.last-next.ensures)
-    (c.requires.asked.kept.words.lasts e.word))
+    (c.requires.asked.next.kept.words.lasts e.word))
 
 pub insert_if-requires : goal.insert_if-requires
 insert_if-requires c =
@@ -70,7 +70,7 @@ met-preserved-then-met-self c =
     c.insert_if.ensures in
     let load : IsLoad e = c.is_load.ensures.0 c.if-not-is_load.false in
     let link : IsWordLink h.events a c.index-link.result.now =
-    read_link h.events c.args.self.now.kept.now.words c.requires.asked.kept.words a c.index-link.result.now
+    read_link h.events c.args.self.now.kept.now.words c.requires.asked.next.kept.words a c.index-link.result.now
     c.in-Some.number ca walk.names.1.holds.0 (f.known.below a ca) walk.names.1.at c.index-link.ensures in
     let plain : IsStore a → ⊥ = λ s. false≢true
     (sym c.if-is_store.false ∙ c.is_store.ensures.1 (subst IsStore (sym same) s)) in
@@ -95,7 +95,7 @@ met-preserved c =
     c.insert_if.ensures in
     let load : IsLoad e = c.is_load.ensures.0 c.if-not-is_load.false in
     let link : IsWordLink h.events a c.index-link.result.now =
-    read_link h.events c.args.self.now.kept.now.words c.requires.asked.kept.words a c.index-link.result.now
+    read_link h.events c.args.self.now.kept.now.words c.requires.asked.next.kept.words a c.index-link.result.now
     c.in-Some.number ca walk.names.1.holds.0 (f.known.below a ca) walk.names.1.at c.index-link.ensures in
     let plain : IsStore a → ⊥ = λ s. false≢true
     (sym c.if-is_store.false ∙ c.is_store.ensures.1 (subst IsStore (sym same) s)) in

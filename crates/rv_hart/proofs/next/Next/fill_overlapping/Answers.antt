@@ -18,7 +18,7 @@ met-init c =
     let f = fits c.requires.asked in
     overlap-begin f c.requires.asked.memory c.args.row.now c.last-next.result c.requires.empty
     (subst (IsLastBelow h.events e.word (length h.events)) (sym c.last-next.ensures)
-    (c.requires.asked.kept.words.lasts e.word))
+    (c.requires.asked.next.kept.words.lasts e.word))
 
 pub insert-requires : goal.insert-requires
 insert-requires c =
@@ -57,7 +57,7 @@ met-preserved c =
     let a : Event = walk.names.1.a in
     let ca = walk.names.1.of_list in
     let link : IsWordLink h.events a c.index-link.result.now =
-    read_link h.events c.args.self.now.kept.now.words c.requires.asked.kept.words a c.index-link.result.now
+    read_link h.events c.args.self.now.kept.now.words c.requires.asked.next.kept.words a c.index-link.result.now
     c.in-Some.number ca walk.names.1.holds.0 (f.known.below a ca) walk.names.1.at c.index-link.ensures in
     overlap-step f c.requires.asked.memory (c.is_store.ensures.0 c.if-not-is_store.false) c.in-Some.number c.met.row
     c.insert.new.self a c.index-link.result.now.previous walk ca walk.names.1.at c.insert.ensures link.previous

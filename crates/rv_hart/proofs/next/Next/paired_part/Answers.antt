@@ -11,7 +11,7 @@ returns-in-Some c =
     let e : Event = c.args.self.now.event.now in
     let f = fits c.requires.asked in
     let lr : HasEvent (IsReserving h.events) h.events c.in-Some.lr =
-    subst (IsReservation h.events) c.in-Some.is c.requires.asked.kept.sets.reserved in
+    subst (IsReservation h.events) c.in-Some.is c.requires.asked.next.kept.sets.reserved in
     let test : IsTrue c.eq.result ↔ (e.op ≡ Sc) = search (rules, tests) in
     let low : lr.a.id.seq < length h.events = f.known.below lr.a lr.of_list in
     let at : lr.a.id.seq ≡ c.in-Some.lr = lr.at in
@@ -26,5 +26,5 @@ pub returns-in-None : goal.returns-in-None
 returns-in-None c =
     let h : Hart = hart_at c.args.self.now in
     let f = fits c.requires.asked in
-    let none : (a : Event) → _ = subst (IsReservation h.events) c.in-None.is c.requires.asked.kept.sets.reserved in
+    let none : (a : Event) → _ = subst (IsReservation h.events) c.in-None.is c.requires.asked.next.kept.sets.reserved in
     record { says = paired-none f none; names = tt }

@@ -10,7 +10,7 @@ returns-in-Some c =
     let e : Event = c.args.self.now.event.now in
     let f = fits c.requires.asked in
     let own : (w : Event) × IsOwnStore h e w × (w.id.seq ≡ c.in-Some.store) =
-    subst (IsReturned h e) c.in-Some.is c.requires.asked.returned in
+    subst (IsReturned h e) c.in-Some.is c.requires.asked.next.returned in
     let w : Event = own.0 in
     let low : w.id.seq < length h.events = f.known.below w own.1.of_hart in
     let at : w.id.seq ≡ c.in-Some.store = own.2 in
@@ -36,7 +36,7 @@ returns-in-None c =
     let h : Hart = hart_at c.args.self.now in
     let e : Event = c.args.self.now.event.now in
     let f = fits c.requires.asked in
-    let none : (w : Event) → IsOwnStore h e w → ⊥ = subst (IsReturned h e) c.in-None.is c.requires.asked.returned in
+    let none : (w : Event) → IsOwnStore h e w → ⊥ = subst (IsReturned h e) c.in-None.is c.requires.asked.next.returned in
     record {
       says = λ a ca. let is = dependent-none f c.requires.asked.memory none a ca in (
         λ x. elim x [ inl n ↦ absurd n | inr n ↦ absurd n ],

@@ -1,5 +1,4 @@
-use Rattle.rv_hart.proofs.Common.{◌↔◌, IsTrue, sym, subst, rules, IsAcquire, IsRcsc, Event, Load, Store}
-use Rattle.rv_hart.proofs.Common.{MemoryModel}
+use Rattle.rv_hart.proofs.Common.{◌↔◌, IsTrue, sym, subst, rules, IsAcquire, IsRcsc, Event, MemoryModel}
 use Rattle.rv_hart.proofs.HartFacts.{fits_of, Fits}
 use Rattle.rv_hart.proofs.GrownSets.{row-insert, fences-absorbed, controls-absorbed, addresses-absorbed}
 use Rattle.rv_hart.proofs.sets.Sets.absorb.Goals as goal
@@ -18,12 +17,8 @@ returns c = λ h ok follows same sets.
       stores = search (row-insert, rules);
       acquires = search (row-insert, rules);
       rcsc = search (row-insert, rules);
-      fenced_for_load = fences-absorbed f Load c.does_order.result c.does_order-2.result old.loads old.stores
-          old.fenced_for_load c.join_if.new.row c.join_if-2.new.row sets.loads sets.stores sets.fenced_for_load
-          c.does_order.ensures c.does_order-2.ensures c.join_if.ensures c.join_if-2.ensures;
-      fenced_for_store = fences-absorbed f Store c.does_order-3.result c.does_order-4.result old.loads old.stores
-          old.fenced_for_store c.join_if-3.new.row c.join_if-4.new.row sets.loads sets.stores sets.fenced_for_store
-          c.does_order-3.ensures c.does_order-4.ensures c.join_if-3.ensures c.join_if-4.ensures;
+      fenced_for_load = search (fences-absorbed, rules);
+      fenced_for_store = search (fences-absorbed, rules);
       controlled = search (controls-absorbed, rules);
       addressed = search (addresses-absorbed, rules);
       reserved = c.reserved_after-self.ensures h ok follows sets.reserved;

@@ -10,6 +10,6 @@ returns c x =
     let xs = c.args.self.now in
     subst (λ (ys : List Access). Contains (take (end - start) (drop start ys)) x ↔
     (Contains xs x × (c.args.from ≤ x.version) × (x.version < c.args.to)))
-    (sym (c.deref-2.ensures.value ∙ c.self.view_is))
+    (sym (c.as_slice-accesses.ensures.value ∙ c.self.view_is))
     (is_between xs c.args.from c.args.to start end c.start_back.ensures.bound c.start-end.ensures.bound
     c.start-end.ensures.parted c.start_back.ensures.below c.start_back.ensures.from x)
