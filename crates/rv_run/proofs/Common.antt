@@ -6,7 +6,6 @@ pub use Rattle.rv_cert.proofs.Final.{no_longer_log}
 pub use Rattle.rv_cert.specs.Refusals.{FaultyLog, IsFinal, IsMalformed, Refusal}
 pub use Rattle.rv_cert.specs.Verdicts.{model_of}
 pub use Rattle.rv_cert.specs.declared.verdict.Verdict.{Verdict}
-pub use Rattle.rv_chunk.specs.Chunks.{IsPackable}
 pub use Rattle.rv_event.proofs.LawfulMerge.{Lawful-merge}
 pub use Rattle.rv_event.proofs.Pushed.{WellFormed-front, WellFormed-nil, WellFormed-push}
 pub use Rattle.rv_event.proofs.Sources.{SameHarts-from_sources, WellFormed-sources}
@@ -23,19 +22,18 @@ pub use Rattle.rv_report.specs.declared.outcome.Outcome.{Outcome}
 pub use Rattle.rv_report.specs.declared.outcome.Outcome.TheVariants.{Allowed, Forbidden, Malformed}
 pub use Rattle.rv_run.specs.Comparisons.{AgreesWith, IsBegun, IsBegunIn, IsFaultIn, IsWholeIn}
 pub use Rattle.rv_run.specs.Desks.{IsComplete}
-pub use Rattle.rv_run.specs.Feeds.{IsEndOf, IsFedOf, IsFeeding, IsSettledEnd}
+pub use Rattle.rv_run.specs.Feeds.{IsEndOf, IsFedOf, IsFeeding}
+pub use Rattle.rv_run.specs.Outcomes.{IfAllowed, IfForbidden, IfMalformed}
 pub use Rattle.rv_run.specs.Replays.{IsAllowed, IsConsistent, IsReplayed, Reaches}
-pub use Rattle.rv_run.specs.Sources.{AreWellFormed, EndsIn, HasReadAll, IsAllOf, IsFaultAmong, IsPartOf, IsRefused}
-pub use Rattle.rv_run.specs.Sources.{IsTrueOf}
+pub use Rattle.rv_run.specs.Sources.{AreAllowed, AreForbidden, AreMalformed, AreWellFormed, EndsIn, HasReadAll}
+pub use Rattle.rv_run.specs.Sources.{IsAllOf, IsFaultAmong, IsPartOf, IsRefused, IsTrueOf}
 pub use Rattle.rv_run.specs.declared.fault.RunFault.{RunFault}
 pub use Rattle.rv_run.specs.declared.feeding.Fed.{Fed}
 pub use Rattle.rv_run.specs.declared.feeding.FeedEnd.{FeedEnd}
-pub use Rattle.rv_run.specs.declared.feeding.FeedEnd.TheVariants.{Fault, NoMemory, Stopped, Whole}
+pub use Rattle.rv_run.specs.declared.feeding.FeedEnd.TheVariants.{Stopped}
 pub use Rattle.rv_trace.specs.Chunks.{TakesEvents}
-pub use Rattle.rv_trace.specs.Faults.{IsOutside, is_of_text}
 pub use Rattle.rv_trace.specs.Source.{Stream, source_says}
-pub use Rattle.rv_trace.specs.Trace.{IsFaultOf, IsWhole, TakesEvent, TraceLeft, fresh_trace}
-pub use Rattle.rv_trace.specs.declared.fault.TraceFault.{TraceFault}
+pub use Rattle.rv_trace.specs.Trace.{TraceLeft}
 pub use Rattle.std.proofs.Common.{All, Bool, Err, IfErr, IfOk, IfSome, IsFalse, List, None, Ok, Option, Result, Some}
 pub use Rattle.std.proofs.Common.{[], ap, append-nil, append_assoc, arith, below_more, cond, count_by, drop}
 pub use Rattle.std.proofs.Common.{drop-cons, false, find, get_or, inl, inr, length, map, not, option_map, refl, rules}

@@ -1,14 +1,14 @@
 -- What the comparison with what was read says of the sources.
-use Rattle.rv_run.proofs.Common.{common_steps, rules, ◌≡◌, ℕ, suc, zero, ◌<◌, List, [], ◌∷◌, ◌++◌, length, map}
-use Rattle.rv_run.proofs.Common.{take, drop, get_or, All, Option, Some, None, IfSome, Result, Ok, Err, IfOk}
-use Rattle.rv_run.proofs.Common.{IfErr, refl, sym, ap, ◌∙◌, subst, append_assoc, arith, IsSome, false≢true}
-use Rattle.rv_run.proofs.Common.{none-some, take-append-drop, get_or-map, length-map, SameSources, Event, Entry}
-use Rattle.rv_run.proofs.Common.{MemoryModel, Lawful-merge, WellFormed-front, SameHarts-from_sources}
-use Rattle.rv_run.proofs.Common.{WellFormed-sources, Refusal, IsMalformed, given_by, IsPrefix, operations_of}
-use Rattle.rv_run.proofs.Common.{waiting_of, Stream, Outcome, Allowed, Forbidden, Malformed, AgreesWith, IsBegun}
-use Rattle.rv_run.proofs.Common.{IsFaultIn, IsFedOf, IsEndOf, IsConsistent, IsReplayed, IsAllowed, AreWellFormed}
-use Rattle.rv_run.proofs.Common.{EndsIn, HasReadAll, IsAllOf, IsFaultAmong, IsRefused, IsPartOf, IsTrueOf}
-use Rattle.rv_run.proofs.Common.{RunFault, Fed, FeedEnd}
+use Rattle.rv_run.proofs.Common.{common_steps, ◌≡◌, ℕ, suc, zero, ◌<◌, List, [], ◌∷◌, ◌++◌, length, map, take, drop}
+use Rattle.rv_run.proofs.Common.{get_or, All, Option, Some, None, IfSome, Result, Ok, Err, IfOk, IfErr, refl, sym}
+use Rattle.rv_run.proofs.Common.{ap, ◌∙◌, subst, append_assoc, arith, IsSome, false≢true, none-some}
+use Rattle.rv_run.proofs.Common.{take-append-drop, get_or-map, length-map, SameSources, Event, Entry, MemoryModel}
+use Rattle.rv_run.proofs.Common.{Lawful-merge, WellFormed-front, SameHarts-from_sources, WellFormed-sources}
+use Rattle.rv_run.proofs.Common.{Refusal, IsMalformed, given_by, IsPrefix, operations_of, waiting_of, Stream}
+use Rattle.rv_run.proofs.Common.{Outcome, Allowed, Forbidden, Malformed, AgreesWith, IsBegun, IsFaultIn, IsFedOf}
+use Rattle.rv_run.proofs.Common.{IsEndOf, IsConsistent, IsReplayed, IsAllowed, AreWellFormed, EndsIn, HasReadAll}
+use Rattle.rv_run.proofs.Common.{IsAllOf, IsFaultAmong, IsRefused, IsPartOf, IsTrueOf, AreAllowed, AreForbidden}
+use Rattle.rv_run.proofs.Common.{AreMalformed, IfAllowed, IfForbidden, IfMalformed, RunFault, Fed, FeedEnd}
 use Rattle.rv_event.specs.declared.fault.Fault.{Fault as EventFault}
 use Rattle.rv_book.specs.Chunked.{entries_of}
 use Rattle.rv_run.proofs.InconsistentRefusals.{continued, exactly_allowed}
@@ -98,19 +98,19 @@ allowed-true :
     All (λ x. x.source < length ess) log → ((i : ℕ) → i < length ess → given_by i log ≡ get_or ess i []) →
     length ess ≡ length streams →
     ((i : ℕ) → i < length streams → IsAllOf (get_or streams i None) (get_or ess i [])) →
-    IsTrueOf model streams (Allowed (length log) (operations_of log) (waiting_of log))
+    AreAllowed model streams (length log) (operations_of log) (waiting_of log)
 allowed-true model streams log ess ok low given long all =
     let n = length ess in
     let every = together 0 ess in
     let same = merge-of log ess low given in
-    let within : All (λ x. x.source < n) every = low-together 0 n ess (omega arith) in (
-      every,
-      read-all 0 streams ess long all,
-      consistent-merge model log every same ok,
-      length-merge n log every low within same,
-      operations-merge n log every low within same,
-      waiting-merge n log every low within same,
-    )
+    let within : All (λ x. x.source < n) every = low-together 0 n ess (omega arith) in record {
+      entries = every;
+      read = read-all 0 streams ess long all;
+      consistent = consistent-merge model log every same ok;
+      events_is = length-merge n log every low within same;
+      operations_is = operations-merge n log every low within same;
+      waiting_is = waiting-merge n log every low within same;
+    }
 
 -- the first of what was read are the first of the source
 first-true : (s : Option Stream) (fed : Fed) (given : List Event) (n : ℕ) → IsFedOf s fed →
@@ -160,21 +160,20 @@ ill-formed streams log f part bad known formed =
 -- where a part of known sources leaves no lawful order, their entries have none
 pub final-refutes :
     (model : MemoryModel) (streams : List (Option Stream)) (f : Refusal) (entries : List Entry) → All IsSome streams →
-    IsTrueOf model streams (Forbidden f) →
-    HasReadAll 0 streams entries → IsConsistent model entries → ⊥
+    AreForbidden model streams f → HasReadAll 0 streams entries → IsConsistent model entries → ⊥
 final-refutes model streams f entries known told read ok =
-    let on = part-goes-on streams f.evidence entries known told.1 read in
+    let on = part-goes-on streams f.evidence entries known told.part read in
     let longer = consistent-merge model entries (f.evidence ++ on.0) on.1 ok in
-    told.3 (f.evidence ++ on.0) longer.lawful.0 longer.well_formed (continued f.evidence on.0) longer.lawful.1
+    told.final (f.evidence ++ on.0) longer.lawful.0 longer.well_formed (continued f.evidence on.0) longer.lawful.1
 
 -- no run is allowed where another is refused
 pub runs-agree :
     (model : MemoryModel) (streams : List (Option Stream)) (one other : Outcome) → All IsSome streams →
     IsTrueOf model streams one → IsTrueOf model streams other → IsAllowed one → IsRefused other → ⊥
 runs-agree model streams (Allowed e o w) (Forbidden f) known one other allowed refused =
-    final-refutes model streams f one.0 known other one.1 one.2
+    let told = one.allowed in final-refutes model streams f told.entries known other.forbidden told.read told.consistent
 runs-agree model streams (Allowed e o w) (Malformed m) known one other allowed refused =
-    other.3 known (one.0, one.1, one.2.well_formed)
+    let told = one.allowed in other.malformed.refuted known (told.entries, told.read, told.consistent.well_formed)
 runs-agree model streams (Allowed e o w) (Allowed e' o' w') known one other allowed refused = refused
 runs-agree model streams (Forbidden f) other known one told allowed refused = allowed
 runs-agree model streams (Malformed m) other known one told allowed refused = allowed
@@ -186,7 +185,11 @@ run-allowed :
     (model : MemoryModel) (streams : List (Option Stream)) (entries : List Entry) (run : Outcome) → All IsSome streams →
     HasReadAll 0 streams entries →
     IsTrueOf model streams run → IsAllowed run → IsConsistent model entries
-run-allowed model streams entries run h l e s = search (read-once, rules)
+run-allowed model streams entries (Allowed e o w) known read told allowed =
+    let so = told.allowed in
+    subst (IsConsistent model) (read-once 0 streams so.entries entries known so.read read) so.consistent
+run-allowed model streams entries (Forbidden f) known read told allowed = absurd allowed
+run-allowed model streams entries (Malformed m) known read told allowed = absurd allowed
 
 run-refused :
     (model : MemoryModel) (streams : List (Option Stream)) (entries : List Entry) (run : Outcome) → All IsSome streams →
@@ -194,9 +197,9 @@ run-refused :
     IsTrueOf model streams run → IsRefused run → IsConsistent model entries → ⊥
 run-refused model streams entries (Allowed e o w) known read told refused ok = refused
 run-refused model streams entries (Forbidden f) known read told refused ok =
-    final-refutes model streams f entries known told read ok
+    final-refutes model streams f entries known told.forbidden read ok
 run-refused model streams entries (Malformed m) known read told refused ok =
-    told.3 known (entries, read, ok.well_formed)
+    told.malformed.refuted known (entries, read, ok.well_formed)
 
 -- no run is allowed where a pass is refused, nor the other way round
 pub passes-agree :
@@ -240,10 +243,33 @@ module _ (streams : List (Option Stream)) (fed : List Fed) (any : Fed) (same : l
       (long ∙ same) (λ i low. let here : i < length fed = omega (arith, low, same) in
       subst (λ (l : List Event). IsAllOf (get_or streams i None) l) (sym (read-at i here))
       (all-true (get_or streams i None) (get_or fed i any) (each i any low) (a.2.1 i any here).ended)) in
-      (told.0, told.1, told.2, a.3 ∙ told.3, a.4 ∙ told.4, a.5 ∙ told.5)
-  outcome-true model (Forbidden f) a = (a.0, part-true f.evidence a.1, a.2, a.3)
-  outcome-true model (Malformed m) a = let part = part-true m.evidence a.1 in
-      (a.0, part, a.2, ill-formed streams m.evidence m.fault part a.2)
+      record {
+        allowed = record {
+          entries = told.entries;
+          read = told.read;
+          consistent = told.consistent;
+          events_is = a.3 ∙ told.events_is;
+          operations_is = a.4 ∙ told.operations_is;
+          waiting_is = a.5 ∙ told.waiting_is;
+        };
+        forbidden = tt;
+        malformed = tt;
+      }
+  outcome-true model (Forbidden f) a = record {
+    allowed = tt;
+    forbidden = record { judged_by = a.0; part = part-true f.evidence a.1; well_formed = a.2; final = a.3 };
+    malformed = tt;
+  }
+  outcome-true model (Malformed m) a = let part = part-true m.evidence a.1 in record {
+    allowed = tt;
+    forbidden = tt;
+    malformed = record {
+      judged_by = a.0;
+      part = part;
+      malformed = a.2;
+      refuted = ill-formed streams m.evidence m.fault part a.2;
+    };
+  }
 
   -- a fault that a feeder met is one of its source
   pub fault-true : (why : RunFault) → IsFaultIn fed why → IsFaultAmong streams why
@@ -269,28 +295,36 @@ each-of says readers fed same each r i f low =
     subst (λ (s : Option Stream). IsFedOf s (get_or fed i f)) (sym (get_or-map says readers i r None below))
     (each i r f below)
 
--- so what the threads come to is true of the sources
+-- what a run answers of sources
+pub record IsAnswer (model : MemoryModel) (streams : List (Option Stream)) (a : Result Outcome RunFault)
+    : Type 0 where
+  pub allowed : IfOk a (λ o. IfAllowed o (AreAllowed model streams))
+  pub forbidden : IfOk a (λ o. IfForbidden o (AreForbidden model streams))
+  pub malformed : IfOk a (λ o. IfMalformed o (AreMalformed model streams))
+  pub fault : IfErr a (IsFaultAmong streams)
+
+-- is what its threads come to
 pub answer-true :
     {R : Type 0} (says : R → Option Stream) (readers : List R) (fed : List Fed) (model : MemoryModel)
     (a : Result Outcome RunFault) → 0 < length readers →
     length fed ≡ length readers → ((i : ℕ) (r : R) (f : Fed) → i < length readers → IsFedOf (says (get_or readers i r))
-    (get_or fed i f)) → IfOk a (AgreesWith model fed) → IfOk a (IsTrueOf model (map says readers))
-answer-true says readers fed model (Err e) some same each a = tt
-answer-true says [] fed model (Ok o) some same each a = absurd (omega (arith, some))
-answer-true says (r ∷ rs) [] model (Ok o) some same each a = absurd (omega (arith, same))
-answer-true says (r ∷ rs) (f ∷ fs) model (Ok o) some same each a =
-    outcome-true (map says (r ∷ rs)) (f ∷ fs) f (same ∙ sym (length-map (r ∷ rs) says))
-    (each-of says (r ∷ rs) (f ∷ fs) same each r) model o a
+    (get_or fed i f)) → IfOk a (AgreesWith model fed) → IfErr a (IsFaultIn fed) →
+    IsAnswer model (map says readers) a
+answer-true says [] fed model a some same each told why = absurd (omega (arith, some))
+answer-true says (r ∷ rs) [] model a some same each told why = absurd (omega (arith, same))
+answer-true says (r ∷ rs) (f ∷ fs) model a some same each told why = go a told why
+  where
+    long : length (f ∷ fs) ≡ length (map says (r ∷ rs))
+    long = same ∙ sym (length-map (r ∷ rs) says)
 
--- and their fault is one of them
-pub answer-fault :
-    {R : Type 0} (says : R → Option Stream) (readers : List R) (fed : List Fed) (a : Result Outcome RunFault) →
-    0 < length readers →
-    length fed ≡ length readers → ((i : ℕ) (r : R) (f : Fed) → i < length readers → IsFedOf (says (get_or readers i r))
-    (get_or fed i f)) → IfErr a (IsFaultIn fed) → IfErr a (IsFaultAmong (map says readers))
-answer-fault says readers fed (Ok o) some same each a = tt
-answer-fault says [] fed (Err e) some same each a = absurd (omega (arith, some))
-answer-fault says (r ∷ rs) [] (Err e) some same each a = absurd (omega (arith, same))
-answer-fault says (r ∷ rs) (f ∷ fs) (Err e) some same each a =
-    fault-true (map says (r ∷ rs)) (f ∷ fs) f (same ∙ sym (length-map (r ∷ rs) says))
-    (each-of says (r ∷ rs) (f ∷ fs) same each r) e a
+    go : (a : Result Outcome RunFault) → IfOk a (AgreesWith model (f ∷ fs)) → IfErr a (IsFaultIn (f ∷ fs)) →
+        IsAnswer model (map says (r ∷ rs)) a
+    go (Ok o) told why = let is = outcome-true (map says (r ∷ rs)) (f ∷ fs) f long
+        (each-of says (r ∷ rs) (f ∷ fs) same each r) model o told in
+        record { allowed = is.allowed; forbidden = is.forbidden; malformed = is.malformed; fault = tt }
+    go (Err e) told why = record {
+      allowed = tt;
+      forbidden = tt;
+      malformed = tt;
+      fault = fault-true (map says (r ∷ rs)) (f ∷ fs) f long (each-of says (r ∷ rs) (f ∷ fs) same each r) e why;
+    }

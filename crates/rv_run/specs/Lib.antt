@@ -3,6 +3,7 @@ pub mod Desks
 pub mod Drives
 pub mod Feeds
 pub mod Gates
+pub mod Outcomes
 pub mod Ranges
 pub mod Replays
 pub mod Sources

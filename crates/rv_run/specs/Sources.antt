@@ -1,19 +1,20 @@
 -- What a run tells of sources, where their readers tell their bytes.
 use Rattle.std.specs.Prelude.{◌≡◌, ◌++◌, ◌<◌, ℕ, suc, List, [], ◌∷◌, length, slice_index_or, Option, Some}
-use Rattle.std.specs.Prelude.{None, IsSome, IfSome, All, true, ⊤}
+use Rattle.std.specs.Prelude.{None, IsSome, IfSome, All, map, option_map, true, ⊤}
 use Rattle.rv_event.specs.Merges.{SameSources}
 use Rattle.rv_event.specs.WellFormed.{WellFormed}
 use Rattle.rv_event.specs.declared.event.Event.{Event}
 use Rattle.rv_event.specs.declared.event.Entry.{Entry}
 use Rattle.rv_event.specs.declared.memory_model.MemoryModel.{MemoryModel}
-use Rattle.rv_cert.specs.Refusals.{IsFinal, IsMalformed}
+use Rattle.rv_cert.specs.Refusals.{FaultyLog, IsFinal, IsMalformed, Refusal}
 use Rattle.rv_book.specs.Chunked.{IsPrefix, entries_of, given_by}
 use Rattle.rv_book.specs.Counts.{operations_of, waiting_of}
 use Rattle.rv_trace.specs.Faults.{is_of_text}
-use Rattle.rv_trace.specs.Source.{Stream}
+use Rattle.rv_trace.specs.Source.{Stream, source_says}
 use Rattle.rv_trace.specs.declared.fault.TraceFault.{TraceFault}
 use Rattle.rv_report.specs.declared.outcome.Outcome.{Outcome}
 use Rattle.rv_report.specs.declared.outcome.Outcome.TheVariants.{Allowed, Forbidden, Malformed}
+use Rattle.rv_run.specs.Outcomes.{IfAllowed, IfForbidden, IfMalformed}
 use Rattle.rv_run.specs.Replays.{IsConsistent, IsReplayed, IsAllowed}
 use Rattle.rv_run.specs.declared.fault.RunFault.{RunFault}
 use Rattle.rv_run.specs.declared.fault.RunFault.TheVariants.{Trace, NoMemory, Lost, Settings}
@@ -40,20 +41,42 @@ pub record IsPartOf (streams : List (Option Stream)) (log : List Entry) : Type 0
   pub first :
       (i : ℕ) → i < length streams → IfSome (slice_index_or streams i None) (λ s. IsPrefix (given_by i log) s.events)
 
--- Allowed: the sources end whole, and one after another they are a well formed log that has a
--- lawful order, with its counts. Forbidden: the evidence is a part of the sources and well formed,
--- and no order is lawful for any well formed log that continues it. Malformed: the evidence is a
--- part of the sources, and its last entry has the fault; so the sources, where their bytes are
--- known, are not well formed.
-abbrev pub IsTrueOf : MemoryModel → List (Option Stream) → Outcome → Type 0
-IsTrueOf model streams (Allowed events operations waiting) =
-    (entries : List Entry) × HasReadAll 0 streams entries × IsConsistent model entries
-    × (events ≡ length entries) × (operations ≡ operations_of entries) × (waiting ≡ waiting_of entries)
-IsTrueOf model streams (Forbidden f) =
-    (f.model ≡ model) × IsPartOf streams f.evidence × WellFormed f.evidence × IsFinal model f.evidence
-IsTrueOf model streams (Malformed m) =
-    (m.model ≡ model) × IsPartOf streams m.evidence × IsMalformed m.evidence m.fault
-    × (All IsSome streams → AreWellFormed streams → ⊥)
+-- what a run tells where it allows the sources: they end whole, and one after another they are a
+-- well formed log that has a lawful order, with these counts
+pub record AreAllowed (model : MemoryModel) (streams : List (Option Stream)) (events operations waiting : ℕ)
+    : Type 0 where
+  pub entries : List Entry
+  pub read : HasReadAll 0 streams entries
+  pub consistent : IsConsistent model entries
+  pub events_is : events ≡ length entries
+  pub operations_is : operations ≡ operations_of entries
+  pub waiting_is : waiting ≡ waiting_of entries
+
+-- where it forbids them: the evidence is a part of the sources and well formed, and no order is
+-- lawful for any well formed log that continues it
+pub record AreForbidden (model : MemoryModel) (streams : List (Option Stream)) (f : Refusal) : Type 0 where
+  pub judged_by : f.model ≡ model
+  pub part : IsPartOf streams f.evidence
+  pub well_formed : WellFormed f.evidence
+  pub final : IsFinal model f.evidence
+
+-- where it calls them malformed: the evidence is a part of the sources, and its last entry has the
+-- fault; so the sources, where their bytes are known, are not well formed
+pub record AreMalformed (model : MemoryModel) (streams : List (Option Stream)) (m : FaultyLog) : Type 0 where
+  pub judged_by : m.model ≡ model
+  pub part : IsPartOf streams m.evidence
+  pub malformed : IsMalformed m.evidence m.fault
+  pub refuted : All IsSome streams → AreWellFormed streams → ⊥
+
+-- what each reader says, where it tells its bytes
+abbrev pub streams_of : {R : Type 0} → (R → Option (List ℕ)) → List R → List (Option Stream)
+streams_of remaining readers = map (λ r. option_map source_says (remaining r)) readers
+
+-- an outcome is true of the sources
+pub record IsTrueOf (model : MemoryModel) (streams : List (Option Stream)) (outcome : Outcome) : Type 0 where
+  pub allowed : IfAllowed outcome (AreAllowed model streams)
+  pub forbidden : IfForbidden outcome (AreForbidden model streams)
+  pub malformed : IfMalformed outcome (AreMalformed model streams)
 
 -- a fault of the source's text is the one that the source ends in
 abbrev pub EndsIn : Option Stream → TraceFault → Type 0

@@ -41,69 +41,17 @@ pub struct Driven<S> {
     pub served: Vec<Served<S>>,
 }
 
-/// Starts the thread of one source.
-fn start_feeder<
-    's,
-    E,
-    RT: Threads + Wait + Sync,
-    R: Read + Send + Drop + 's,
-    C: Carrier + Sync + 's,
-    G: Gate + Sync + 's,
->(
-    scope: &Scope<'s, E>,
-    rt: &'s RT,
-    alloc: Global,
-    reader: R,
-    source: u8,
-    carrier: &'s C,
-    seat: C::Seat,
-    gate: &'s G,
-) -> Result<PromisedHandle<Fed, FeedsFrom<R>>, AllocError>
-    requires source { source < 8 }
-    requires seat { C.fits carrier.now seat }
-    ensures { IfOk result (λ h. h.promise.0.value ≡ reader) }
-{
-    let promise = FeedsFrom(Snapshot::of(&reader));
-    let child = scope.spawn_with(
-        promise,
-        move || -> Fed
-            requires source { source < 8 }
-            requires seat { C.fits carrier.now seat }
-            ensures { IsFedOf (option_map source_says (R.remaining reader)) result }
-        { feed(rt, alloc, reader, source, carrier, seat, gate) },
-    )?;
-    Ok(child)
-}
-
-/// Starts the thread of one worker.
-fn start_worker<'s, E, RT: Threads + Wait + Sync, C: Carrier + Sync + 's, G: Gate + Sync + 's>(
-    scope: &Scope<'s, E>,
+/// What all threads of a run share.
+#[derive(Drop)]
+struct Shared<'s, RT, C, G> {
     rt: &'s RT,
     alloc: Global,
     carrier: &'s C,
-    seat: C::Seat,
     gate: &'s G,
     cell: &'s VerdictCell,
-) -> Result<PromisedHandle<Served<C::Seat>, ServesFor<C>>, AllocError>
-    requires { C.fits carrier.now seat }
-    ensures { IfOk result
-        (λ h. (h.promise.0.value ≡ carrier.now) × (h.promise.1.value ≡ cell.now)) }
-{
-    let promise = ServesFor(Snapshot::of(carrier), Snapshot::of(cell));
-    let note = cell.note();
-    let child = scope.spawn_with(
-        promise,
-        move || -> Served<C::Seat>
-            requires seat { C.fits carrier.now seat }
-            requires note { note.cell ≡ cell.now }
-            ensures seat { C.fits carrier.entry.now result.seat }
-            ensures note { result.note.cell ≡ cell.entry.now }
-        { serve(rt, alloc, carrier, seat, gate, cell, note) },
-    )?;
-    Ok(child)
 }
 
-/// Takes a seat off the list.
+/// Takes a seat of the carrier off the list.
 fn take_seat<C: Carrier>(carrier: &C, seats: &mut Vec<C::Seat>) -> C::Seat
     requires some { 0 < vec_len seats.old }
     requires fits { All (λ s. C.fits carrier.now s) seats.old.items }
@@ -119,137 +67,162 @@ fn take_seat<C: Carrier>(carrier: &C, seats: &mut Vec<C::Seat>) -> C::Seat
     }
 }
 
-/// Starts a feeder for each reader, with a seat off the list.
-fn start_feeders<
+impl<'s, RT: Threads + Wait + Sync, C: Carrier + Sync + 's, G: Gate + Sync + 's> Shared<
     's,
-    E,
-    RT: Threads + Wait + Sync,
-    R: Read + Send + Drop + 's,
-    C: Carrier + Sync + 's,
-    G: Gate + Sync + 's,
->(
-    scope: &Scope<'s, E>,
-    rt: &'s RT,
-    alloc: Global,
-    readers: Vec<R>,
-    carrier: &'s C,
-    seats: &mut Vec<C::Seat>,
-    gate: &'s G,
-) -> Result<Vec<PromisedHandle<Fed, FeedsFrom<R>>>, AllocError>
-    requires few { vec_len readers ≤ 8 }
-    requires room { vec_len readers ≤ vec_len seats.old }
-    requires fits { All (λ s. C.fits carrier.now s) seats.old.items }
-    ensures len { IfOk result (λ v. vec_len v ≡ vec_len readers) }
-    ensures each { IfOk result (λ v. (i : ℕ) (h : _) (r : _) → i < vec_len readers
-        → (slice_index_or v.items i h).promise.0.value ≡ slice_index_or readers.items i r) }
-    ensures seats { OnOk result (vec_len seats.new + vec_len readers ≡ vec_len seats.old) }
-    ensures fits { All (λ s. C.fits carrier.now s) seats.new.items }
-{
-    let mut children = Vec::new(alloc);
-    let mut source = 0u8;
-    for reader in readers {
-        let seat = take_seat(carrier, seats);
-        let child = start_feeder(scope, rt, alloc, reader, source, carrier, seat, gate)?;
-        children.push(child)?;
-        source += 1;
+    RT,
+    C,
+    G,
+> {
+    /// Starts the thread of one source.
+    fn start_feeder<E, R: Read + Send + Drop + 's>(
+        &self,
+        scope: &Scope<'s, E>,
+        reader: R,
+        source: u8,
+        seat: C::Seat,
+    ) -> Result<PromisedHandle<Fed, FeedsFrom<R>>, AllocError>
+        requires source { source < 8 }
+        requires seat { C.fits self.now.carrier.now seat }
+        ensures { IfOk result (λ h. h.promise.0.value ≡ reader) }
+    {
+        let promise = FeedsFrom(Snapshot::of(&reader));
+        let (rt, alloc, carrier, gate) = (self.rt, self.alloc, self.carrier, self.gate);
+        let child = scope.spawn_with(
+            promise,
+            move || -> Fed
+                requires source { source < 8 }
+                requires seat { C.fits carrier.now seat }
+                ensures { IsFedOf (option_map source_says (R.remaining reader)) result }
+            { feed(rt, alloc, reader, source, carrier, seat, gate) },
+        )?;
+        Ok(child)
     }
-    Ok(children)
-}
 
-/// Starts the workers, each with a seat off the list.
-fn start_workers<'s, E, RT: Threads + Wait + Sync, C: Carrier + Sync + 's, G: Gate + Sync + 's>(
-    scope: &Scope<'s, E>,
-    rt: &'s RT,
-    alloc: Global,
-    workers: u8,
-    carrier: &'s C,
-    seats: &mut Vec<C::Seat>,
-    gate: &'s G,
-    cell: &'s VerdictCell,
-) -> Result<Vec<PromisedHandle<Served<C::Seat>, ServesFor<C>>>, AllocError>
-    requires room { workers ≤ vec_len seats.old }
-    requires fits { All (λ s. C.fits carrier.now s) seats.old.items }
-    ensures len { IfOk result (λ v. vec_len v ≡ workers) }
-    ensures each { IfOk result (λ v. (i : ℕ) (h : _) → i < workers
-        → ((slice_index_or v.items i h).promise.0.value ≡ carrier.now)
-        × ((slice_index_or v.items i h).promise.1.value ≡ cell.now)) }
-{
-    let mut children = Vec::new(alloc);
-    for _worker in 0..workers {
-        let seat = take_seat(carrier, seats);
-        let child = start_worker(scope, rt, alloc, carrier, seat, gate, cell)?;
-        children.push(child)?;
+    /// Starts the thread of one worker.
+    fn start_worker<E>(
+        &self,
+        scope: &Scope<'s, E>,
+        seat: C::Seat,
+    ) -> Result<PromisedHandle<Served<C::Seat>, ServesFor<C>>, AllocError>
+        requires { C.fits self.now.carrier.now seat }
+        ensures { IfOk result (λ h.
+            (h.promise.0.value ≡ self.now.carrier.now) × (h.promise.1.value ≡ self.now.cell.now)) }
+    {
+        let promise = ServesFor(Snapshot::of(self.carrier), Snapshot::of(self.cell));
+        let (rt, alloc, carrier, gate, cell) = (
+            self.rt,
+            self.alloc,
+            self.carrier,
+            self.gate,
+            self.cell,
+        );
+        let note = cell.note();
+        let child = scope.spawn_with(
+            promise,
+            move || -> Served<C::Seat>
+                requires seat { C.fits carrier.now seat }
+                requires note { note.cell ≡ cell.now }
+                ensures seat { C.fits carrier.entry.now result.seat }
+                ensures note { result.note.cell ≡ cell.entry.now }
+            { serve(rt, alloc, carrier, seat, gate, cell, note) },
+        )?;
+        Ok(child)
     }
-    Ok(children)
-}
 
-/// Starts all threads and joins them.
-fn start_and_join<
-    's,
-    E,
-    RT: Threads + Wait + Sync,
-    R: Read + Send + Drop + 's,
-    C: Carrier + Sync + 's,
-    G: Gate + Sync + 's,
->(
-    scope: &Scope<'s, E>,
-    rt: &'s RT,
-    alloc: Global,
-    readers: Vec<R>,
-    workers: u8,
-    carrier: &'s C,
-    mut seats: Vec<C::Seat>,
-    gate: &'s G,
-    cell: &'s VerdictCell,
-) -> Result<Driven<C::Seat>, AllocError>
-    requires sources { vec_len readers ≤ 8 }
-    requires seats { vec_len readers + workers ≤ vec_len seats }
-    requires fits { All (λ s. C.fits carrier.now s) seats.items }
-    ensures fed { IfOk result (λ d. AreFedOf R.remaining readers.items d.fed.items) }
-    ensures served { IfOk result
-        (λ d. AreServed (C.fits carrier.now) cell.now workers d.served.items) }
-{
-    let feeders = start_feeders(scope, rt, alloc, readers, carrier, &mut seats, gate)?;
-    let servers = start_workers(scope, rt, alloc, workers, carrier, &mut seats, gate, cell)?;
-    let fed = thread::join_promised(rt, feeders)?;
-    let served = thread::join_promised(rt, servers)?;
-    Ok(Driven { fed, served })
-}
-
-/// Starts all threads and joins them. Where a growth or a start is refused, the threads that run
-/// are told to end.
-fn drive_in<
-    's,
-    E,
-    RT: Threads + Wait + Sync,
-    R: Read + Send + Drop + 's,
-    C: Carrier + Sync + 's,
-    G: Gate + Sync + 's,
->(
-    scope: &Scope<'s, E>,
-    rt: &'s RT,
-    alloc: Global,
-    readers: Vec<R>,
-    workers: u8,
-    carrier: &'s C,
-    seats: Vec<C::Seat>,
-    gate: &'s G,
-    cell: &'s VerdictCell,
-) -> Result<Driven<C::Seat>, AllocError>
-    requires sources { vec_len readers ≤ 8 }
-    requires seats { vec_len readers + workers ≤ vec_len seats }
-    requires fits { All (λ s. C.fits carrier.now s) seats.items }
-    ensures fed { IfOk result (λ d. AreFedOf R.remaining readers.items d.fed.items) }
-    ensures served { IfOk result
-        (λ d. AreServed (C.fits carrier.now) cell.now workers d.served.items) }
-{
-    let driven = start_and_join(
-        scope, rt, alloc, readers, workers, carrier, seats, gate, cell,
-    );
-    if driven.is_err() {
-        gate.end_source(rt, 0, None);
+    /// Starts a feeder for each reader, with a seat off the list.
+    fn start_feeders<E, R: Read + Send + Drop + 's>(
+        &self,
+        scope: &Scope<'s, E>,
+        readers: Vec<R>,
+        seats: &mut Vec<C::Seat>,
+    ) -> Result<Vec<PromisedHandle<Fed, FeedsFrom<R>>>, AllocError>
+        requires few { vec_len readers ≤ 8 }
+        requires room { vec_len readers ≤ vec_len seats.old }
+        requires fits { All (λ s. C.fits self.now.carrier.now s) seats.old.items }
+        ensures len { IfOk result (λ v. vec_len v ≡ vec_len readers) }
+        ensures each { IfOk result (λ v. (i : ℕ) (h : _) (r : _) → i < vec_len readers
+            → (slice_index_or v.items i h).promise.0.value ≡ slice_index_or readers.items i r) }
+        ensures seats { OnOk result (vec_len seats.new + vec_len readers ≡ vec_len seats.old) }
+        ensures fits { All (λ s. C.fits self.now.carrier.now s) seats.new.items }
+    {
+        let mut children = Vec::new(self.alloc);
+        let mut source = 0u8;
+        for reader in readers {
+            let seat = take_seat(self.carrier, seats);
+            let child = self.start_feeder(scope, reader, source, seat)?;
+            children.push(child)?;
+            source += 1;
+        }
+        Ok(children)
     }
-    driven
+
+    /// Starts the workers, each with a seat off the list.
+    fn start_workers<E>(
+        &self,
+        scope: &Scope<'s, E>,
+        workers: u8,
+        seats: &mut Vec<C::Seat>,
+    ) -> Result<Vec<PromisedHandle<Served<C::Seat>, ServesFor<C>>>, AllocError>
+        requires room { workers ≤ vec_len seats.old }
+        requires fits { All (λ s. C.fits self.now.carrier.now s) seats.old.items }
+        ensures len { IfOk result (λ v. vec_len v ≡ workers) }
+        ensures each { IfOk result (λ v. (i : ℕ) (h : _) → i < workers
+            → ((slice_index_or v.items i h).promise.0.value ≡ self.now.carrier.now)
+            × ((slice_index_or v.items i h).promise.1.value ≡ self.now.cell.now)) }
+    {
+        let mut children = Vec::new(self.alloc);
+        for _worker in 0..workers {
+            let seat = take_seat(self.carrier, seats);
+            let child = self.start_worker(scope, seat)?;
+            children.push(child)?;
+        }
+        Ok(children)
+    }
+
+    /// Starts all threads and joins them.
+    fn start_and_join<E, R: Read + Send + Drop + 's>(
+        &self,
+        scope: &Scope<'s, E>,
+        readers: Vec<R>,
+        workers: u8,
+        mut seats: Vec<C::Seat>,
+    ) -> Result<Driven<C::Seat>, AllocError>
+        requires sources { vec_len readers ≤ 8 }
+        requires seats { vec_len readers + workers ≤ vec_len seats }
+        requires fits { All (λ s. C.fits self.now.carrier.now s) seats.items }
+        ensures fed { IfOk result (λ d. AreFedOf R.remaining readers.items d.fed.items) }
+        ensures served { IfOk result
+            (λ d. AreServed (C.fits self.now.carrier.now) self.now.cell.now workers d.served.items) }
+    {
+        let feeders = self.start_feeders(scope, readers, &mut seats)?;
+        let servers = self.start_workers(scope, workers, &mut seats)?;
+        let fed = thread::join_promised(self.rt, feeders)?;
+        let served = thread::join_promised(self.rt, servers)?;
+        Ok(Driven { fed, served })
+    }
+
+    /// Starts all threads and joins them. Where a growth or a start is refused, the threads that
+    /// run are told to end.
+    fn drive<E, R: Read + Send + Drop + 's>(
+        &self,
+        scope: &Scope<'s, E>,
+        readers: Vec<R>,
+        workers: u8,
+        seats: Vec<C::Seat>,
+    ) -> Result<Driven<C::Seat>, AllocError>
+        requires sources { vec_len readers ≤ 8 }
+        requires seats { vec_len readers + workers ≤ vec_len seats }
+        requires fits { All (λ s. C.fits self.now.carrier.now s) seats.items }
+        ensures fed { IfOk result (λ d. AreFedOf R.remaining readers.items d.fed.items) }
+        ensures served { IfOk result
+            (λ d. AreServed (C.fits self.now.carrier.now) self.now.cell.now workers d.served.items) }
+    {
+        let driven = self.start_and_join(scope, readers, workers, seats);
+        if driven.is_err() {
+            self.gate.end_source(self.rt, 0, None);
+        }
+        driven
+    }
 }
 
 /// Reads each source by [`feed`] and offers its chunks by so many calls of [`serve`], each call on
@@ -292,9 +265,14 @@ pub fn drive<RT: Threads + Wait + Sync, R: Read + Send + Drop, C: Carrier + Sync
             ensures served { IfOk result
                 (λ d. AreServed (C.fits carrier.entry.now) cell.entry.now workers d.served.items) }
         {
-            drive_in(
-                scope, rt, alloc, readers, workers, carrier, seats, gate, cell,
-            )
+            let shared = Shared {
+                rt,
+                alloc,
+                carrier,
+                gate,
+                cell,
+            };
+            shared.drive(scope, readers, workers, seats)
         },
     )
 }

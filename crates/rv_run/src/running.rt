@@ -1,9 +1,8 @@
 //! A whole run in threads.
-ghost use Rattle.std.specs.Prelude.{◌≡◌, ◌≢◌, ◌↔◌, ◌<◌, ◌≤◌, ◌+◌, IfOk, IfErr, Err, false, All, map};
-ghost use Rattle.std.specs.Prelude.{option_map, vec_len};
-ghost use Rattle.rv_trace.specs.Source.{source_says};
+ghost use Rattle.std.specs.Prelude.{◌≡◌, ◌≢◌, ◌↔◌, ◌<◌, ◌≤◌, ◌+◌, IfOk, IfErr, Err, false, All, vec_len};
+ghost use Rattle.rv_run.specs.Outcomes.{IfAllowed, IfForbidden, IfMalformed};
 ghost use Rattle.rv_run.specs.Ranges.{IsOutOfRange};
-ghost use Rattle.rv_run.specs.Sources.{IsFaultAmong, IsTrueOf};
+ghost use Rattle.rv_run.specs.Sources.{AreAllowed, AreForbidden, AreMalformed, IsFaultAmong, streams_of};
 ghost use Rattle.rv_run.specs.declared.fault.RunFault.TheVariants as fault;
 
 use crate::driving::drive;
@@ -60,10 +59,13 @@ fn run_in<RT: Threads + Wait + Sync, R: Read + Send + Drop, C: Carrier + Sync + 
     requires workers { 0 < settings.workers }
     requires seats { vec_len readers + settings.workers ≤ vec_len seats }
     requires fits { All (λ s. C.fits carrier s) seats.items }
-    ensures outcome { IfOk result (IsTrueOf settings.model
-        (map (λ r. option_map source_says (R.remaining r)) readers.items)) }
-    ensures fault { IfErr result (IsFaultAmong
-        (map (λ r. option_map source_says (R.remaining r)) readers.items)) }
+    ensures allowed { IfOk result (λ o.
+        IfAllowed o (AreAllowed settings.model (streams_of R.remaining readers.items))) }
+    ensures forbidden { IfOk result (λ o.
+        IfForbidden o (AreForbidden settings.model (streams_of R.remaining readers.items))) }
+    ensures malformed { IfOk result (λ o.
+        IfMalformed o (AreMalformed settings.model (streams_of R.remaining readers.items))) }
+    ensures fault { IfErr result (IsFaultAmong (streams_of R.remaining readers.items)) }
     ensures settings { result ≢ Err fault.Settings }
 {
     let count = readers.len() as u8;
@@ -101,10 +103,13 @@ pub fn run_over<RT: Threads + Wait + Sync, R: Read + Send + Drop, C: Carrier + S
     requires workers { 0 < settings.workers }
     requires seats { vec_len readers + settings.workers ≤ vec_len seats }
     requires fits { All (λ s. C.fits carrier s) seats.items }
-    ensures outcome { IfOk result (IsTrueOf settings.model
-        (map (λ r. option_map source_says (R.remaining r)) readers.items)) }
-    ensures fault { IfErr result (IsFaultAmong
-        (map (λ r. option_map source_says (R.remaining r)) readers.items)) }
+    ensures allowed { IfOk result (λ o.
+        IfAllowed o (AreAllowed settings.model (streams_of R.remaining readers.items))) }
+    ensures forbidden { IfOk result (λ o.
+        IfForbidden o (AreForbidden settings.model (streams_of R.remaining readers.items))) }
+    ensures malformed { IfOk result (λ o.
+        IfMalformed o (AreMalformed settings.model (streams_of R.remaining readers.items))) }
+    ensures fault { IfErr result (IsFaultAmong (streams_of R.remaining readers.items)) }
     ensures settings { result ≢ Err fault.Settings }
 {
     run_in(rt, alloc, readers, settings, carrier, seats, &Bell::new())
@@ -132,10 +137,13 @@ pub fn run<RT: Threads + Wait + Sync, R: Read + Send + Drop>(
     readers: Vec<R>,
     settings: Settings,
 ) -> Result<Outcome, RunFault>
-    ensures outcome { IfOk result (IsTrueOf settings.model
-        (map (λ r. option_map source_says (R.remaining r)) readers.items)) }
-    ensures fault { IfErr result (IsFaultAmong
-        (map (λ r. option_map source_says (R.remaining r)) readers.items)) }
+    ensures allowed { IfOk result (λ o.
+        IfAllowed o (AreAllowed settings.model (streams_of R.remaining readers.items))) }
+    ensures forbidden { IfOk result (λ o.
+        IfForbidden o (AreForbidden settings.model (streams_of R.remaining readers.items))) }
+    ensures malformed { IfOk result (λ o.
+        IfMalformed o (AreMalformed settings.model (streams_of R.remaining readers.items))) }
+    ensures fault { IfErr result (IsFaultAmong (streams_of R.remaining readers.items)) }
     ensures settings { (result ≡ Err fault.Settings) ↔ IsOutOfRange (vec_len readers) settings }
 {
     run_with_bell(rt, alloc, readers, settings, &Bell::new())
@@ -157,10 +165,13 @@ pub fn run_with_bell<RT: Threads + Wait + Sync, R: Read + Send + Drop>(
     settings: Settings,
     bell: &Bell,
 ) -> Result<Outcome, RunFault>
-    ensures outcome { IfOk result (IsTrueOf settings.model
-        (map (λ r. option_map source_says (R.remaining r)) readers.items)) }
-    ensures fault { IfErr result (IsFaultAmong
-        (map (λ r. option_map source_says (R.remaining r)) readers.items)) }
+    ensures allowed { IfOk result (λ o.
+        IfAllowed o (AreAllowed settings.model (streams_of R.remaining readers.items))) }
+    ensures forbidden { IfOk result (λ o.
+        IfForbidden o (AreForbidden settings.model (streams_of R.remaining readers.items))) }
+    ensures malformed { IfOk result (λ o.
+        IfMalformed o (AreMalformed settings.model (streams_of R.remaining readers.items))) }
+    ensures fault { IfErr result (IsFaultAmong (streams_of R.remaining readers.items)) }
     ensures settings { (result ≡ Err fault.Settings) ↔ IsOutOfRange (vec_len readers) settings }
 {
     if !settings.admit(readers.len()) {

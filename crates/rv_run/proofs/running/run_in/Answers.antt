@@ -1,23 +1,26 @@
 use Rattle.rv_run.proofs.Common.{List, IfOk, IfErr, option_map, rules, subst, source_says, AgreesWith, IsFaultIn}
 use Rattle.rv_run.proofs.Common.{Fed}
-use Rattle.rv_run.proofs.Outcomes.{answer-true, answer-fault}
+use Rattle.rv_run.proofs.Outcomes.{IsAnswer, answer-true}
+use Rattle.rv_run.specs.Sources.{streams_of}
 use Rattle.rv_run.proofs.running.run_in.Goals as goal
 
-pub returns-clause-outcome : goal.returns-clause-outcome
-returns-clause-outcome g c =
+pub returns : goal.returns
+returns g c =
+    let answer : IsAnswer c.args.settings.model (streams_of g.R.Read.remaining c.args.readers.items)
+    c.judge-outcome.result =
     answer-true (λ r. option_map source_says (g.R.Read.remaining r)) c.args.readers.items
     c.in_ok-driven.driven.fed.items c.args.settings.model c.judge-outcome.result
     (search rules) c.in_ok-driven.ensures.fed.0 c.in_ok-driven.ensures.fed.1
     (subst (λ (fed : List Fed). IfOk c.judge-outcome.result (AgreesWith c.args.settings.model fed))
     c.as_slice-fed.ensures.value c.judge-outcome.ensures.outcome)
-
-pub returns-clause-fault : goal.returns-clause-fault
-returns-clause-fault g c =
-    answer-fault (λ r. option_map source_says (g.R.Read.remaining r)) c.args.readers.items
-    c.in_ok-driven.driven.fed.items c.judge-outcome.result
-    (search rules) c.in_ok-driven.ensures.fed.0 c.in_ok-driven.ensures.fed.1
     (subst (λ (fed : List Fed). IfErr c.judge-outcome.result (IsFaultIn fed)) c.as_slice-fed.ensures.value
-    c.judge-outcome.ensures.fault)
+    c.judge-outcome.ensures.fault) in record {
+      allowed = answer.allowed;
+      forbidden = answer.forbidden;
+      malformed = answer.malformed;
+      fault = answer.fault;
+      settings = search rules;
+    }
 
 pub drive-requires-clause-fits : goal.drive-requires-clause-fits
 drive-requires-clause-fits g c κs bounds k d low = rw c.new-step.ensures.carrier (c.requires.fits k d low)

@@ -1,6 +1,6 @@
 use Rattle.std.specs.Prelude.{◌≡◌, ◌+◌, get_or, vec_items, vec_len}
 use Rattle.std.proofs.Common.{rules, arith, below_more, ap, ◌∙◌}
-use Rattle.rv_run.proofs.driving.start_feeders.Goals as goal
+use Rattle.rv_run.proofs.driving.Shared.start_feeders.Goals as goal
 
 -- The reader that comes next stood first among the rest, and its child takes the next place.
 pub loop-reader-preserved : goal.loop-reader-preserved

@@ -1,6 +1,6 @@
 use Rattle.std.specs.Prelude.{◌≡◌, ℕ, ◌+◌, ◌<◌, All, get_or, vec_items, vec_len}
 use Rattle.std.specs.Vec.Iter.{into_iter_items, into_iter_len}
-use Rattle.rv_run.proofs.driving.start_feeders.Given as goal
+use Rattle.rv_run.proofs.driving.Shared.start_feeders.Given as goal
 
 abbrev pub invariant-loop-reader : goal.invariant-loop-reader
 invariant-loop-reader g l =
@@ -11,4 +11,4 @@ invariant-loop-reader g l =
     × ((k : ℕ) (h : _) (r : _) → k < done → (get_or (vec_items l.children) k h).promise.0.value ≡ get_or
     (vec_items l.fn.readers) k r) × (l.source ≡ done)
     × (vec_len l.seats + done ≡ vec_len l.fn.seats)
-    × All (λ s. g.C.Carrier.fits l.carrier s) (vec_items l.seats)
+    × All (λ s. g.C.Carrier.fits l.self.carrier.now s) (vec_items l.seats)

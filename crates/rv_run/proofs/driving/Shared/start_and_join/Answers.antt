@@ -1,5 +1,5 @@
 use Rattle.rv_run.proofs.Common.{get_or, option_map, arith, ap, ◌∙◌, subst, source_says, IsFedOf}
-use Rattle.rv_run.proofs.driving.start_and_join.Goals as goal
+use Rattle.rv_run.proofs.driving.Shared.start_and_join.Goals as goal
 
 -- What a joined thread gave keeps the promise of its handle, which was made of its reader, or of
 -- the carrier and the cell.
