@@ -167,6 +167,7 @@ module _ (model : MemoryModel) (old log : List Entry) (entry last : Entry) (hart
   pub found-of_log : IsHartOf (events log) x
   found-of_log = subst (λ (l : List Entry). IsHartOf (events l) x) (sym log-was) found-hart.of_log
 
+  -- and is that of the history
   pub found-is : hart_of_log (events log) x ≡ hart_from model (events old) e.id.hart
   found-is = ap (λ (l : List Entry). hart_of_log (events l) x) log-was ∙ found-hart.hart
 

@@ -23,7 +23,8 @@ returns-clause-pushed c =
     let e : Event = c.args.event.now in
     let h = c.args.self.now in
     let own = c.requires.follows.hart in
-    let count : c.in-Ok.place ≡ length log = c.in-Ok.ensures.1 ∙ sym (length-map c.args.log.now (λ (x : Entry). x.event)) in
+    let count : c.in-Ok.place ≡ length log =
+    c.in-Ok.ensures.1 ∙ sym (length-map c.args.log.now (λ (x : Entry). x.event)) in
     hart-same log (log ++ e ∷ []) h (record { places = c.push_reserved.new.self; kept = c.push.new.self })
     c.in_ok-push.ensures.number (c.push_reserved.ensures.items
     ∙ ap (λ (ps : List ℕ). ps ++ c.in-Ok.place ∷ []) (c.reserve.ensures.items ∙ c.requires.of_log.places)

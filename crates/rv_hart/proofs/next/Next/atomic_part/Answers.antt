@@ -42,5 +42,6 @@ returns-in-None c =
     let h : Hart = hart_at c.args.self.now in
     let e : Event = c.args.self.now.event.now in
     let f = fits c.requires.asked in
-    let none : (w : Event) → IsOwnStore h e w → ⊥ = subst (IsReturned h e) c.in-None.is c.requires.asked.next.returned in
+    let none : (w : Event) → IsOwnStore h e w → ⊥ =
+    subst (IsReturned h e) c.in-None.is c.requires.asked.next.returned in
     record { says = atomic-none f c.requires.asked.memory none; names = tt }

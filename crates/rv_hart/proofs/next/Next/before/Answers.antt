@@ -14,13 +14,8 @@ taken-init c =
     let e : Event = c.args.self.now.event.now in
     let rows : List (List ℕ) = c.args.self.now.kept.now.rows in
     let first : List ℕ = c.fill_candidates.new.row in
-    let g : Sweeping h e rows first = record {
-      fits = fits_of h e c.requires.next.kept.hart c.requires.next.follows;
-      memory = c.is_memory.ensures.0 c.if-not-is_memory.false;
-      mean = c.requires.next.kept.rows;
-      count = c.requires.next.kept.count;
-      enough = c.fill_candidates.ensures;
-    } in
+    let g : Sweeping h e rows first =
+    search (fits_of, c.is_memory.ensures.0 c.if-not-is_memory.false, rules) in
     let top : length rows ≡ c.len-top.result = sym c.len-top.ensures in
     subst (λ (n : ℕ). IsListing h e rows first first n c.new-links.result.items) top
     (listing-begun g c.new-links.result.items c.new-links.ensures.items)
@@ -31,13 +26,8 @@ take_highest-requires-clause-few c =
     let e : Event = c.args.self.now.event.now in
     let rows : List (List ℕ) = c.args.self.now.kept.now.rows in
     let first : List ℕ = c.fill_candidates.new.row in
-    let g : Sweeping h e rows first = record {
-      fits = fits_of h e c.requires.next.kept.hart c.requires.next.follows;
-      memory = c.is_memory.ensures.0 c.if-not-is_memory.false;
-      mean = c.requires.next.kept.rows;
-      count = c.requires.next.kept.count;
-      enough = c.fill_candidates.ensures;
-    } in
+    let g : Sweeping h e rows first =
+    search (fits_of, c.is_memory.ensures.0 c.if-not-is_memory.false, rules) in
     rows-few g
 
 pub take_highest-requires-clause-limit : goal.take_highest-requires-clause-limit
@@ -52,13 +42,8 @@ lowest_rule-rule-requires-clause-candidate c =
     let e : Event = c.args.self.now.event.now in
     let rows : List (List ℕ) = c.args.self.now.kept.now.rows in
     let first : List ℕ = c.fill_candidates.new.row in
-    let g : Sweeping h e rows first = record {
-      fits = fits_of h e c.requires.next.kept.hart c.requires.next.follows;
-      memory = c.is_memory.ensures.0 c.if-not-is_memory.false;
-      mean = c.requires.next.kept.rows;
-      count = c.requires.next.kept.count;
-      enough = c.fill_candidates.ensures;
-    } in
+    let g : Sweeping h e rows first =
+    search (fits_of, c.is_memory.ensures.0 c.if-not-is_memory.false, rules) in
     let is : IsTaken rows c.taken.left (Some c.in-Some.number) c.take_highest.new.candidates =
     rw c.in-Some.is at c.take_highest.ensures in
     listing-candidate g c.taken.left c.take_highest.new.candidates c.taken.top c.in-Some.number
@@ -83,13 +68,8 @@ returns c =
     let e : Event = c.args.self.now.event.now in
     let rows : List (List ℕ) = c.args.self.now.kept.now.rows in
     let first : List ℕ = c.fill_candidates.new.row in
-    let g : Sweeping h e rows first = record {
-      fits = fits_of h e c.requires.next.kept.hart c.requires.next.follows;
-      memory = c.is_memory.ensures.0 c.if-not-is_memory.false;
-      mean = c.requires.next.kept.rows;
-      count = c.requires.next.kept.count;
-      enough = c.fill_candidates.ensures;
-    } in
+    let g : Sweeping h e rows first =
+    search (fits_of, c.is_memory.ensures.0 c.if-not-is_memory.false, rules) in
     let is : IsTaken rows c.taken.left None c.take_highest.new.candidates =
     rw c.in_default.is at c.take_highest.ensures in
     listing-done g c.taken.left c.take_highest.new.candidates c.taken.top c.taken.links.items

@@ -1,5 +1,5 @@
 use Rattle.rv_hart.proofs.Common.{◌≡◌, ◌↔◌, ◌⊎◌, inl, inr, List, ℕ, sym, ◌∙◌, false≢true, Event, Link, Has, Hart}
-use Rattle.rv_hart.proofs.Common.{hart_at, IsLinked}
+use Rattle.rv_hart.proofs.Common.{hart_at, IsLinked, rules}
 use Rattle.rv_hart.proofs.HartFacts.{Fits, fits_of}
 use Rattle.rv_hart.proofs.Listings.{row-nothing}
 use Rattle.rv_hart.proofs.FromLinks.{IsJoined, Linking, have_rows, row-begun, row-linked, row_sound}
@@ -19,13 +19,8 @@ join_linked-requires c =
     let e : Event = c.args.self.now.event.now in
     let rows : List (List ℕ) = c.args.self.now.kept.now.rows in
     let links : List Link = c.args.links.now in
-    let linking : Linking h e rows links = record {
-      fits = fits_of h e c.requires.next.kept.hart c.requires.next.follows;
-      memory = c.is_memory.ensures.0 c.if-not-is_memory.false;
-      mean = c.requires.next.kept.rows;
-      count = c.requires.next.kept.count;
-      enough = c.requires.linked;
-    } in
+    let linking : Linking h e rows links =
+    search (fits_of, c.is_memory.ensures.0 c.if-not-is_memory.false, rules) in
     have_rows linking
 
 pub returns-then-not-has_own_links : goal.returns-then-not-has_own_links
@@ -35,13 +30,8 @@ returns-then-not-has_own_links c = λ s.
     let rows : List (List ℕ) = c.args.self.now.kept.now.rows in
     let links : List Link = c.args.links.now in
     let row : List ℕ = c.join_linked.new.row in
-    let linking : Linking h e rows links = record {
-      fits = fits_of h e c.requires.next.kept.hart c.requires.next.follows;
-      memory = c.is_memory.ensures.0 c.if-not-is_memory.false;
-      mean = c.requires.next.kept.rows;
-      count = c.requires.next.kept.count;
-      enough = c.requires.linked;
-    } in
+    let linking : Linking h e rows links =
+    search (fits_of, c.is_memory.ensures.0 c.if-not-is_memory.false, rules) in
     let joined : IsJoined rows links c.insert.new.self row = c.join_linked.ensures in
     let begun : (s : ℕ) → Has row s ↔ ((s ≡ e.id.seq) ⊎ IsLinked rows links s) =
     row-begun rows links e.id.seq c.args.row.now c.insert.new.self row c.requires.empty c.insert.ensures joined in (
@@ -56,13 +46,8 @@ returns-else-not-has_own_links c =
     let rows : List (List ℕ) = c.args.self.now.kept.now.rows in
     let links : List Link = c.args.links.now in
     let row : List ℕ = c.join_linked.new.row in
-    let linking : Linking h e rows links = record {
-      fits = fits_of h e c.requires.next.kept.hart c.requires.next.follows;
-      memory = c.is_memory.ensures.0 c.if-not-is_memory.false;
-      mean = c.requires.next.kept.rows;
-      count = c.requires.next.kept.count;
-      enough = c.requires.linked;
-    } in
+    let linking : Linking h e rows links =
+    search (fits_of, c.is_memory.ensures.0 c.if-not-is_memory.false, rules) in
     let joined : IsJoined rows links c.insert.new.self row = c.join_linked.ensures in
     let begun : (s : ℕ) → Has row s ↔ ((s ≡ e.id.seq) ⊎ IsLinked rows links s) =
     row-begun rows links e.id.seq c.args.row.now c.insert.new.self row c.requires.empty c.insert.ensures joined in

@@ -36,7 +36,8 @@ returns-in-None c =
     let h : Hart = hart_at c.args.self.now in
     let e : Event = c.args.self.now.event.now in
     let f = fits c.requires.asked in
-    let none : (w : Event) → IsOwnStore h e w → ⊥ = subst (IsReturned h e) c.in-None.is c.requires.asked.next.returned in
+    let none : (w : Event) → IsOwnStore h e w → ⊥ =
+    subst (IsReturned h e) c.in-None.is c.requires.asked.next.returned in
     record {
       says = λ a ca. let is = dependent-none f c.requires.asked.memory none a ca in (
         λ x. elim x [ inl n ↦ absurd n | inr n ↦ absurd n ],

@@ -27,7 +27,8 @@ returns-then-is_err-clause-unchanged c =
     subst (λ (o : Option Reservation). AreSame old (postings_of c.args.event.now o) new) (sym c.in-Some.is)
     (undone c.args.event.now c.in-Some.reservation old mid (put r) (absent r) back new
     (subst (λ (p : Postings). AreSame mid p back) c.pair_postings-pair.ensures
-    (failed c.insert_to-paired.result _ (sym c.is_err.ensures.value ∙ c.if-is_err.true) c.insert_to-paired.ensures.unchanged))
+    (failed c.insert_to-paired.result _ (sym c.is_err.ensures.value ∙ c.if-is_err.true)
+    c.insert_to-paired.ensures.unchanged))
     (subst (λ (p : Postings). AreRemoved back p new) c.own_postings-own.ensures c.remove_from.ensures))
 
 pub returns-clause-inserted : goal.returns-clause-inserted
@@ -39,4 +40,5 @@ returns-clause-inserted c =
     subst (λ (o : Option Reservation). AreInserted old (postings_of c.args.event.now o) new) (sym c.in-Some.is)
     (both_inserted c.args.event.now c.in-Some.reservation old mid (put r) (absent r) new
     (subst (λ (p : Postings). AreInserted mid p new) c.pair_postings-pair.ensures
-    (went c.insert_to-paired.result _ (sym c.is_err.ensures.value ∙ c.if-is_err.false) c.insert_to-paired.ensures.inserted)))
+    (went c.insert_to-paired.result _ (sym c.is_err.ensures.value ∙ c.if-is_err.false)
+    c.insert_to-paired.ensures.inserted)))
