@@ -25,8 +25,8 @@ pub use Rattle.rv_run.specs.Desks.{IsComplete}
 pub use Rattle.rv_run.specs.Feeds.{IsEndOf, IsFedOf, IsFeeding}
 pub use Rattle.rv_run.specs.Outcomes.{IfAllowed, IfForbidden, IfMalformed}
 pub use Rattle.rv_run.specs.Replays.{IsAllowed, IsConsistent, IsReplayed, Reaches}
-pub use Rattle.rv_run.specs.Sources.{AreAllowed, AreForbidden, AreMalformed, AreWellFormed, EndsIn, HasReadAll}
-pub use Rattle.rv_run.specs.Sources.{IsAllOf, IsFaultAmong, IsPartOf, IsRefused, IsTrueOf}
+pub use Rattle.rv_run.specs.Sources.{AreAllowed, AreEventsOf, AreForbidden, AreMalformed, AreWellFormed, EndsIn}
+pub use Rattle.rv_run.specs.Sources.{EndsWhole, HasRead, IsFaultAmong, IsPartOf, IsRefused, IsTrueOf}
 pub use Rattle.rv_run.specs.declared.fault.RunFault.{RunFault}
 pub use Rattle.rv_run.specs.declared.feeding.Fed.{Fed}
 pub use Rattle.rv_run.specs.declared.feeding.FeedEnd.{FeedEnd}

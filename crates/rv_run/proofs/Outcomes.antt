@@ -6,9 +6,11 @@ use Rattle.rv_run.proofs.Common.{take-append-drop, get_or-map, length-map, SameS
 use Rattle.rv_run.proofs.Common.{Lawful-merge, WellFormed-front, SameHarts-from_sources, WellFormed-sources}
 use Rattle.rv_run.proofs.Common.{Refusal, IsMalformed, given_by, IsPrefix, operations_of, waiting_of, Stream}
 use Rattle.rv_run.proofs.Common.{Outcome, Allowed, Forbidden, Malformed, AgreesWith, IsBegun, IsFaultIn, IsFedOf}
-use Rattle.rv_run.proofs.Common.{IsEndOf, IsConsistent, IsReplayed, IsAllowed, AreWellFormed, EndsIn, HasReadAll}
-use Rattle.rv_run.proofs.Common.{IsAllOf, IsFaultAmong, IsRefused, IsPartOf, IsTrueOf, AreAllowed, AreForbidden}
-use Rattle.rv_run.proofs.Common.{AreMalformed, IfAllowed, IfForbidden, IfMalformed, RunFault, Fed, FeedEnd}
+use Rattle.rv_run.proofs.Common.{IsEndOf, IsConsistent, IsReplayed, IsAllowed, AreWellFormed, EndsIn, HasRead}
+use Rattle.rv_run.proofs.Common.{AreEventsOf, IsFaultAmong, IsRefused, IsPartOf, IsTrueOf, AreAllowed, AreForbidden}
+use Rattle.rv_run.proofs.Common.{AreMalformed, EndsWhole, IfAllowed, IfForbidden, IfMalformed, RunFault, Fed}
+use Rattle.rv_run.proofs.Common.{FeedEnd}
+use Rattle.std.proofs.lemmas.List.Elements.{All-from_get_or}
 use Rattle.rv_event.specs.declared.fault.Fault.{Fault as EventFault}
 use Rattle.rv_book.specs.Chunked.{entries_of}
 use Rattle.rv_run.proofs.InconsistentRefusals.{continued, exactly_allowed}
@@ -17,11 +19,11 @@ use Rattle.rv_run.proofs.MergeCounts.{length-merge, operations-merge, waiting-me
 use Rattle.rv_run.specs.declared.fault.RunFault.TheVariants as fault
 use Rattle.rv_run.specs.declared.feeding.FeedEnd.TheVariants as end
 
--- sources that end whole, with these events
+-- sources with these events
 pub read-all :
     (from : ℕ) (streams : List (Option Stream)) (ess : List (List Event)) → length ess ≡ length streams →
-    ((k : ℕ) → k < length streams → IsAllOf (get_or streams k None) (get_or ess k [])) →
-    HasReadAll from streams (together from ess)
+    ((k : ℕ) → k < length streams → AreEventsOf (get_or streams k None) (get_or ess k [])) →
+    HasRead from streams (together from ess)
 read-all from [] [] long each = refl
 read-all from [] (es ∷ ess) long each = absurd (omega (arith, long))
 read-all from (s ∷ streams) [] long each = absurd (omega (arith, long))
@@ -39,17 +41,17 @@ pub record IsReadOf (from : ℕ) (streams : List (Option Stream)) (entries : Lis
   pub ess : List (List Event)
   pub long : length ess ≡ length streams
   pub whole : entries ≡ together from ess
-  pub each : (k : ℕ) → k < length streams → IsAllOf (get_or streams k None) (get_or ess k [])
+  pub each : (k : ℕ) → k < length streams → AreEventsOf (get_or streams k None) (get_or ess k [])
 
 all-of-more :
-    (s : Option Stream) (streams : List (Option Stream)) (es : List Event) (ess : List (List Event)) → IsAllOf s es →
-    ((k : ℕ) → k < length streams → IsAllOf (get_or streams k None) (get_or ess k [])) →
-    (k : ℕ) → k < length (s ∷ streams) → IsAllOf (get_or (s ∷ streams) k None) (get_or (es ∷ ess) k [])
+    (s : Option Stream) (streams : List (Option Stream)) (es : List Event) (ess : List (List Event)) → AreEventsOf s es →
+    ((k : ℕ) → k < length streams → AreEventsOf (get_or streams k None) (get_or ess k [])) →
+    (k : ℕ) → k < length (s ∷ streams) → AreEventsOf (get_or (s ∷ streams) k None) (get_or (es ∷ ess) k [])
 all-of-more s streams es ess here more zero low = here
 all-of-more s streams es ess here more (suc k) low = more k (omega (arith, low))
 
 -- entries that were read whole are such
-pub read-of : (from : ℕ) (streams : List (Option Stream)) (entries : List Entry) → HasReadAll from streams entries →
+pub read-of : (from : ℕ) (streams : List (Option Stream)) (entries : List Entry) → HasRead from streams entries →
     IsReadOf from streams entries
 read-of from [] entries read = record {
   ess = [];
@@ -67,16 +69,16 @@ read-of from (s ∷ streams) entries read =
 
 -- sources whose bytes are known have one list of entries
 read-once : (from : ℕ) (streams : List (Option Stream)) (one other : List Entry) → All IsSome streams →
-    HasReadAll from streams one → HasReadAll from streams other → one ≡ other
+    HasRead from streams one → HasRead from streams other → one ≡ other
 read-once from [] one other known p q = p ∙ sym q
 read-once from (s ∷ streams) one other known p q =
     p.2 ∙ ap (λ (es : List Event). entries_of from es ++ p.1) (same s (known 0 s (omega arith)) p.3 q.3)
     ∙ ap (λ (l : List Entry). entries_of from q.0 ++ l)
     (read-once (suc from) streams p.1 q.1 (λ k d low. known (suc k) d (omega (arith, low))) p.4 q.4) ∙ sym q.2
   where
-    same : (o : Option Stream) → IsSome o → IsAllOf o p.0 → IsAllOf o q.0 → p.0 ≡ q.0
+    same : (o : Option Stream) → IsSome o → AreEventsOf o p.0 → AreEventsOf o q.0 → p.0 ≡ q.0
     same None some a b = absurd (false≢true some)
-    same (Some t) some a b = sym a.0 ∙ b.0
+    same (Some t) some a b = sym a ∙ b
 
 -- what is consistent in one merge is so in each
 pub consistent-merge : (model : MemoryModel) (log other : List Entry) → SameSources log other → IsConsistent model log →
@@ -97,13 +99,14 @@ allowed-true :
     IsConsistent model log →
     All (λ x. x.source < length ess) log → ((i : ℕ) → i < length ess → given_by i log ≡ get_or ess i []) →
     length ess ≡ length streams →
-    ((i : ℕ) → i < length streams → IsAllOf (get_or streams i None) (get_or ess i [])) →
+    ((i : ℕ) → i < length streams → AreEventsOf (get_or streams i None) (get_or ess i [])) → All EndsWhole streams →
     AreAllowed model streams (length log) (operations_of log) (waiting_of log)
-allowed-true model streams log ess ok low given long all =
+allowed-true model streams log ess ok low given long all whole =
     let n = length ess in
     let every = together 0 ess in
     let same = merge-of log ess low given in
     let within : All (λ x. x.source < n) every = low-together 0 n ess (omega arith) in record {
+      whole = whole;
       entries = every;
       read = read-all 0 streams ess long all;
       consistent = consistent-merge model log every same ok;
@@ -123,19 +126,20 @@ first-true (Some t) fed given n is first = (
       ap (λ (l : List Event). l ++ (drop n fed.events.items ++ is.0.0)) (sym first),
 )
 
-all-true : (s : Option Stream) (fed : Fed) → IsFedOf s fed → fed.end ≡ end.Whole → IsAllOf s fed.events.items
-all-true None fed is whole = tt
+all-true : (s : Option Stream) (fed : Fed) → IsFedOf s fed → fed.end ≡ end.Whole →
+    AreEventsOf s fed.events.items × EndsWhole s
+all-true None fed is whole = (tt, tt)
 all-true (Some t) fed is whole = subst (λ (e : FeedEnd). IsEndOf t fed.events.items e) whole is.1
 
 prefix-known : (o : Option Stream) (given es : List Event) → IsSome o → IfSome o (λ t. IsPrefix given t.events) →
-    IsAllOf o es → IsPrefix given es
+    AreEventsOf o es → IsPrefix given es
 prefix-known None given es some first all = absurd (false≢true some)
-prefix-known (Some t) given es some first all = subst (λ (l : List Event). IsPrefix given l) all.0 first
+prefix-known (Some t) given es some first all = subst (λ (l : List Event). IsPrefix given l) all first
 
 -- a part of known sources goes on to a merge of their entries
 pub part-goes-on :
     (streams : List (Option Stream)) (log entries : List Entry) → All IsSome streams → IsPartOf streams log →
-    HasReadAll 0 streams entries → (more : List Entry) × SameSources entries (log ++ more)
+    HasRead 0 streams entries → (more : List Entry) × SameSources entries (log ++ more)
 part-goes-on streams log entries known part read =
     let r = read-of 0 streams entries read in
     let low : All (λ x. x.source < length r.ess) log = grind (arith, common_steps) in
@@ -160,7 +164,7 @@ ill-formed streams log f part bad known formed =
 -- where a part of known sources leaves no lawful order, their entries have none
 pub final-refutes :
     (model : MemoryModel) (streams : List (Option Stream)) (f : Refusal) (entries : List Entry) → All IsSome streams →
-    AreForbidden model streams f → HasReadAll 0 streams entries → IsConsistent model entries → ⊥
+    AreForbidden model streams f → HasRead 0 streams entries → IsConsistent model entries → ⊥
 final-refutes model streams f entries known told read ok =
     let on = part-goes-on streams f.evidence entries known told.part read in
     let longer = consistent-merge model entries (f.evidence ++ on.0) on.1 ok in
@@ -183,7 +187,7 @@ not-both outcome h l = grind (arith, common_steps)
 
 run-allowed :
     (model : MemoryModel) (streams : List (Option Stream)) (entries : List Entry) (run : Outcome) → All IsSome streams →
-    HasReadAll 0 streams entries →
+    HasRead 0 streams entries →
     IsTrueOf model streams run → IsAllowed run → IsConsistent model entries
 run-allowed model streams entries (Allowed e o w) known read told allowed =
     let so = told.allowed in
@@ -193,7 +197,7 @@ run-allowed model streams entries (Malformed m) known read told allowed = absurd
 
 run-refused :
     (model : MemoryModel) (streams : List (Option Stream)) (entries : List Entry) (run : Outcome) → All IsSome streams →
-    HasReadAll 0 streams entries →
+    HasRead 0 streams entries →
     IsTrueOf model streams run → IsRefused run → IsConsistent model entries → ⊥
 run-refused model streams entries (Allowed e o w) known read told refused ok = refused
 run-refused model streams entries (Forbidden f) known read told refused ok =
@@ -204,7 +208,7 @@ run-refused model streams entries (Malformed m) known read told refused ok =
 -- no run is allowed where a pass is refused, nor the other way round
 pub passes-agree :
     (model : MemoryModel) (streams : List (Option Stream)) (entries merge : List Entry) (run pass : Outcome) →
-    All IsSome streams → HasReadAll 0 streams entries → SameSources entries merge → IsTrueOf model streams run →
+    All IsSome streams → HasRead 0 streams entries → SameSources entries merge → IsTrueOf model streams run →
     IsReplayed model merge pass →
     (IsAllowed run → IsRefused pass → ⊥) × (IsRefused run → IsAllowed pass → ⊥)
 passes-agree model streams entries merge run pass known read same told passed = (
@@ -237,14 +241,17 @@ module _ (streams : List (Option Stream)) (fed : List Fed) (any : Fed) (same : l
       let log = a.0 in
       let ess = map (λ (f : Fed). f.events.items) fed in
       let long : length ess ≡ length fed = length-map fed (λ (f : Fed). f.events.items) in
+      let ended = λ (i : ℕ) (low : i < length streams). all-true (get_or streams i None) (get_or fed i any)
+      (each i any low) (a.2.1 i any (omega (arith, low, same))).ended in
       let told = allowed-true model streams log ess a.1
       (subst (λ (n : ℕ). All (λ x. x.source < n) log) (sym long) a.2.0)
       (λ i low. let here : i < length fed = omega (arith, low, long) in (a.2.1 i any here).all ∙ sym (read-at i here))
       (long ∙ same) (λ i low. let here : i < length fed = omega (arith, low, same) in
-      subst (λ (l : List Event). IsAllOf (get_or streams i None) l) (sym (read-at i here))
-      (all-true (get_or streams i None) (get_or fed i any) (each i any low) (a.2.1 i any here).ended)) in
+      subst (λ (l : List Event). AreEventsOf (get_or streams i None) l) (sym (read-at i here)) (ended i low).0)
+      (All-from_get_or EndsWhole streams None (λ i low. (ended i low).1)) in
       record {
         allowed = record {
+          whole = told.whole;
           entries = told.entries;
           read = told.read;
           consistent = told.consistent;

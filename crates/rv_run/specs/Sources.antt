@@ -19,21 +19,26 @@ use Rattle.rv_run.specs.Replays.{IsConsistent, IsReplayed, IsAllowed}
 use Rattle.rv_run.specs.declared.fault.RunFault.{RunFault}
 use Rattle.rv_run.specs.declared.fault.RunFault.TheVariants.{Trace, NoMemory, Lost, Settings}
 
--- these are all the events of the source, which ends whole
-abbrev pub IsAllOf : Option Stream → List Event → Type 0
-IsAllOf None events = ⊤
-IsAllOf (Some s) events = (s.events ≡ events) × (s.end ≡ None)
+-- these are all the events of the source
+abbrev pub AreEventsOf : Option Stream → List Event → Type 0
+AreEventsOf None events = ⊤
+AreEventsOf (Some s) events = s.events ≡ events
 
--- the entries are those of the sources, one source after another, each of which ends whole
-abbrev pub HasReadAll : ℕ → List (Option Stream) → List Entry → Type 0
-HasReadAll source [] entries = entries ≡ []
-HasReadAll source (s ∷ rest) entries =
+-- the source ends whole, and not in a fault
+abbrev pub EndsWhole : Option Stream → Type 0
+EndsWhole None = ⊤
+EndsWhole (Some s) = s.end ≡ None
+
+-- the entries are those of the sources, one source after another
+abbrev pub HasRead : ℕ → List (Option Stream) → List Entry → Type 0
+HasRead source [] entries = entries ≡ []
+HasRead source (s ∷ rest) entries =
     (events : List Event) × (more : List Entry) × (entries ≡ entries_of source events ++ more)
-    × IsAllOf s events × HasReadAll (suc source) rest more
+    × AreEventsOf s events × HasRead (suc source) rest more
 
--- the sources end whole, and one after another they are a well formed log
+-- one source after another they are a well formed log
 abbrev pub AreWellFormed : List (Option Stream) → Type 0
-AreWellFormed streams = (entries : List Entry) × HasReadAll 0 streams entries × WellFormed entries
+AreWellFormed streams = (entries : List Entry) × HasRead 0 streams entries × WellFormed entries
 
 -- the first of each source's events, and no others
 pub record IsPartOf (streams : List (Option Stream)) (log : List Entry) : Type 0 where
@@ -45,8 +50,9 @@ pub record IsPartOf (streams : List (Option Stream)) (log : List Entry) : Type 0
 -- well formed log that has a lawful order, with these counts
 pub record AreAllowed (model : MemoryModel) (streams : List (Option Stream)) (events operations waiting : ℕ)
     : Type 0 where
+  pub whole : All EndsWhole streams
   pub entries : List Entry
-  pub read : HasReadAll 0 streams entries
+  pub read : HasRead 0 streams entries
   pub consistent : IsConsistent model entries
   pub events_is : events ≡ length entries
   pub operations_is : operations ≡ operations_of entries
@@ -103,10 +109,10 @@ RunsAgree =
     IsTrueOf model streams one → IsTrueOf model streams other → IsAllowed one → IsRefused other → ⊥
 
 -- and so do a run over sources and a pass over their entries, in whatever order the sources are
--- merged
+-- merged, and also where a source ends in a fault
 abbrev pub PassesAgree : Type 0
 PassesAgree =
     (model : MemoryModel) (streams : List (Option Stream)) (entries merge : List Entry) (run pass : Outcome) →
-    All IsSome streams → HasReadAll 0 streams entries → SameSources entries merge →
+    All IsSome streams → HasRead 0 streams entries → SameSources entries merge →
     IsTrueOf model streams run → IsReplayed model merge pass →
     (IsAllowed run → IsRefused pass → ⊥) × (IsRefused run → IsAllowed pass → ⊥)
