@@ -1,7 +1,7 @@
 //! Certificates that no order is lawful, the checker that confirms them, verdicts, and the laws
 //! that make them final.
 //!
-//! Whoever distrusts the rest of the monitor has to believe two things only: [`check`], which is a
+//! Whoever distrusts the rest of the monitor has to believe two things only: [`confirm`], which is a
 //! few lines over the reference implementation of `rv_event`, and the definitions in `specs/`. That
 //! a certificate of a well formed log leaves no lawful order, for it and for every well formed log
 //! that continues it, is a law over the definitions alone ([`refusal_is_final`]).
@@ -19,7 +19,7 @@ mod malformed;
 mod verdict;
 
 pub use certificate::{Certificate, Circle};
-pub use checker::check;
+pub use checker::{check, confirm};
 pub use evidence::Evidence;
 pub use forbidden::Forbidden;
 pub use laws::{edges_suffice, none_lawful, refusal_is_final};

@@ -7,7 +7,7 @@ use crate::circles::{ForbiddenTest, circles, total_store_circles};
 use crate::refused::{STALE, TAKEN};
 use crate::rows::{Row, event_of, id};
 use rv_book::{Book, Offer};
-use rv_cert::{Certificate, Forbidden, check};
+use rv_cert::{Certificate, Forbidden, confirm};
 use rv_event::{Entry, Fault, Id, MemoryModel, Reason};
 use std::alloc::Global;
 use std::process::Abort;
@@ -103,13 +103,13 @@ enum Refusal {
     Malformed(Fault),
 }
 
-/// Whether the verdict is about a circle of just these steps, and the checker takes it.
+/// Whether the verdict is about a circle of just these steps, and the checker confirms it.
 fn is_by_circle(forbidden: &Forbidden, steps: &[(Id, Reason)]) -> bool {
     let Certificate::Circle(circle) = forbidden.certificate() else {
         return false;
     };
     circle.as_slice() == steps
-        && check(
+        && confirm(
             forbidden.model(),
             forbidden.evidence(),
             forbidden.certificate(),

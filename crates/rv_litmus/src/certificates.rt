@@ -2,7 +2,7 @@
 //! is changed.
 use crate::circles::{ForbiddenTest, circles, total_store_circles};
 use crate::rows::{Bits, Row, X, id, load, log_of, row, store};
-use rv_cert::{Certificate, Circle, check};
+use rv_cert::{Certificate, Circle, check, confirm};
 use rv_event::{Entry, Id, MemoryModel, Op, Reason};
 use std::alloc::{AllocError, Global};
 use std::process::Abort;
@@ -183,4 +183,26 @@ fn stale_pairs_are_taken_and_exchanged_refused(rt: HostRuntime) {
         store: id!(0: 1),
     };
     assert!(rt; !check(MemoryModel::Rvwmo, log, &exchanged));
+}
+
+#[test]
+fn a_certificate_of_a_log_with_a_fault_is_not_confirmed(rt: HostRuntime) {
+    let stale = Certificate::Stale {
+        load: id!(0: 1),
+        store: id!(0: 0),
+    };
+    let log = log_of(rt.alloc(), &[store!(0: 0, X = 1), load!(0: 1, X = 0)]).expect(&rt, "memory");
+    assert!(rt; confirm(MemoryModel::Rvwmo, log.as_slice(), &stale));
+    // The version was written by another store.
+    let log = log_of(
+        rt.alloc(),
+        &[
+            store!(0: 0, X = 1),
+            load!(0: 1, X = 0),
+            store!(1: 0, X = 1),
+        ],
+    );
+    let log = log.expect(&rt, "memory");
+    assert!(rt; check(MemoryModel::Rvwmo, log.as_slice(), &stale));
+    assert!(rt; !confirm(MemoryModel::Rvwmo, log.as_slice(), &stale));
 }
