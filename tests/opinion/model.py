@@ -1,8 +1,10 @@
 """A second opinion on RVWMO and Ztso: events, logs, rules, lawful orders, faults and certificates.
 
-It is written from docs/MODEL.md, apart from the program, and looks for a lawful order by backtracking.
+It is written from docs/MODEL.md, apart from the program. It sorts the operations by what each axiom asks of them, and
+confirms the order by the axioms; of a small log it also looks for an order by backtracking, and compares the two.
 """
 
+import graphlib
 import re
 from dataclasses import dataclass
 
@@ -51,16 +53,29 @@ class Event:
 
 
 class Log:
-    """A list of entries (source, event), judged by one memory model."""
+    """A list of entries (source, event), judged by one memory model.
 
-    def __init__(self, entries, model):
+    What the rules order before an event depends on the events of its hart up to it. So it is found once, and kept for
+    all logs of one trace.
+    """
+
+    def __init__(self, entries, model, ordered_before=None):
         self.entries = entries
         self.model = model
         self.events = [event for _, event in entries]
+        self.ordered_before = {} if ordered_before is None else ordered_before
 
     def extended(self, source, event):
         """The log with one entry more."""
-        return Log(self.entries + [(source, event)], self.model)
+        return Log(self.entries + [(source, event)], self.model, self.ordered_before)
+
+    def by_rules(self, operation):
+        """The operations that a rule orders before this one."""
+        if operation not in self.ordered_before:
+            self.ordered_before[operation] = [
+                a for a in self.events if any(rule_orders(self, number, a, operation) for number in RULES)
+            ]
+        return self.ordered_before[operation]
 
     def of_hart(self, hart):
         """The events of a hart, in program order."""
@@ -233,8 +248,7 @@ def rule_orders(log, number, a, b):
 
 def keeps_program_order(log, placed, operation):
     """Each operation that a rule orders before this one is placed."""
-    before = (a for a in log.events if any(rule_orders(log, number, a, operation) for number in RULES))
-    return all(a in placed for a in before)
+    return all(a in placed for a in log.by_rules(operation))
 
 
 def keeps_versions(log, placed, operation):
@@ -267,9 +281,12 @@ def is_atomic(log, placed, operation):
 
 AXIOMS = (keeps_versions, has_load_value, is_atomic, keeps_program_order)
 
+# A log of more events is not searched by backtracking, which may take long.
+SMALL_LOG = 10
 
-def has_lawful_order(log):
-    """Some global memory order of the log is lawful. Which operation may come next depends on the set placed alone."""
+
+def can_be_ordered(log):
+    """Some order is found by backtracking. Which operation may come next depends on the set placed alone."""
     operations = [event for event in log.events if event.is_memory]
     dead_ends = set()
 
@@ -286,6 +303,61 @@ def has_lawful_order(log):
         return False
 
     return can_end(frozenset())
+
+
+def demands_of(log, operation):
+    """What the axioms ask of an operation's place: the operations before it, and those behind it."""
+    before, behind = list(log.by_rules(operation)), []
+    if operation.is_store:
+        others = [store for store in log.stores_of(operation.word) if store is not operation]
+        before += [store for store in others if store.wrote < operation.wrote]
+        behind += [store for store in others if store.wrote >= operation.wrote]
+    if operation.is_load:
+        writer = log.writer(operation.word, operation.read)
+        before += [writer] if writer and not is_earlier(writer, operation) else []
+        newer = [store for store in log.stores_of(operation.word) if store.wrote > operation.read]
+        behind += [store for store in newer if store is not operation]
+        # A newer store that is earlier in program order is a candidate wherever it stands.
+        behind += [operation for store in newer if is_earlier(store, operation)]
+    load = log.paired_load_reserved(operation)
+    if load:
+        writer = log.writer(load.word, load.read)
+        before += [writer] if writer else []
+        newer = (store for store in log.stores_of(load.word) if store.wrote > load.read)
+        behind += [store for store in newer if store.hart != operation.hart]
+    return before, behind
+
+
+def order_by_demands(log):
+    """The operations sorted by what the axioms ask of each, or None where that goes round in a circle."""
+    operations = [event for event in log.events if event.is_memory]
+    sorter = graphlib.TopologicalSorter({operation: [] for operation in operations})
+    for operation in operations:
+        before, behind = demands_of(log, operation)
+        if operation in before or operation in behind:
+            return None
+        sorter.add(operation, *before)
+        for other in behind:
+            sorter.add(other, operation)
+    try:
+        return list(sorter.static_order())
+    except graphlib.CycleError:
+        return None
+
+
+def is_lawful(log, order):
+    """The order is lawful, by the axioms."""
+    return all(axiom(log, order[:place], operation) for place, operation in enumerate(order) for axiom in AXIOMS)
+
+
+def has_lawful_order(log):
+    """Some global memory order of the log is lawful."""
+    order = order_by_demands(log)
+    if order is not None and not is_lawful(log, order):
+        raise AssertionError("the second opinion sorts operations in an order that is not lawful")
+    if len(log.events) <= SMALL_LOG and can_be_ordered(log) != (order is not None):
+        raise AssertionError("the second opinion finds by backtracking what it does not find by sorting")
+    return order is not None
 
 
 # Faults of an entry over the log before it, in their order: the fault's text, or None
@@ -329,14 +401,25 @@ def fault_6(log, source, event):
     return "no reservation" if not ends or ends[-1] != "LR" else None
 
 
+def fault_7(log, source, event):
+    """The hart has 4,096 events."""
+    return "hart full" if len(log.of_hart(event.hart)) >= 4096 else None
+
+
 def fault_8(log, source, event):
     """The hart's events so far came from another source."""
     others = any(earlier.hart == event.hart and other != source for other, earlier in log.entries)
     return "other source" if others else None
 
 
-# Fault 7 asks for 4,096 events, and fault 9 for more dependencies than a row may have: no trace made here has them.
-FAULTS = {1: fault_1, 2: fault_2, 3: fault_3, 4: fault_4, 5: fault_5, 6: fault_6, 8: fault_8}
+def fault_9(log, source, event):
+    """There are more than eight dependencies. No row has them: it is a fault of its trace before."""
+    return "too many dependencies" if len(event.dependencies) > 8 else None
+
+
+FAULTS = {
+    1: fault_1, 2: fault_2, 3: fault_3, 4: fault_4, 5: fault_5, 6: fault_6, 7: fault_7, 8: fault_8, 9: fault_9,
+}
 
 
 def fault_of(log, source, event):

@@ -23,11 +23,12 @@ def possible_outcomes(sources, model):
     events each source gave, as the merges of these have the same faults and the same lawful orders.
     """
     given, faults = zip(*(read_source(text) for text in sources))
-    outcomes = {}
+    outcomes, ordered_before = {}, {}
     whole = tuple(len(events) for events in given)
     accepted = [(0,) * len(given)]
     for arrived in accepted:
-        log = Log([(s, event) for s, events in enumerate(given) for event in events[: arrived[s]]], model)
+        entries = [(s, event) for s, events in enumerate(given) for event in events[: arrived[s]]]
+        log = Log(entries, model, ordered_before)
         if arrived == whole and not any(faults):
             outcomes[allowed_line(log)] = []
         for source, event in next_entries(given, arrived):

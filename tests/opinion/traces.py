@@ -8,6 +8,7 @@ from dataclasses import dataclass
 from opinion.model import Event, OPERATIONS, is_earlier
 
 LARGEST_NUMBER = 4_294_967_295
+FULL = 4_096
 HEADER = "hart,seq,op,word,read,wrote,ann,deps"
 
 
@@ -124,8 +125,8 @@ def random_dependencies(dice, operation, earlier):
     return tuple((dice.choice(letters), dice.choice(values)) for _ in range(dice.choice([1, 1, 1, 2, 3])))
 
 
-def random_events(dice, crossed):
-    """Events of some harts, each behind those of its hart, without versions.
+def random_events(dice, crossed, count):
+    """So many events of some harts, each behind those of its hart, without versions.
 
     Where they are crossed, each of two harts begins with the word that the other mostly takes afterwards, so that what
     a rule orders in one hart is seen by the other.
@@ -133,7 +134,7 @@ def random_events(dice, crossed):
     harts = dice.sample(range(16), 2 if crossed else dice.randint(1, 4))
     words = dice.sample(dice.choice([range(3), range(LARGEST_NUMBER + 1)]), 3 if crossed else dice.randint(1, 3))
     events = []
-    for _ in range(dice.choice([2, 3, 4, 5, 6, 6, 7, 7, 8, 8, 9, 9])):
+    for _ in range(count):
         hart = dice.choice(harts)
         earlier = [event for event in events if event.hart == hart]
         operation = random_operation(dice, earlier)
@@ -179,8 +180,8 @@ def random_order(dice, events, crossed):
     return order
 
 
-def give_versions(dice, order):
-    """Gives the versions that a global memory order says; a few loads get another one."""
+def give_versions(dice, order, changed):
+    """Gives the versions that a global memory order says; a load gets another one with this probability."""
     step = dice.choice([1, 1, 1, 7, LARGEST_NUMBER // 10])
     last = Counter()
     for store in order:
@@ -192,7 +193,7 @@ def give_versions(dice, order):
             stores = [s for s in order if s.is_store and s.word == load.word]
             seen = [s.wrote for s in stores if s is not load and (s in order[:place] or is_earlier(s, load))]
             load.read = max(seen, default=0)
-            if chance(dice, 0.12):
+            if chance(dice, changed):
                 load.read = step * dice.randint(0, len(stores) + 1)
 
 
@@ -245,17 +246,42 @@ def source_of_each(dice, events, count):
     return sources
 
 
+def small_events(dice):
+    """Two to nine events with versions, one of them odd at times."""
+    crossed = chance(dice, 0.6)
+    if crossed and chance(dice, 0.5):
+        events = shaped_events(dice)
+    else:
+        events = random_events(dice, crossed, dice.choice([2, 3, 4, 5, 6, 6, 7, 7, 8, 8, 9, 9]))
+    give_versions(dice, random_order(dice, events, crossed), 0.12)
+    if chance(dice, 0.12):
+        make_odd(dice, events)
+    return events
+
+
+def many_events(dice):
+    """Twenty to forty events with versions. Few loads get another one, so that some traces are allowed whole."""
+    events = random_events(dice, False, dice.randint(20, 40))
+    give_versions(dice, random_order(dice, events, False), dice.choice([0, 0.01, 0.05]))
+    return events
+
+
+def full_hart(dice):
+    """Events of a hart that has one too many: branches and fences, and another hart's store."""
+    hart = dice.randrange(16)
+    events = [Event(hart, seq, dice.choice(["BR", "FT"])) for seq in range(dice.choice([FULL, FULL + 1]))]
+    events.insert(dice.randrange(len(events)), Event((hart + 1) % 16, 0, "S", 0, 0, 1))
+    return events
+
+
 def random_trace(seed):
     """The trace that has this seed."""
     dice = random.Random(seed)
-    crossed = chance(dice, 0.6)
-    events = shaped_events(dice) if crossed and chance(dice, 0.5) else random_events(dice, crossed)
-    give_versions(dice, random_order(dice, events, crossed))
-    if chance(dice, 0.12):
-        make_odd(dice, events)
+    size = dice.choices([small_events, many_events, full_hart], [0.95, 0.0497, 0.0003])[0]
+    events = size(dice)
     if chance(dice, 0.3):
         events.sort(key=lambda event: event.hart)
-    count = dice.choice([1, 1, 2, 3])
+    count = dice.choice([1, 1, 2, 3]) if size is small_events else 1
     rows = [row_of(event) for event in events]
     sources = source_of_each(dice, events, count)
     if chance(dice, 0.06):
