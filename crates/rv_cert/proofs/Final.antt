@@ -1,6 +1,7 @@
 -- A certificate stays one when the log grows.
 use Rattle.rv_event.specs.declared.memory_model.MemoryModel.{MemoryModel}
 use Rattle.std.proofs.Common.{List, [], ◌∷◌}
+use Rattle.rv_event.proofs.Beginnings.{indexed-beginning, numbered_from_WellFormed}
 use Rattle.rv_event.proofs.Indexed.{Indexed, indexed_from_WellFormed}
 use Rattle.rv_event.proofs.Growing.{Grows, grows_from_Continues, IsEdge-grows, IsStale-grows}
 use Rattle.rv_event.specs.Log.{events}
@@ -38,14 +39,16 @@ module _ (model : MemoryModel) (old new : List Event) (grows : Grows old new) (k
 -- a certificate leaves no lawful order for any well formed log that continues this one
 pub no_longer_log :
     (model : MemoryModel) (log longer : List Entry) (c : Certificate) (order : List Id) →
-    WellFormed log → WellFormed longer → Continues log longer →
+    WellFormed longer → Continues log longer →
     Certifies model (events log) c → Lawful model (events longer) order → ⊥
-no_longer_log model log longer c order ok ok' continues certifies lawful =
+no_longer_log model log longer c order ok continues certifies lawful =
+    let grows = grows_from_Continues log longer continues in
+    let known = indexed_from_WellFormed longer ok in
+    let beginning = indexed-beginning (events log) (events longer) grows known (numbered_from_WellFormed longer ok) in
     no_certificate model (events longer) order lawful c
-    (Certifies-grows model (events log) (events longer) (grows_from_Continues log longer continues)
-    (indexed_from_WellFormed log ok) (indexed_from_WellFormed longer ok') c certifies)
+    (Certifies-grows model (events log) (events longer) grows beginning known c certifies)
 
 -- so a refusal is final
 pub final_from_refusal : (f : Refusal) → IsRefusal f.model f.evidence f.certificate → IsFinal f.model f.evidence
 final_from_refusal f is longer order ok continues lawful =
-    no_longer_log f.model f.evidence longer f.certificate order is.well_formed ok continues is.certifies lawful
+    no_longer_log f.model f.evidence longer f.certificate order ok continues is.certifies lawful

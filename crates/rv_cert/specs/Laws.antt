@@ -38,5 +38,5 @@ EdgesSuffice =
 abbrev pub RefusalIsFinal : Type 0
 RefusalIsFinal =
     (model : MemoryModel) (log longer : List Entry) (c : Certificate) (order : List Id) →
-    WellFormed log → WellFormed longer → Continues log longer →
+    WellFormed longer → Continues log longer →
     Certifies model (events log) c → Lawful model (events longer) order → ⊥

@@ -158,3 +158,7 @@ Condition-number model log a b k h = grind (arith, common_steps)
 -- and none has the number 0
 pub Condition-above : (model : MemoryModel) (log : List Event) (a b : Event) (k : ℕ) → Condition model log a b k → 0 < k
 Condition-above model log a b k h = grind (arith, common_steps)
+
+-- there are thirteen rules
+pub Condition-below : (model : MemoryModel) (log : List Event) (a b : Event) (k : ℕ) → Condition model log a b k → k < 14
+Condition-below model log a b k h = grind (arith, common_steps)

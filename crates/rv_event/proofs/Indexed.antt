@@ -60,7 +60,7 @@ writer-append : (log more : List Event) (word version : ℕ) (w : Event) → wri
 writer-append log more word version w e = search (cond, find, none-some, find-append_some, rules)
 
 -- the store passes the test for the writer of its version
-wrote-own : (e : Event) → IsStore e → (is_store e.op && ((e.word == e.word) && (e.wrote == e.wrote))) ≡ true
+pub wrote-own : (e : Event) → IsStore e → (is_store e.op && ((e.word == e.word) && (e.wrote == e.wrote))) ≡ true
 wrote-own e s = and_from _ _ s (and_from _ _ (eq-eqb e.word e.word refl) (eq-eqb e.wrote e.wrote refl))
 
 module _ (log : List Event) (e : Event) (known : Indexed log) (sound : Sound log e) where
@@ -175,7 +175,8 @@ sound_from_none log e more none = grind (arith, common_steps)
 pub sound_of : (log : List Event) (e : Event) → event_fault log e ≡ None → Sound log e
 sound_of log e none = sound_from_none log e (deps_fault e ∷ []) none
 
-all_sound : (log before rest : List Entry) → WellFormed log → log ≡ before ++ rest →
+-- each event of a well formed log is sound over those before it
+pub all_sound : (log before rest : List Entry) → WellFormed log → log ≡ before ++ rest →
     AllSound (events before) (events rest)
 all_sound log before [] ok e = tt
 all_sound log before (x ∷ rest) ok e =

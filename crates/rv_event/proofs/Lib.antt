@@ -5,6 +5,7 @@ pub mod Conditions
 pub mod Contexts
 pub mod Equal
 pub mod Growing
+pub mod Beginnings
 pub mod Indexed
 pub mod LawfulMerge
 pub mod Merged

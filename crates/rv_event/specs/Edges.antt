@@ -79,6 +79,20 @@ IsLowest model log from FromRead to = Unit {0}
 IsLowest model log from AtomicIn to = Unit {0}
 IsLowest model log from AtomicOut to = Unit {0}
 
+-- the places of the reasons in their order: the rules by their numbers, 1 to 13, and then these
+abbrev pub reason_place : Reason → ℕ
+reason_place (Preserved k) = k
+reason_place Coherence = 14
+reason_place ReadsFrom = 15
+reason_place FromRead = 16
+reason_place AtomicIn = 17
+reason_place AtomicOut = 18
+
+-- for no reason before this one is there an edge between the two
+abbrev pub IsFirstReason : MemoryModel → List Event → Id → Reason → Id → Type 0
+IsFirstReason model log from reason to =
+    (other : Reason) → reason_place other < reason_place reason → IsEdge model log from other to → ⊥
+
 -- a load, and an earlier store of its hart and word with a higher version than the load returned
 pub record IsStale (log : List Event) (load store : Id) : Type 0 where
   pub a : Event

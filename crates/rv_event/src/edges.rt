@@ -4,7 +4,7 @@ ghost use Rattle.rv_event.specs.Log.{events, named, writer};
 ghost use Rattle.rv_event.specs.Operations.{IsStore};
 ghost use Rattle.rv_event.specs.Relations.{Paired};
 ghost use Rattle.rv_event.specs.Edges.{IsCoherence, IsReadsFrom, IsFromRead, IsAtomicIn, IsAtomicOut};
-ghost use Rattle.rv_event.specs.Edges.{HasReason, IsEdge, IsLowest, IsStale};
+ghost use Rattle.rv_event.specs.Edges.{HasReason, IsEdge, IsFirstReason, IsStale};
 ghost use Rattle.rv_event.specs.declared.reason.Reason.{Reason};
 
 use crate::event::{Entry, Event, Id};
@@ -102,7 +102,7 @@ pub fn is_edge(model: MemoryModel, log: &[Entry], from: Id, reason: Reason, to: 
 /// It costs a few passes over the log for each rule and reason.
 pub fn find_reason(model: MemoryModel, log: &[Entry], from: Id, to: Id) -> Option<Reason>
     ensures some { IfSome result (λ r. IsEdge model (events log.now) from r to) }
-    ensures lowest { IfSome result (λ r. IsLowest model (events log.now) from r to) }
+    ensures first { IfSome result (λ r. IsFirstReason model (events log.now) from r to) }
     ensures none { IfNone result ((r : Reason) → IsEdge model (events log.now) from r to → ⊥) }
 {
     if let Some(rule) = lowest_rule(model, log, from, to) {

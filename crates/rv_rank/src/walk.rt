@@ -79,7 +79,6 @@ impl Walk {
     /// Begins a round: makes room in the list of visits for two visits of each node, empties it,
     /// and adds one to `rounds`, wrapping. Out of memory, the only error, leaves all as it was.
     pub fn begin(&mut self) -> Result<(), AllocError>
-        requires { length self.old.edges ≤ 65536 }
         ensures edges { self.new.edges ≡ self.old.edges }
         ensures visits { OnOk result (self.new.visits ≡ []) }
         ensures room { OnOk result (2 * length self.old.edges ≤ self.new.room) }

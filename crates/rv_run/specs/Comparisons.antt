@@ -44,10 +44,12 @@ AgreesWith model fed (Forbidden f) =
     (f.model ≡ model) × IsBegun f.evidence fed × WellFormed f.evidence × IsFinal model f.evidence
 AgreesWith model fed (Malformed m) = (m.model ≡ model) × IsBegun m.evidence fed × IsMalformed m.evidence m.fault
 
--- the feeder of a source ended by this fault
+-- the feeder of a source ended by this fault, and that of no lower source by one
 pub record EndedBy (fed : List Fed) (source : ℕ) (fault : TraceFault) : Type 0 where
   pub low : source < length fed
   pub end_is : (f : Fed) → (slice_index_or fed source f).end ≡ Fault fault
+  pub lowest :
+      (i : ℕ) (f : Fed) (other : TraceFault) → i < source → (slice_index_or fed i f).end ≡ Fault other → ⊥
 
 -- a fault of a source is the one by which its feeder ended
 abbrev pub IsFaultIn : List Fed → RunFault → Type 0

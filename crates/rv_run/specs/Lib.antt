@@ -7,3 +7,4 @@ pub mod Outcomes
 pub mod Ranges
 pub mod Replays
 pub mod Sources
+pub mod Turns

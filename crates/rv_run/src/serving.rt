@@ -1,5 +1,6 @@
 //! Chunks of the carrier, offered to the gate.
 ghost use Rattle.std.specs.Prelude.{◌≡◌};
+ghost use Rattle.rv_run.specs.Turns.{IsTurnOf};
 ghost use Rattle.rv_verdict.specs.Known.{StillKnows};
 
 use crate::gate::{Awaited, Gate};
@@ -47,7 +48,8 @@ enum Turn {
 /// What an answer makes of the chunk that was offered. A verdict is raised in the cell.
 fn settle(alloc: Global, cell: &VerdictCell, note: &mut VerdictNote, offer: ChunkOffer) -> Turn
     requires { note.old.cell ≡ cell.now }
-    ensures { StillKnows note.old note.new }
+    ensures note { StillKnows note.old note.new }
+    ensures turn { IsTurnOf offer note.new result }
 {
     match offer {
         ChunkOffer::Applied(_) | ChunkOffer::Already => Turn::Applied,

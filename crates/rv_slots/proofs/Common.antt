@@ -17,7 +17,7 @@ pub use Rattle.rv_slotcore.specs.Places.{claimed_bit, done_bit, full_bit, genera
 pub use Rattle.rv_slotcore.specs.Places.{seats_at_most, slot_words}
 pub use Rattle.rv_slotcore.specs.Word.{Reads}
 pub use Rattle.rv_slots.specs.Calls.{IsFree, IsSamePinned, IsUnpin, filling_view, pinned_view, stray_view, view_of}
-pub use Rattle.rv_slots.specs.Carried.{IsDone, IsLetGo, IsRefused, IsSameBook}
+pub use Rattle.rv_slots.specs.Carried.{AreBusy, IsDone, IsLetGo, IsSameBook}
 pub use Rattle.rv_slots.specs.Knows.{IsAlone, IsFilling, IsIdle, IsPinned, IsStray, pin_record, pinned_at}
 pub use Rattle.rv_slots.specs.Lines.{IsNewest, IsText, Meet, ToldFor, claim_state, claim_told, claimed, cut_left}
 pub use Rattle.rv_slots.specs.Lines.{cut_right, done_told, finished, free_told, freed, fresh, fresh_seats, get_told}

@@ -1,12 +1,9 @@
 -- What the calls of a carrier over the table do, in the words of the table's own calls.
-use Rattle.std.specs.Prelude.{◌≡◌, ◌<◌, ◌≤◌, ◌+◌, ◌⊎◌, ℕ, Bool, true, false, List, Some, drop}
-use Rattle.std.specs.Int.{bit_at}
+use Rattle.std.specs.Prelude.{◌≡◌, ◌<◌, ◌≤◌, ◌+◌, ◌⊎◌, ℕ, zero, suc, Bool, true, false, List, drop}
 use Rattle.rv_chunk.specs.Chunks.{chunk_text}
 use Rattle.rv_chunk.specs.Packing.{Content}
-use Rattle.rv_slotcore.specs.Places.{claimed_bit}
 use Rattle.rv_slotcore.specs.Machine.{all_put, put_words}
 use Rattle.rv_slots.specs.declared.views.SeatView.{SeatView}
-use Rattle.rv_slots.specs.declared.views.Kind.TheVariants.{Claiming}
 use Rattle.rv_slots.specs.declared.seats.Seat.{Seat}
 use Rattle.rv_slots.specs.declared.seats.Filling.{Filling}
 use Rattle.rv_slots.specs.declared.seats.Pinned.{Pinned}
@@ -18,7 +15,7 @@ use Rattle.rv_slots.specs.declared.carrier.Put.{Put}
 use Rattle.rv_slots.specs.declared.carrier.Put.TheVariants.{Placed, Busy}
 use Rattle.rv_slots.specs.declared.carrier.Looked.{Looked}
 use Rattle.rv_slots.specs.declared.carrier.Looked.TheVariants.{Found, Nothing}
-use Rattle.rv_slots.specs.Lines.{last_step, put_in, pin_words, published, finished}
+use Rattle.rv_slots.specs.Lines.{put_in, pin_words, published, finished}
 use Rattle.rv_slots.specs.Calls.{view_of, filling_view, pinned_view, stray_view}
 use Rattle.rv_slots.specs.Calls.{IsClaim, IsPin, IsUnpin, IsFree}
 
@@ -36,18 +33,17 @@ IsFilled f words r = (p : SeatView) × IsSameBook (filling_view f) p
     × (all_put (put_in p.state) ≡ true) × (put_words (put_in p.state) ≡ words)
     × (found : ℕ) × (view_of r ≡ published p f.slot found)
 
--- the seat's last step was a claim of the slot before i, which found it claimed
-abbrev pub IsRefused : SeatView → ℕ → Type 0
-IsRefused p i = (k : ℕ) × (k + 1 ≡ i) × (found : ℕ)
-    × (p.last ≡ last_step Claiming k (Some found)) × (bit_at found claimed_bit ≡ 1)
+-- the slots before i were claimed one after another, and each was found claimed
+abbrev pub AreBusy : ℕ → Seat → Seat → Type 0
+AreBusy zero q r = r ≡ q
+AreBusy (suc i) q r = (s : Seat) × AreBusy i q s × IsClaim s i (claim.Busy r)
 
--- a slot was claimed and filled with the chunk's words; or the last one was found claimed too, and
--- nothing is known beyond that
+-- the first slot that was not found claimed was filled with the chunk's words; or each was found
+-- claimed
 abbrev pub IsPutOf : ℕ → Seat → List ℕ → Seat → Put → Type 0
-IsPutOf count q words r Placed = (i : ℕ) × (i < count)
-    × (s : Seat) × IsSameBook (view_of q) (view_of s)
+IsPutOf count q words r Placed = (i : ℕ) × (i < count) × (s : Seat) × AreBusy i q s
     × (f : Filling) × IsClaim s i (claim.Filling f) × IsFilled f words r
-IsPutOf count q words r Busy = IsSameBook (view_of q) (view_of r) × IsRefused (view_of r) count
+IsPutOf count q words r Busy = AreBusy count q r
 
 -- the pin's record is whole, and its words are these
 abbrev pub IsRead : Pinned → List ℕ → Pinned → Type 0

@@ -10,3 +10,4 @@ pub mod Says
 pub mod Here
 pub mod Held
 pub mod Leases
+pub mod SlotLists

@@ -1,6 +1,7 @@
 //! Slots under one lock.
-ghost use Rattle.std.specs.Prelude.{◌≡◌, ◌↔◌, ◌<◌, ◌⊎◌, IfOk, Err, vec_len, ⊤};
+ghost use Rattle.std.specs.Prelude.{◌≡◌, ◌↔◌, ◌<◌, ◌⊎◌, IfOk, IfSome, IsNone, Err, vec_len, ⊤};
 ghost use Rattle.std.specs.List.{range_with_len};
+ghost use Rattle.rv_slots.specs.SlotLists.{IsChunkOf};
 ghost use Rattle.rv_slots.specs.Leases.{IsLookOf};
 ghost use Rattle.rv_slots.specs.declared.fault.SlotsFault.TheVariants as fault;
 
@@ -31,7 +32,10 @@ impl Table {
     }
 
     /// The chunk of a slot, if there is such a slot and it can be read.
-    fn read(&mut self, index: usize) -> Option<Chunk> {
+    fn read(&mut self, index: usize) -> Option<Chunk>
+        ensures chunk { IfSome result (IsChunkOf self.old.slots.items index) }
+        ensures nothing { IsNone result → self.new.slots.items ≡ self.old.slots.items }
+    {
         self.slots.get_mut(index)?.read()
     }
 

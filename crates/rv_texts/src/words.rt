@@ -53,6 +53,26 @@ fn every_option_is_read(rt: HostRuntime) -> Result<(), Fail> {
 }
 
 #[test]
+fn options_stand_before_several_files(rt: HostRuntime) -> Result<(), Fail> {
+    let words = ["--slots", "2", "--json", "a", "b"];
+    let asked = asked(rt.alloc(), words.as_slice())?;
+    assert_eq!(rt; (asked.workers, asked.slots), (4, 2));
+    assert!(rt; asked.json);
+    assert!(rt; has_files(&asked, &["a", "b"]));
+    Ok(())
+}
+
+#[test]
+fn nine_workers_are_taken_and_twenty_five_refused(rt: HostRuntime) -> Result<(), Fail> {
+    let words = ["--workers", "9"];
+    let nine = asked(rt.alloc(), words.as_slice())?;
+    assert_eq!(rt; (nine.workers, nine.slots), (9, 8));
+    let words = ["--workers", "25"];
+    assert!(rt; asked(rt.alloc(), words.as_slice()).is_err());
+    Ok(())
+}
+
+#[test]
 fn words_may_come_in_any_order(rt: HostRuntime) -> Result<(), Fail> {
     let words = [
         "b",

@@ -253,6 +253,16 @@ fn readers_of(rt: &impl Abort, alloc: Global, sources: &[&str]) -> Vec<Cursor<Ve
     readers
 }
 
+/// What sources of these rows come to, with these settings.
+pub(super) fn run_rows_with<RT: Threads + Wait + Sync + Abort>(
+    rt: &RT,
+    alloc: Global,
+    sources: &[&str],
+    settings: Settings,
+) -> Result<Outcome, RunFault> {
+    run(rt, alloc, readers_of(rt, alloc, sources), settings)
+}
+
 /// What sources of these rows come to under RVWMO, with so many workers and slots.
 pub(super) fn run_rows<RT: Threads + Wait + Sync + Abort>(
     rt: &RT,
@@ -266,7 +276,7 @@ pub(super) fn run_rows<RT: Threads + Wait + Sync + Abort>(
         slots,
         model: MemoryModel::Rvwmo,
     };
-    run(rt, alloc, readers_of(rt, alloc, sources), settings)
+    run_rows_with(rt, alloc, sources, settings)
 }
 
 /// The same, over slots under one lock.

@@ -1,7 +1,7 @@
 //! Whole runs in threads.
 use super::rows::{
     Class, FENCED_STORE_BUFFERING, HEADER, LitmusTest, STORE_BUFFERING, class_of, litmus_tests,
-    read_rows, run_rows, run_rows_locked,
+    read_rows, run_rows, run_rows_locked, run_rows_with,
 };
 use rv_cert::check;
 use rv_event::{Fault, Id, MemoryModel};
@@ -11,19 +11,30 @@ use std::alloc::Global;
 use std::io;
 use std::io::Read;
 use std::process::Abort;
+use std::sync::Wait;
+use std::thread::Threads;
 
-/// The class of what a pass over the entries of both harts comes to.
-fn replayed_class(rt: &impl Abort, alloc: Global, harts: &[&str]) -> Class {
+/// What a pass over the entries of both harts comes to.
+fn replayed(rt: &impl Abort, alloc: Global, model: MemoryModel, harts: &[&str]) -> Outcome {
     let mut entries = Vec::new(alloc);
     let mut source = 0u8;
     for rows in harts {
         read_rows(rt, alloc, rows, source, &mut entries);
         source = source.wrapping_add(1);
     }
-    let outcome = replay(alloc, MemoryModel::Rvwmo, entries.as_slice()).expect(rt, "memory");
-    let class = class_of(&outcome);
-    drop(outcome);
-    class
+    replay(alloc, model, entries.as_slice()).expect(rt, "memory")
+}
+
+/// The counts of an outcome that is allowed.
+fn counts_of(outcome: &Outcome) -> Option<[usize; 3]> {
+    match outcome {
+        Outcome::Allowed {
+            events,
+            operations,
+            waiting,
+        } => Some([*events, *operations, *waiting]),
+        Outcome::Forbidden(_) | Outcome::Malformed(_) => None,
+    }
 }
 
 /// Wants an outcome of the class that the test says.
@@ -37,7 +48,9 @@ fn assert_class(rt: &impl Abort, test: &LitmusTest, ran: &Result<Outcome, RunFau
 #[test]
 fn same_class(rt: HostRuntime) {
     for test in litmus_tests() {
-        assert!(rt; replayed_class(&rt, rt.alloc(), &test.harts) == test.class);
+        let pass = replayed(&rt, rt.alloc(), MemoryModel::Rvwmo, &test.harts);
+        assert!(rt; class_of(&pass) == test.class, "{}", test.name);
+        drop(pass);
         for (workers, slots) in [(1, 2), (8, 16), (24, 16)] {
             let table = run_rows(&rt, rt.alloc(), &test.harts, workers, slots);
             assert_class(&rt, test, &table);
@@ -49,14 +62,36 @@ fn same_class(rt: HostRuntime) {
     }
 }
 
+/// With ample memory each run of the rows has an outcome, and the counts of a pass.
+fn assert_counted(
+    rt: &(impl Threads + Wait + Sync + Abort),
+    alloc: Global,
+    model: MemoryModel,
+    test: &LitmusTest,
+) {
+    let pass = replayed(rt, alloc, model, &test.harts);
+    let counts = counts_of(&pass);
+    drop(pass);
+    for (workers, slots) in [(1, 2), (4, 8), (24, 16)] {
+        let settings = Settings {
+            workers,
+            slots,
+            model,
+        };
+        let ran = run_rows_with(rt, alloc, &test.harts, settings);
+        match &ran {
+            Ok(outcome) => assert_eq!(rt; counts_of(outcome), counts, "{}", test.name),
+            Err(fault) => panic!(rt; "{}: {fault}", test.name),
+        }
+        drop(ran);
+    }
+}
+
 #[test]
 fn ample_memory(rt: HostRuntime) {
     for test in litmus_tests() {
-        for _ in 0..3 {
-            let ran = run_rows(&rt, rt.alloc(), &test.harts, 4, 8);
-            assert!(rt; ran.is_ok(), "{}", test.name);
-            drop(ran);
-        }
+        assert_counted(&rt, rt.alloc(), MemoryModel::Rvwmo, test);
+        assert_counted(&rt, rt.alloc(), MemoryModel::Ztso, test);
     }
 }
 

@@ -1,5 +1,15 @@
-use Rattle.std.proofs.Common.{◌<◌, arith, ◌∙◌}
+use Rattle.std.proofs.Common.{◌<◌, arith, ◌∙◌, add-one, subst, sym, ℕ}
+use Rattle.rv_slots.proofs.Common.{AreBusy}
 use Rattle.rv_slots.proofs.table_carrier.TableCarrierCarrier.put_chunk.Goals as goal
+
+-- One slot more was found claimed.
+pub loop-slot-preserved : goal.loop-slot-preserved
+loop-slot-preserved g c =
+    let i = c.loop-slot.invariant in (
+      c.in-Busy.ensures.3 ∙ i.0,
+      i.1,
+      rw add-one (c.loop-slot.seat, i.2, c.in-Busy.ensures),
+    )
 
 pub returns-in-Filling-clause-put : goal.returns-in-Filling-clause-put
 returns-in-Filling-clause-put g c =
