@@ -196,11 +196,7 @@ fn a_certificate_of_a_log_with_a_fault_is_not_confirmed(rt: HostRuntime) {
     // The version was written by another store.
     let log = log_of(
         rt.alloc(),
-        &[
-            store!(0: 0, X = 1),
-            load!(0: 1, X = 0),
-            store!(1: 0, X = 1),
-        ],
+        &[store!(0: 0, X = 1), load!(0: 1, X = 0), store!(1: 0, X = 1)],
     );
     let log = log.expect(&rt, "memory");
     assert!(rt; check(MemoryModel::Rvwmo, log.as_slice(), &stale));
