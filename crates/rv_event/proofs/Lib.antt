@@ -3,6 +3,7 @@ pub mod Bounded
 pub mod Checked
 pub mod Conditions
 pub mod Contexts
+pub mod DepTexts
 pub mod Equal
 pub mod Growing
 pub mod Beginnings

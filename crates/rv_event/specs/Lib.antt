@@ -9,5 +9,6 @@ pub mod Operations
 pub mod Orders
 pub mod Preserved
 pub mod Relations
+pub mod Rows
 pub mod Texts
 pub mod WellFormed

@@ -24,6 +24,11 @@ is_store _ = false
 abbrev pub is_memory : Op → Bool
 is_memory op = is_load op || is_store op
 
+-- it names a word; a failed SC does, and accesses none
+abbrev pub has_word : Op → Bool
+has_word ScFailed = true
+has_word op = is_memory op
+
 abbrev pub is_amo : Op → Bool
 is_amo Amo = true
 is_amo _ = false

@@ -69,7 +69,7 @@ pub enum Op {
 }
 
 impl Op {
-    ghost use Rattle.rv_event.specs.Operations.{is_load, is_store, is_memory, is_exclusive};
+    ghost use Rattle.rv_event.specs.Operations.{is_load, is_store, is_memory, has_word, is_exclusive};
 
     /// Whether it loads a word: a load, an LR or an AMO (manual, section 14.1, "Memory Model
     /// Primitives").
@@ -91,6 +91,13 @@ impl Op {
         ensures { result ≡ is_memory self }
     {
         self.is_load() || self.is_store()
+    }
+
+    /// Whether it names a word: a memory operation, or a failed SC.
+    pub fn has_word(self) -> bool
+        ensures { result ≡ has_word self }
+    {
+        self.is_memory() || matches!(self, Op::ScFailed)
     }
 
     /// Whether it opens a reservation or ends one: an LR, an SC or a failed SC.

@@ -11,6 +11,7 @@
 //!   [`context`] has the faults of an event by what a log tells of it, for the reference
 //!   implementation's scans and for whoever keeps an index.
 //! - [`laws`]: what the definitions say of one another.
+//! - `text`: the row of a trace that an event is printed as.
 //!
 //! It stands on std alone. Its one contract to all others: what the reference implementation
 //! answers is what the definition says.
@@ -29,6 +30,7 @@ mod reason;
 mod relations;
 mod rules;
 mod search;
+mod text;
 
 pub use context::{Context, find_deps_fault, first_fault, is_bad_dependency};
 pub use edges::{find_reason, is_edge, is_stale};
