@@ -3,3 +3,8 @@ pub mod Parts
 pub mod Records
 pub mod Rests
 pub mod Streams
+pub mod WrittenDeps
+pub mod WrittenMarks
+pub mod WrittenNumbers
+pub mod WrittenRows
+pub mod WrittenTraces

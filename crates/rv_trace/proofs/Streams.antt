@@ -1,16 +1,17 @@
 -- What a row does to the stream that is left.
 use Rattle.std.proofs.Common.{rules, ◌≡◌, ◌≢◌, ◌∙◌, inl, inr, ◌∷◌, [], ℕ, ◌+◌, ◌<◌, ◌≤◌, List, Option, None, Some}
-use Rattle.std.proofs.Common.{Ok, Err, true, false, refl, option_map, nat_lt, arith}
+use Rattle.std.proofs.Common.{Ok, Err, Result, ap, sym, true, false, refl, option_map, nat_lt, arith}
 use Rattle.csv.specs.Records.{Row, fields_of}
 use Rattle.rv_trace.specs.declared.fault.FaultKind.{FaultKind}
 use Rattle.rv_trace.specs.declared.fault.FaultKind.TheVariants as fault
+use Rattle.rv_trace.specs.declared.fault.TraceFault.{TraceFault}
 use Rattle.rv_event.specs.declared.event.Event.{Event}
 use Rattle.rv_trace.specs.Faults.{IsOfTextOrMemory, is_of_text}
 use Rattle.rv_trace.specs.Row.{Fields, event_of}
 use Rattle.rv_trace.specs.Rows.{NoRow, TakesRow}
 use Rattle.rv_trace.specs.Source.{Stream, after_row, fault_at, fails_at, is_header, records_say, row_says}
 use Rattle.rv_trace.specs.Source.{rows_say, whole}
-use Rattle.rv_trace.specs.Trace.{GoesOn, IsFaultOf, IsWhole, TakesEvent}
+use Rattle.rv_trace.specs.Trace.{GoesOn, HasHeader, IsFaultOf, IsWhole, TakesEvent}
 
 header-goes : (rs ts : List Fields) (h : Fields) → rs ≡ h ∷ ts → is_header h ≡ true → records_say rs ≡ rows_say 1 ts
 unfolding records_say
@@ -39,6 +40,25 @@ pub header-taken : (old new : Option (List Fields)) (row : Row) → TakesRow old
     → is_header (fields_of row) ≡ true
     → GoesOn (option_map records_say old) (option_map (rows_say 1) new)
 header-taken old new row h l = search (header-goes, rules)
+
+row-begun : (r : Result Event FaultKind) (s : Stream) → after_row 1 r s ≡ fails_at fault.Header 0 → ⊥
+row-begun (Ok e) s same = let bad : e ∷ s.events ≡ [] = ap (λ (t : Stream). t.events) same in cc bad
+row-begun (Err k) s same =
+    let ends : Some (fault_at k 1) ≡ Some (fault_at fault.Header 0) = ap (λ (t : Stream). t.end) same in
+    let bad : fault_at k 1 ≡ fault_at fault.Header 0 = cc ends in
+    absurd (omega (arith, ap (λ (f : TraceFault). f.row) bad))
+
+rows-header : (ts : List Fields) → rows_say 1 ts ≡ fails_at fault.Header 0 → ⊥
+unfolding rows_say
+rows-header [] same = let bad : None ≡ Some (fault_at fault.Header 0) = ap (λ (t : Stream). t.end) same in cc bad
+rows-header (r ∷ rs) same = row-begun (row_says 1 r) (rows_say 2 rs) same
+
+-- where it was, the source has one
+pub header-begun : (old new : Option (List Fields)) → GoesOn (option_map records_say old) (option_map (rows_say 1) new)
+    → HasHeader (option_map records_say old)
+header-begun None new goes = tt
+header-begun (Some rs) None goes = absurd goes
+header-begun (Some rs) (Some ts) goes = λ same. rows-header ts (sym goes ∙ same)
 
 -- the first record is no header
 pub header-other : (old new : Option (List Fields)) (row : Row) → TakesRow old new row

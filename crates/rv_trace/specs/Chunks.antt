@@ -2,18 +2,21 @@
 use Rattle.std.specs.Prelude.{◌≡◌, ◌⊎◌, ◌++◌, ◌+◌, ◌*◌, ◌<◌, ◌≤◌, List, length, ℕ, Bool, true, false, Option, Some}
 use Rattle.std.specs.Prelude.{None, option_map, ⊤}
 use Rattle.rv_event.specs.declared.event.Event.{Event}
+use Rattle.rv_trace.specs.declared.fault.FaultKind.TheVariants as fault
 use Rattle.rv_trace.specs.declared.fault.TraceFault.{TraceFault}
 use Rattle.rv_trace.specs.Calls.{IsAtEnd}
 use Rattle.rv_trace.specs.Faults.{IsOutside, is_of_text}
 use Rattle.rv_trace.specs.Source.{Stream, source_says}
 use Rattle.rv_trace.specs.Trace.{TraceLeft}
 
--- Chunks: their source's number; the number of the next chunk; how many events the chunks given
--- have; what is still given, where the reader tells its bytes; whether the end has come; the fault
--- that is repeated; and whether the last read failed since the reader underneath refused.
+-- Chunks: their source's number; the number of the next chunk; whether the header is still to be
+-- read; how many events were read, which are those of the chunks given until a fault comes; what is
+-- still given, where the reader tells its bytes; whether the end has come; the fault that is
+-- repeated; and whether the last read failed since the reader underneath refused.
 pub record ChunksLeft : Type 0 where
   pub source : ℕ
   pub number : ℕ
+  pub unread : Bool
   pub given : ℕ
   pub stream : Option Stream
   pub ended : Bool
@@ -24,6 +27,7 @@ abbrev pub chunks_left : ℕ → ℕ → Option TraceFault → TraceLeft → Chu
 chunks_left source number fault trace = record {
   source = source;
   number = number;
+  unread = trace.unread;
   given = trace.given;
   stream = trace.stream;
   ended = trace.ended;
@@ -36,6 +40,7 @@ abbrev pub fresh_chunks : ℕ → Option (List ℕ) → ChunksLeft
 fresh_chunks source known = record {
   source = source;
   number = 0;
+  unread = true;
   given = 0;
   stream = option_map source_says known;
   ended = false;
@@ -68,6 +73,19 @@ IsFaultWithin None f = (is_of_text f.kind ≡ true) ⊎ IsOutside f.kind
 IsFaultWithin (Some s) f =
     ((is_of_text f.kind ≡ true) × (length s.events < 8) × (s.end ≡ Some f)) ⊎ IsOutside f.kind
 
--- the row of a fault: one of the eight rows after those given, or the header where none was given
-abbrev pub IsNearRow : ℕ → TraceFault → Type 0
-IsNearRow given f = ((given < f.row) × (f.row ≤ given + 8)) ⊎ ((f.row ≡ 0) × (given ≡ 0))
+-- The row that was being read: the one after the events that were read, of which the chunk would
+-- have taken fewer than eight; or the last of them, which no memory could be had to keep; or, where
+-- the header was still to be read, the header.
+abbrev pub IsAmong : Bool → ℕ → ℕ → TraceFault → Type 0
+IsAmong unread given read f =
+    (given ≤ read)
+    × (((f.row ≡ read + 1) × (read < given + 8))
+    ⊎ ((f.row ≡ read) × (given < read) × (read ≤ given + 8) × (f.kind ≡ fault.NoMemory))
+    ⊎ ((f.row ≡ 0) × (unread ≡ true) × (read ≡ 0)))
+
+-- the same of chunks, and of their trace
+abbrev pub IsReadingRow : ChunksLeft → ℕ → TraceFault → Type 0
+IsReadingRow old read f = IsAmong old.unread old.given read f
+
+abbrev pub IsTakingRow : TraceLeft → ℕ → TraceFault → Type 0
+IsTakingRow old read f = IsAmong old.unread old.given read f

@@ -10,3 +10,4 @@ pub mod Rows
 pub mod Source
 pub mod Steps
 pub mod Trace
+pub mod Written

@@ -1,7 +1,8 @@
 -- What a trace has left to give.
-use Rattle.std.specs.Prelude.{◌≡◌, ◌⊎◌, ◌∷◌, ◌+◌, ◌≤◌, ◌&&◌, List, ℕ, Bool, true, false, Option, Some, None}
+use Rattle.std.specs.Prelude.{◌≡◌, ◌⊎◌, ◌∷◌, ◌+◌, ◌≤◌, ◌≢◌, ◌&&◌, List, ℕ, Bool, true, false, Option, Some, None}
 use Rattle.std.specs.Prelude.{option_map, ⊤}
 use Rattle.rv_event.specs.declared.event.Event.{Event}
+use Rattle.rv_trace.specs.declared.fault.FaultKind.TheVariants as fault
 use Rattle.rv_trace.specs.declared.fault.TraceFault.{TraceFault}
 use Rattle.rv_trace.specs.declared.trace.Stage.{Stage}
 use Rattle.rv_trace.specs.declared.trace.Stage.TheVariants as stage
@@ -10,11 +11,12 @@ use Rattle.rv_trace.specs.Row.{Fields}
 use Rattle.rv_trace.specs.Rows.{RowsLeft}
 use Rattle.rv_trace.specs.Source.{Stream, fails_at, records_say, rows_say, source_says, whole}
 
--- A trace: its source's number; how many events it has given; what it still gives, where the reader
--- tells its bytes; whether it has come to the end; the fault that it repeats; and whether its last
--- read failed since the reader underneath refused.
+-- A trace: its source's number; whether its header is still to be read; how many events it has
+-- given; what it still gives, where the reader tells its bytes; whether it has come to the end; the
+-- fault that it repeats; and whether its last read failed since the reader underneath refused.
 pub record TraceLeft : Type 0 where
   pub source : ℕ
+  pub unread : Bool
   pub given : ℕ
   pub stream : Option Stream
   pub ended : Bool
@@ -25,6 +27,7 @@ pub record TraceLeft : Type 0 where
 abbrev pub fresh_trace : ℕ → Option (List ℕ) → TraceLeft
 fresh_trace source known = record {
   source = source;
+  unread = true;
   given = 0;
   stream = option_map source_says known;
   ended = false;
@@ -43,6 +46,12 @@ stream_left stage.Rows given left = option_map (rows_say (given + 1)) left
 stream_left stage.Ended given left = Some whole
 stream_left (stage.Failed f) given left = None
 
+abbrev pub is_unread : Stage → Bool
+is_unread stage.Start = true
+is_unread stage.Rows = false
+is_unread stage.Ended = false
+is_unread (stage.Failed f) = false
+
 abbrev pub has_ended : Stage → Bool
 has_ended stage.Start = false
 has_ended stage.Rows = false
@@ -58,6 +67,7 @@ fault_kept (stage.Failed f) = Some f
 abbrev pub trace_left : ℕ → ℕ → Stage → RowsLeft → TraceLeft
 trace_left source given s rows = record {
   source = source;
+  unread = is_unread s;
   given = given;
   stream = stream_left s given rows.left;
   ended = has_ended s;
@@ -94,6 +104,13 @@ abbrev pub IsFaultOf : Option Stream → TraceFault → Type 0
 IsFaultOf None f = (is_of_text f.kind ≡ true) ⊎ IsOutside f.kind
 IsFaultOf (Some s) f = ((is_of_text f.kind ≡ true) × (s ≡ fails_at f.kind f.row)) ⊎ IsOutside f.kind
 
--- the row of a fault: the row after those given, or the header where none was given
-abbrev pub IsAtRow : ℕ → TraceFault → Type 0
-IsAtRow given f = (f.row ≡ given + 1) ⊎ ((f.row ≡ 0) × (given ≡ 0))
+-- a known stream is not that of a source whose header is missing
+abbrev pub HasHeader : Option Stream → Type 0
+HasHeader None = ⊤
+HasHeader (Some s) = s ≢ fails_at fault.Header 0
+
+-- the row that was being read: the one after those given; or, where the header was still to be
+-- read, the header, and the first row only behind one
+abbrev pub IsAtRow : Bool → ℕ → Option Stream → TraceFault → Type 0
+IsAtRow false given left f = f.row ≡ given + 1
+IsAtRow true given left f = (given ≡ 0) × ((f.row ≡ 0) ⊎ ((f.row ≡ 1) × HasHeader left))

@@ -3,7 +3,8 @@ ghost use Rattle.std.specs.Prelude.{◌≡◌, ◌+◌, ◌*◌, ◌<◌, ◌≤
 ghost use Rattle.std.specs.Prelude.{IfOk, IfErr, IfSome, IsOkAnd, OnOk};
 ghost use Rattle.rv_chunk.specs.Chunks.{IsPackable};
 ghost use Rattle.rv_trace.specs.Calls.{IfFirst, IfGiven, IsAtEnd, IsReadWhere, OnEnd};
-ghost use Rattle.rv_trace.specs.Chunks.{IsFaultWithin, IsFullOrLast, IsNearRow, TakesEvents, fresh_chunks};
+ghost use Rattle.rv_trace.specs.Chunks.{IsFaultWithin, IsFullOrLast, IsReadingRow};
+ghost use Rattle.rv_trace.specs.Chunks.{IsTakingRow, TakesEvents, fresh_chunks};
 ghost use Rattle.rv_trace.specs.Faults.{NeverCsv};
 ghost use Rattle.rv_trace.specs.Trace.{IsWhole};
 
@@ -74,7 +75,7 @@ fn take_events<R: Read>(alloc: Global, trace: &mut Trace<R>) -> Result<Vec<Event
         → IsOkAnd result (λ v. v.items ≡ []) × (trace.new ≡ trace.old) }
     ensures good { OnOk result ((trace.new.fault ≡ None) × (trace.new.refused ≡ false)) }
     ensures fault { IfErr result (IsFaultWithin trace.old.stream) }
-    ensures row { IfErr result (IsNearRow trace.old.given) }
+    ensures row { IfErr result (IsTakingRow trace.old trace.new.given) }
     ensures read { IfErr result (IsReadWhere trace.new.refused) }
     ensures never { IfErr result NeverCsv }
 {
@@ -116,9 +117,9 @@ impl<R: Read> Chunks<R> {
     ///
     /// # Errors
     /// A fault inside the chunk is answered in its place, and the rows before it in that chunk are
-    /// not given. It is the fault that the source's text ends in, with its row; or `Read`, exactly
-    /// where the reader underneath refused a read; or `NoMemory`. Each call after a fault answers
-    /// the same fault, and reads nothing.
+    /// not given. It is the fault that the source's text ends in, with its row; or `Read`, only
+    /// where the reader underneath failed or refused a read; or `NoMemory`; these with the row that
+    /// was being read. Each call after a fault answers the same fault, and reads nothing.
     pub fn next_chunk(&mut self) -> Result<Option<Chunk>, TraceFault>
         ensures events { IfGiven result
             (λ c. TakesEvents self.old.stream self.new.stream c.events) }
@@ -139,7 +140,7 @@ impl<R: Read> Chunks<R> {
             → self.old.fault ≡ None → (result ≡ Ok None) × (self.new ≡ self.old) }
 
         ensures fault { IfFirst self.old.fault result (IsFaultWithin self.old.stream) }
-        ensures row { IfFirst self.old.fault result (IsNearRow self.old.given) }
+        ensures row { IfFirst self.old.fault result (IsReadingRow self.old self.new.given) }
         ensures read { IfFirst self.old.fault result (IsReadWhere self.new.refused) }
         ensures never { IfErr result NeverCsv }
         ensures keeps { IfErr result (λ f. self.new.fault ≡ Some f) }

@@ -5,6 +5,7 @@
 //!   from the left.
 //! - `counted`, `rows`: the records of a reader that may take no more than so many bytes and calls.
 //! - [`trace`], [`chunks`]: the events of a source, and the same in chunks.
+//! - [`laws`]: what is written from events is read as these.
 //! - `specs/`: the grammar of a row by cases, and what the bytes of a source say as a whole: its
 //!   events in order, and how it ends.
 //!
@@ -17,6 +18,7 @@ mod chunks;
 mod counted;
 mod dependency;
 mod fault;
+mod laws;
 mod number;
 mod operation;
 mod row;
@@ -25,4 +27,5 @@ mod trace;
 
 pub use chunks::Chunks;
 pub use fault::{FaultKind, TraceFault};
+pub use laws::{texts_tell_events, written_traces_are_read};
 pub use trace::Trace;

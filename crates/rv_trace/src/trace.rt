@@ -174,9 +174,9 @@ impl<R: Read> Trace<R> {
     /// The next event, and `None` from the end on.
     ///
     /// # Errors
-    /// The fault that the source's text ends in, with its row; or `Read`, exactly where the reader
-    /// underneath refused a read; or `NoMemory`. Each call after a fault answers the same fault,
-    /// and reads nothing.
+    /// The fault that the source's text ends in, with its row; or `Read`, only where the reader
+    /// underneath failed or refused a read; or `NoMemory`; these with the row that was being read.
+    /// Each call after a fault answers the same fault, and reads nothing.
     #[inline(always)]
     pub fn next_event(&mut self) -> Result<Option<Event>, TraceFault>
         ensures event { IfGiven result (TakesEvent self.old.stream self.new.stream) }
@@ -190,13 +190,16 @@ impl<R: Read> Trace<R> {
         ensures stays { self.old.ended ≡ true → (result ≡ Ok None) × (self.new ≡ self.old) }
 
         ensures fault { IfFirst self.old.fault result (IsFaultOf self.old.stream) }
-        ensures row { IfFirst self.old.fault result (IsAtRow self.old.given) }
+        ensures row { IfFirst self.old.fault result
+            (IsAtRow self.old.unread self.old.given self.old.stream) }
+        ensures stuck { IfErr result (λ _. self.new.given ≡ self.old.given) }
         ensures read { IfFirst self.old.fault result (IsReadWhere self.new.refused) }
         ensures never { IfErr result NeverCsv }
         ensures keeps { IfErr result (λ f. self.new.fault ≡ Some f) }
         ensures again { IfSome self.old.fault
             (λ f. (result ≡ Err f) × (self.new ≡ self.old)) }
 
+        ensures begun { OnOk result (self.new.unread ≡ false) }
         ensures good { OnOk result ((self.new.fault ≡ None) × (self.new.refused ≡ false)) }
         ensures source { self.new.source ≡ self.old.source }
     {

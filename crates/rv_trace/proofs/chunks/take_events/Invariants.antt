@@ -12,6 +12,7 @@ invariant-events g l = record {
   few : length l.events.items ≤ 8;
   count : l.trace.given ≡ l.fn.trace.given + length l.events.items;
   rows : l.trace.given ≤ 65536;
+  unread : l.trace.unread ≡ true → l.fn.trace.unread ≡ true;
   stays : l.fn.trace.ended ≡ true → (l.events.items ≡ []) × (l.trace ≡ l.fn.trace);
 }
 

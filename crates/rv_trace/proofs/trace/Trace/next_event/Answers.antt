@@ -1,0 +1,11 @@
+-- The row that was being read, by the stage.
+use Rattle.std.proofs.Common.{rules}
+use Rattle.rv_trace.proofs.Streams.{header-begun}
+use Rattle.rv_trace.proofs.trace.Trace.next_event.Goals as goal
+use Rattle.rv_trace.proofs.trace.Trace.next_event.Goals.{in-Start+in_default, in-Rows}
+
+pub returns-in-Err-taken-clause-row : goal.returns-in-Err-taken-clause-row
+returns-in-Err-taken-clause-row g c = elim c.match-self.branch [
+  | in-Start+in_default w ↦ search (header-begun, rules)
+  | in-Rows w ↦ search rules
+]
