@@ -89,10 +89,7 @@ publishes_go n slots id q i me fills all text below s k at small = let a = fills
     (state_changes n s.words c.slots i (bit_or w (2 ^ full_bit)) x k.table below
     (reads_full w (c.slots i) reads) refl)
     (subst (λ z. Fits p' z) (sym (put_here c.seats p.number r))
-    (record {
-      state = refl;
-      records = search (put_fits, rules);
-    }))
+    (record { state = refl; records = search (put_fits, rules) }))
     (λ t ne. put_else c.seats p.number t r ne)
     (marked_same c.slots (put_at c.slots i x) k.seat p.number p' k.marked
     (slot_same (λ z. z.done) c.slots i x refl) (slot_same (λ z. z.generation) c.slots i x refl)

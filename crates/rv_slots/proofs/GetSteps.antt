@@ -145,10 +145,7 @@ gets_go n slots id q i j me holds below within s k at small = let a = holds.alon
     (ap (λ (m : Moved). m.0) (moves_get c p.number j i (pinned_at p.state) was.0 in_seats
     (lt-ltb j 58 within) was.1)) (refl, refl)
     (loads n s.words c.slots (slot_words * i + (1 + j)) k.table)
-    (record {
-      state = f.fits.state;
-      records = grind (arith, common_steps);
-    })
+    (record { state = f.fits.state; records = grind (arith, common_steps) })
     (λ t ne. refl) (marked_same c.slots c.slots k.seat p.number p' k.marked (λ u. refl) (λ u. refl)
     (ap (λ (z : SeatView). z.dones) (sym f.is)) (ap (λ (z : SeatView). z.frees) (sym f.is)))
     (whole_with k.seat p.number p' r (with_word r j w) rs k.whole f.small

@@ -2,7 +2,7 @@
 use Rattle.rv_slots.proofs.Common.{seats_at_most, ◌≡◌, ◌⊎◌, ℕ, zero, suc, ◌<◌, List, [], ◌∷◌, length}
 use Rattle.rv_slots.proofs.Common.{slice_index_or, Contains, Option, refl, ap, subst, arith, inl, inr, ⊎_elim}
 use Rattle.rv_slots.proofs.Common.{common_steps, some, get_elem?, State, Me, start, Safe, run_keeps}
-use Rattle.rv_slots.proofs.Common.{start_safe, View, Record, SeatView, Idle, Filling, Stray, the_view, IsAlone}
+use Rattle.rv_slots.proofs.Common.{start_safe, View, Record, SeatView, Filling, Stray, the_view, IsAlone}
 use Rattle.rv_slots.proofs.Common.{Fits, Kept, RecordFits, RecordsFit, shown}
 use Rattle.rv_slots.specs.declared.views.SeatState.TheVariants.{Pinned}
 use Rattle.rv_slots.proofs.Seating.{one, seat_is}

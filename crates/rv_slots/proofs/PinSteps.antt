@@ -89,10 +89,7 @@ pins_go n slots id q i me idle below s k at small =
     (ap (λ (m : Moved). m.0) (moves_pin c p.number i false in_seats in_slots resting
     ((λ j. hf j && not (hd j)) ∙ none_here))) (refl, refl) table
     (subst (λ z. Fits p' z) (sym (put_here c.seats p.number r))
-    (record {
-      state = state_is;
-      records = grind (arith, common_steps);
-    }))
+    (record { state = state_is; records = grind (arith, common_steps) }))
     (λ t ne. put_else c.seats p.number t r ne) marked (whole_same k.seat p.number p' k.whole
     (records_are ∙ ap (λ (z : SeatView). z.records) (sym f.is))) in
     let held : (c.slots i).full ≡ true → (c.slots i).done ≡ false → Goes n s k

@@ -1,5 +1,5 @@
 -- What the calls of a carrier over the table do, in the words of the table's own calls.
-use Rattle.std.specs.Prelude.{◌≡◌, ◌<◌, ◌≤◌, ◌+◌, ◌⊎◌, ℕ, zero, suc, Bool, true, false, List, drop}
+use Rattle.std.specs.Prelude.{◌≡◌, ◌<◌, ◌≤◌, ◌⊎◌, ℕ, zero, suc, Bool, true, false, List, drop}
 use Rattle.rv_chunk.specs.Chunks.{chunk_text}
 use Rattle.rv_chunk.specs.Packing.{Content}
 use Rattle.rv_slotcore.specs.Machine.{all_put, put_words}

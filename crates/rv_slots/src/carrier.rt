@@ -1,5 +1,7 @@
 //! What hands chunks from thread to thread.
+ghost use Rattle.std.specs.Prelude.{ℕ, Bool};
 ghost use Rattle.rv_slots.specs.Looks.{LooksFit};
+ghost use Rattle.rv_slots.specs.declared.carrier.Looked.{Looked};
 
 use rv_chunk::Chunk;
 use std::sync::Wait;
@@ -27,7 +29,8 @@ pub enum Looked<S, L> {
 /// A seat is what a thread needs to take part, and a lease what its seat becomes while it reads a
 /// slot. Each call takes the one that it needs and gives one back, so a thread can do one thing at
 /// a time. What keeps seats and leases of several carriers apart are two predicates of the
-/// implementer's own, which every call asks for and hands on.
+/// implementer's own, which every call asks for and hands on. What a look at a slot and its end do
+/// are two relations of the implementer's own, by which a caller's contract can name them.
 ///
 /// No call promises that a chunk is ever placed, or ever found.
 pub trait Carrier {
@@ -43,6 +46,12 @@ pub trait Carrier {
     // the lease is of this carrier
     ghost holds: { Self → Self.Lease → Type 0 };
 
+    // a look with this seat at the slot of this index finds this
+    ghost looks: { Self → Self.Seat → ℕ → Looked Self.Seat Self.Lease → Type 0 };
+
+    // the lease is given up for this seat, and says whether its chunk is done with
+    ghost finishes: { Self → Self.Lease → Bool → Self.Seat → Type 0 };
+
     /// Puts the chunk into a free slot, or answers `Busy`. It takes no memory.
     fn put_chunk<R: Wait>(&self, rt: &R, seat: Self::Seat, chunk: &Chunk) -> (Self::Seat, Put)
         requires { fits self.now seat }
@@ -57,11 +66,13 @@ pub trait Carrier {
         index: usize,
     ) -> Looked<Self::Seat, Self::Lease>
         requires { fits self.now seat }
-        ensures { LooksFit (fits self.now) (holds self.now) result };
+        ensures fits { LooksFit (fits self.now) (holds self.now) result }
+        ensures looks { looks self.now seat index result };
 
     /// Ends the reading of a slot, and says whether its chunk is done with. A slot whose chunk is
     /// done with is free again once nobody reads it. It takes no memory.
     fn finish_chunk<R: Wait>(&self, rt: &R, lease: Self::Lease, applied: bool) -> Self::Seat
         requires { holds self.now lease }
-        ensures { fits self.now result };
+        ensures fits { fits self.now result }
+        ensures finishes { finishes self.now lease applied result };
 }

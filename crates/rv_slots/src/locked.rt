@@ -1,7 +1,8 @@
 //! Slots under one lock.
 ghost use Rattle.std.specs.Prelude.{◌≡◌, ◌↔◌, ◌<◌, ◌⊎◌, IfOk, IfSome, IsNone, Err, vec_len, ⊤};
 ghost use Rattle.std.specs.List.{range_with_len};
-ghost use Rattle.rv_slots.specs.SlotLists.{IsChunkOf};
+ghost use Rattle.rv_slots.specs.SlotLists.{AreFull, IsChunkOf, IsPutFirst, IsShutAt};
+ghost use Rattle.rv_slots.specs.declared.carrier.Put.TheVariants as put;
 ghost use Rattle.rv_slots.specs.Leases.{IsLookOf};
 ghost use Rattle.rv_slots.specs.declared.fault.SlotsFault.TheVariants as fault;
 
@@ -22,9 +23,14 @@ struct Table {
 
 impl Table {
     /// Puts the chunk into the first free slot.
-    fn put(&mut self, chunk: &Chunk) -> Put {
-        for slot in self.slots.iter_mut() {
-            if let Put::Placed = slot.put(chunk) {
+    fn put(&mut self, chunk: &Chunk) -> Put
+        ensures placed { result ≡ put.Placed
+            → IsPutFirst self.old.slots.items chunk.now self.new.slots.items }
+        ensures busy { result ≡ put.Busy → AreFull self.old.slots.items (vec_len self.old.slots)
+            × (self.new.slots.items ≡ self.old.slots.items) }
+    {
+        for index in 0..self.slots.len() {
+            if let Put::Placed = self.slots[index].put(chunk) {
                 return Put::Placed;
             }
         }
@@ -35,6 +41,7 @@ impl Table {
     fn read(&mut self, index: usize) -> Option<Chunk>
         ensures chunk { IfSome result (IsChunkOf self.old.slots.items index) }
         ensures nothing { IsNone result → self.new.slots.items ≡ self.old.slots.items }
+        ensures shut { IsNone result → IsShutAt self.old.slots.items index }
     {
         self.slots.get_mut(index)?.read()
     }
@@ -148,6 +155,10 @@ impl Carrier for LockedSlots {
     ghost fits = { λ table seat. ⊤ };
 
     ghost holds = { λ table lease. ⊤ };
+
+    ghost looks = { λ table seat index looked. IsLookOf seat index looked };
+
+    ghost finishes = { λ table lease applied seat. seat ≡ lease.seat };
 
     /// Puts the chunk into the first slot that is free, and answers `Busy` where none is.
     fn put_chunk<R: Wait>(&self, rt: &R, seat: LockedSeat, chunk: &Chunk) -> (LockedSeat, Put)

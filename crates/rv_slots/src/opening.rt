@@ -68,7 +68,7 @@ impl Slots {
     /// generation agree on each word that both have. Both come back with their own states, records
     /// and marks.
     ///
-    /// It is one join, one load of the first word that changes nothing, and one split.
+    /// It is one join, one load of the first word, and one split.
     pub fn meet(&self, first: Seat, second: Seat) -> (Seat, Seat)
         requires first { first.place.table_id ≡ self.now.table.shared.table_id }
         requires second { second.place.table_id ≡ self.now.table.shared.table_id }

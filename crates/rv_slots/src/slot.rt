@@ -28,6 +28,8 @@ fn copy_of(chunk: &Chunk) -> Chunk
 }
 
 impl Slot {
+    ghost use Rattle.rv_slots.specs.SlotLists.{IsShut};
+
     /// A free slot.
     pub(crate) fn new() -> Slot
         ensures free { IsNone result.chunk }
@@ -61,6 +63,7 @@ impl Slot {
         ensures held { IsSome result → self.new.readers ≡ self.old.readers + 1 }
         ensures same { (self.new.chunk ≡ self.old.chunk) × (self.new.done ≡ self.old.done) }
         ensures nothing { IsNone result → self.new ≡ self.old }
+        ensures shut { IsNone result → IsShut self.old }
     {
         if self.done {
             return None;

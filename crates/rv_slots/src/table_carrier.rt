@@ -72,6 +72,10 @@ impl Carrier for TableCarrier {
 
     ghost holds = { IsLent };
 
+    ghost looks = { λ carrier seat index looked. IsLook carrier.slots.count seat index looked };
+
+    ghost finishes = { λ carrier lease applied seat. IsFinish lease applied seat };
+
     /// Tries a claim on each slot in turn, once; `Busy` where all were claimed.
     fn put_chunk<R: Wait>(&self, _rt: &R, seat: Seat, chunk: &Chunk) -> (Seat, Put)
         requires { IsHere self.now seat }
@@ -95,7 +99,7 @@ impl Carrier for TableCarrier {
     fn read_chunk<R: Wait>(&self, _rt: &R, seat: Seat, index: usize) -> Looked<Seat, Pinned>
         requires { IsHere self.now seat }
         ensures fits { LooksFit (IsHere self.now) (IsLent self.now) result }
-        ensures look { IsLook self.now.slots.count seat index result }
+        ensures looks { IsLook self.now.slots.count seat index result }
     {
         if index >= self.slots.count {
             return Looked::Nothing(seat);
@@ -119,7 +123,7 @@ impl Carrier for TableCarrier {
     fn finish_chunk<R: Wait>(&self, _rt: &R, lease: Pinned, applied: bool) -> Seat
         requires { IsLent self.now lease }
         ensures fits { IsHere self.now result }
-        ensures finish { IsFinish lease applied result }
+        ensures finishes { IsFinish lease applied result }
     {
         let mut lease = lease;
         let slot = lease.slot;

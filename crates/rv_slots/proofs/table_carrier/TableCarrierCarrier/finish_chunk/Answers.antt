@@ -4,8 +4,8 @@ use Rattle.rv_slots.proofs.Loops.{let_go}
 use Rattle.rv_slots.proofs.table_carrier.TableCarrierCarrier.finish_chunk.Goals.{then-applied, else-applied}
 use Rattle.rv_slots.proofs.table_carrier.TableCarrierCarrier.finish_chunk.Goals as goal
 
-pub returns-clause-finish : goal.returns-clause-finish
-returns-clause-finish g c =
+pub returns-clause-finishes : goal.returns-clause-finishes
+returns-clause-finishes g c =
     let old = c.args.lease in
     let now = c.if-applied.lease in
     let out = c.unpin-seat in

@@ -1,5 +1,4 @@
-use Rattle.std.proofs.Common.{◌<◌, arith, ◌∙◌, add-one, subst, sym, ℕ}
-use Rattle.rv_slots.proofs.Common.{AreBusy}
+use Rattle.std.proofs.Common.{◌<◌, arith, ◌∙◌, add-one}
 use Rattle.rv_slots.proofs.table_carrier.TableCarrierCarrier.put_chunk.Goals as goal
 
 -- One slot more was found claimed.

@@ -2,8 +2,8 @@ use Rattle.rv_slots.proofs.Common.{◌<◌, arith, ◌∙◌, inr, stray_view}
 use Rattle.rv_slots.proofs.Loops.{let_go}
 use Rattle.rv_slots.proofs.table_carrier.TableCarrierCarrier.read_chunk.Goals as goal
 
-pub returns-in-Stray-clause-look : goal.returns-in-Stray-clause-look
-returns-in-Stray-clause-look g c =
+pub returns-in-Stray-clause-looks : goal.returns-in-Stray-clause-looks
+returns-in-Stray-clause-looks g c =
     let test = c.if-index-self.false in
     let low : c.args.index < c.args.self.now.slots.count = omega arith in
     let s = c.in-Stray.stray in
@@ -17,8 +17,8 @@ returns-in-Stray-clause-look g c =
           out.result.1 c.free.result c.free.new.seat pin.5 pin.4 out.ensures.step c.free.ensures.step,
     )
 
-pub returns-in-Pinned-clause-look : goal.returns-in-Pinned-clause-look
-returns-in-Pinned-clause-look g c =
+pub returns-in-Pinned-clause-looks : goal.returns-in-Pinned-clause-looks
+returns-in-Pinned-clause-looks g c =
     let test = c.if-index-self.false in
     let low : c.args.index < c.args.self.now.slots.count = omega arith in
     let pin = c.in-Pinned.ensures in
