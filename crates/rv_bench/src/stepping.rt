@@ -76,6 +76,8 @@ struct PaceGate {
 }
 
 impl Gate for PaceGate {
+    ghost answers = { λ gate chunk offer. IsAnswerFor chunk offer };
+
     fn offer_chunk<R: Wait>(&self, rt: &R, chunk: &Chunk) -> ChunkOffer {
         self.paces.lock(rt).take(chunk)
     }

@@ -1,5 +1,7 @@
 //! Where chunks are offered for judgement.
 ghost use Rattle.std.specs.Prelude.{◌<◌, ◌≤◌};
+ghost use Rattle.rv_chunk.specs.Packing.{Content};
+ghost use Rattle.rv_book.specs.declared.book.ChunkOffer.{ChunkOffer};
 ghost use Rattle.rv_run.specs.Gates.{IsAnswerFor};
 
 use crate::desk::Desk;
@@ -27,9 +29,13 @@ pub enum Awaited {
 /// Several threads call it at once. What it holds changes between two calls, so an answer promises
 /// only what follows from the chunk, and what the type of its verdict keeps.
 pub trait Gate {
+    // the chunk is answered so
+    ghost answers: { Self → Content → ChunkOffer → Type 0 };
+
     /// Offers the chunk's events as [`Book::offer_chunk`] does.
     fn offer_chunk<R: Wait>(&self, rt: &R, chunk: &Chunk) -> ChunkOffer
-        ensures { IsAnswerFor chunk.now result };
+        ensures answer { IsAnswerFor chunk.now result }
+        ensures answers { answers self.now chunk.now result };
 
     /// Says that a source has ended: whole, with so many events, or else by a fault or as memory
     /// ran out.
@@ -89,6 +95,8 @@ impl BookGate {
 }
 
 impl Gate for BookGate {
+    ghost answers = { λ gate chunk offer. IsAnswerFor chunk offer };
+
     /// Offers the chunk to the book, while the lock is held.
     fn offer_chunk<R: Wait>(&self, rt: &R, chunk: &Chunk) -> ChunkOffer {
         self.desk.lock(rt).offer_chunk(chunk)

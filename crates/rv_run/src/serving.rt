@@ -1,6 +1,7 @@
 //! Chunks of the carrier, offered to the gate.
 ghost use Rattle.std.specs.Prelude.{◌≡◌};
-ghost use Rattle.rv_run.specs.Turns.{IsTurnOf};
+ghost use Rattle.rv_slots.specs.declared.carrier.Looked.{Looked};
+ghost use Rattle.rv_run.specs.Turns.{IsServed, IsTurnOf};
 ghost use Rattle.rv_verdict.specs.Known.{StillKnows};
 
 use crate::gate::{Awaited, Gate};
@@ -45,6 +46,17 @@ enum Turn {
     NoMemory,
 }
 
+impl Turn {
+    ghost use Rattle.rv_run.specs.Turns.{is_applied};
+
+    /// Whether all of the chunk is in the book.
+    fn is_applied(self) -> bool
+        ensures { result ≡ is_applied self }
+    {
+        matches!(self, Turn::Applied)
+    }
+}
+
 /// What an answer makes of the chunk that was offered. A verdict is raised in the cell.
 fn settle(alloc: Global, cell: &VerdictCell, note: &mut VerdictNote, offer: ChunkOffer) -> Turn
     requires { note.old.cell ≡ cell.now }
@@ -62,7 +74,8 @@ fn settle(alloc: Global, cell: &VerdictCell, note: &mut VerdictNote, offer: Chun
     }
 }
 
-/// Looks at one slot, and offers the chunk that is found there.
+/// Looks at one slot, and offers the chunk that is found there. It is done with where all of it is
+/// in the book.
 fn serve_slot<RT: Wait, C: Carrier, G: Gate>(
     rt: &RT,
     alloc: Global,
@@ -77,12 +90,14 @@ fn serve_slot<RT: Wait, C: Carrier, G: Gate>(
     requires note { note.old.cell ≡ cell.now }
     ensures seat { C.fits carrier.now result.0 }
     ensures note { StillKnows note.old note.new }
+    ensures served { (looked : Looked C.Seat C.Lease) × C.looks carrier.now seat index looked
+        × IsServed (G.answers gate.now) (C.finishes carrier.now) note.new looked result.0 result.1 }
 {
     match carrier.read_chunk(rt, seat, index) {
         Looked::Nothing(seat) => (seat, Turn::Idle),
         Looked::Found(chunk, lease) => {
             let turn = settle(alloc, cell, note, gate.offer_chunk(rt, &chunk));
-            let seat = carrier.finish_chunk(rt, lease, turn == Turn::Applied);
+            let seat = carrier.finish_chunk(rt, lease, turn.is_applied());
             (seat, turn)
         }
     }

@@ -148,6 +148,10 @@ impl<'a, C: Carrier, G> Carrier for InStep<'a, C, G> {
 
     ghost holds = { λ s lease. C.holds s.carrier lease };
 
+    ghost looks = { λ s. C.looks s.carrier };
+
+    ghost finishes = { λ s. C.finishes s.carrier };
+
     /// Puts the chunk, after it was held back where its source is ahead. Where no slot is free, it
     /// says so and tries once more, so that no slot is freed unseen.
     fn put_chunk<R: Wait>(&self, rt: &R, seat: C::Seat, chunk: &Chunk) -> (C::Seat, Put) {
@@ -186,6 +190,8 @@ impl<'a, C: Carrier, G> Carrier for InStep<'a, C, G> {
 }
 
 impl<'a, C, G: Gate> Gate for InStep<'a, C, G> {
+    ghost answers = { λ s. G.answers s.gate };
+
     fn offer_chunk<R: Wait>(&self, rt: &R, chunk: &Chunk) -> ChunkOffer {
         let offer = self.gate.offer_chunk(rt, chunk);
         match &offer {

@@ -1,5 +1,6 @@
 //! The gate, and that chunks go through the carrier to several workers.
 ghost use Rattle.std.specs.Prelude.{◌≤◌, All, vec_len};
+ghost use Rattle.rv_run.specs.Gates.{IsAnswerFor};
 
 use super::rows::{STORE_BUFFERING, source_of};
 use rv_book::ChunkOffer;
@@ -46,6 +47,8 @@ impl HeldGate {
 }
 
 impl Gate for HeldGate {
+    ghost answers = { λ gate chunk offer. IsAnswerFor chunk offer };
+
     fn offer_chunk<R: Wait>(&self, rt: &R, chunk: &Chunk) -> ChunkOffer {
         if self.entered.fetch_add(1, Ordering::SeqCst) == 0 {
             self.wait();
@@ -79,6 +82,10 @@ impl<C: Carrier> Carrier for Counted<C> {
     ghost fits = { λ t s. C.fits t.inner s };
 
     ghost holds = { λ t l. C.holds t.inner l };
+
+    ghost looks = { λ t. C.looks t.inner };
+
+    ghost finishes = { λ t. C.finishes t.inner };
 
     fn put_chunk<R: Wait>(&self, rt: &R, seat: C::Seat, chunk: &Chunk) -> (C::Seat, Put) {
         self.inner.put_chunk(rt, seat, chunk)

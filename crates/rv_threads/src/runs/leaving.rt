@@ -1,5 +1,6 @@
 //! That a source is asked for no more once the run is decided.
 ghost use Rattle.std.specs.Prelude.{◌≤◌, All, length};
+ghost use Rattle.rv_run.specs.Gates.{IsAnswerFor};
 
 use super::rows::HEADER;
 use rv_book::ChunkOffer;
@@ -28,6 +29,8 @@ struct Told<'a> {
 }
 
 impl Gate for Told<'_> {
+    ghost answers = { λ gate chunk offer. IsAnswerFor chunk offer };
+
     fn offer_chunk<R: Wait>(&self, _rt: &R, _chunk: &Chunk) -> ChunkOffer {
         ChunkOffer::Stopped
     }
