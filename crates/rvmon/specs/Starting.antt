@@ -1,8 +1,10 @@
 -- How the program comes to its end: which of its steps each ending is of.
-use Rattle.std.specs.Prelude.{◌≡◌, ◌≢◌, ◌⊎◌, ℕ, suc, List, [], ◌∷◌, Bool, Option, Ok, Err, length, map, string_bytes, ⊤}
+use Rattle.std.specs.Prelude.{◌≡◌, ◌≢◌, ◌⊎◌, ℕ, List, [], ◌∷◌, Bool, Option, None, Ok, Err, map, option_map}
+use Rattle.std.specs.Prelude.{String, string_bytes, ⊤}
+use Rattle.std.specs.Global.{Global}
 use Rattle.std.specs.List.{Contains}
 use Rattle.clap.specs.Words.{Text}
-use Rattle.rv_trace.specs.Source.{Stream}
+use Rattle.rv_trace.specs.Source.{Stream, source_says}
 use Rattle.rv_run.specs.Sources.{IsTrueOf, IsFaultAmong}
 use Rattle.rv_run.specs.declared.fault.RunFault.TheVariants as fault
 use Rattle.rv_cli.specs.Answers.{AnswersTo}
@@ -35,36 +37,42 @@ IsUnopened names (Words f) = ⊥
 IsUnopened names NotText = ⊥
 IsUnopened names (NotOpened name) = Contains names (string_bytes name)
 
--- a source for each file; standard input where there is none
-abbrev pub sources_of : {X : Type 0} → List X → ℕ
-sources_of [] = 1
-sources_of (x ∷ xs) = suc (length xs)
+-- the bytes of the sources that are asked for: those of each file by its name; of standard input,
+-- which is the source where there is no file, they are not known
+abbrev pub bytes_asked : (Text → Option (List ℕ)) → List (String Global) → List (Option (List ℕ))
+bytes_asked known [] = None ∷ []
+bytes_asked known (name ∷ names) = map (λ n. known (string_bytes n)) (name ∷ names)
 
--- the ending of a request: a file does not open, the sources have no outcome, or this is theirs;
--- its numbers are never out of range
-abbrev pub EndsAsked : Asked → Ending → Type 0
-EndsAsked asked (Ran o) =
-    (streams : List (Option Stream)) × (length streams ≡ sources_of asked.files.items) × IsTrueOf asked.model streams o
-EndsAsked asked (Failed f) =
-    (f ≢ fault.Settings) × (streams : List (Option Stream)) × (length streams ≡ sources_of asked.files.items) ×
-    IsFaultAmong streams f
-EndsAsked asked (Words f) = ⊥
-EndsAsked asked NotText = ⊥
-EndsAsked asked (NotOpened name) = Contains (map string_bytes asked.files.items) (string_bytes name)
+-- what they say
+abbrev pub streams_asked : (Text → Option (List ℕ)) → Asked → List (Option Stream)
+streams_asked known asked = map (option_map source_says) (bytes_asked known asked.files.items)
+
+-- as of the files of a system, of whose bytes nothing is known
+abbrev pub nothing_known : Text → Option (List ℕ)
+nothing_known name = None
+
+-- the ending of a request: a file does not open, the sources that it names have no outcome, or this
+-- is theirs; its numbers are never out of range
+abbrev pub EndsAsked : (Text → Option (List ℕ)) → Asked → Ending → Type 0
+EndsAsked known asked (Ran o) = IsTrueOf asked.model (streams_asked known asked) o
+EndsAsked known asked (Failed f) = (f ≢ fault.Settings) × IsFaultAmong (streams_asked known asked) f
+EndsAsked known asked (Words f) = ⊥
+EndsAsked known asked NotText = ⊥
+EndsAsked known asked (NotOpened name) = Contains (map string_bytes asked.files.items) (string_bytes name)
 
 -- the request of these words ends so, and whether its report is JSON
-abbrev pub EndsRequest : List Text → Ending → Bool → Type 0
-EndsRequest texts e json =
-    (asked : Asked) × AnswersTo texts (Ok asked) × (json ≡ asked.json) × EndsAsked asked e
+abbrev pub EndsRequest : (Text → Option (List ℕ)) → List Text → Ending → Bool → Type 0
+EndsRequest known texts e json =
+    (asked : Asked) × AnswersTo texts (Ok asked) × (json ≡ asked.json) × EndsAsked known asked e
 
 -- the ending of a command line: the words are refused, or their request ends so
-abbrev pub EndsBy : List Text → Ending → Bool → Type 0
-EndsBy texts (Ran o) json = EndsRequest texts (Ran o) json
-EndsBy texts (Failed f) json = EndsRequest texts (Failed f) json
-EndsBy texts (Words f) json = AnswersTo texts (Err f)
-EndsBy texts NotText json = ⊥
-EndsBy texts (NotOpened name) json = EndsRequest texts (NotOpened name) json
+abbrev pub EndsBy : (Text → Option (List ℕ)) → List Text → Ending → Bool → Type 0
+EndsBy known texts (Ran o) json = EndsRequest known texts (Ran o) json
+EndsBy known texts (Failed f) json = EndsRequest known texts (Failed f) json
+EndsBy known texts (Words f) json = AnswersTo texts (Err f)
+EndsBy known texts NotText json = ⊥
+EndsBy known texts (NotOpened name) json = EndsRequest known texts (NotOpened name) json
 
 -- the ending of the program: its words cannot be had, or these end so
-abbrev pub IsEnd : Ending → Bool → Type 0
-IsEnd e json = IsWordless e ⊎ ((texts : List Text) × EndsBy texts e json)
+abbrev pub IsEnd : (Text → Option (List ℕ)) → Ending → Bool → Type 0
+IsEnd known e json = IsWordless e ⊎ ((texts : List Text) × EndsBy known texts e json)

@@ -13,7 +13,7 @@
 
 ghost use Rattle.clap.specs.Walk.{texts};
 ghost use Rattle.rv_cli.specs.Asked.{IsInRange};
-ghost use Rattle.rvmon.specs.Starting.{EndsAsked, EndsBy, IsEnd};
+ghost use Rattle.rvmon.specs.Starting.{EndsAsked, EndsBy, IsEnd, nothing_known};
 
 mod ending;
 mod opening;
@@ -22,7 +22,7 @@ mod tests;
 mod words;
 
 use ending::{Ending, settle};
-use opening::{Opened, first_unopened, open_all};
+use opening::{Opened, Opener, SystemFiles, first_unopened, open_all};
 use rv_cli::{Asked, asked};
 use rv_pipe::Bell;
 use rv_run::{RunFault, Settings, run_with_bell};
@@ -32,22 +32,23 @@ use std::sync::{Arc, Wait};
 use std::thread::Threads;
 use words::{texts_of, words_of};
 
-/// What comes of a request. The sources are judged in threads of the second handle. A source that
-/// may be silent is read in a thread that is left behind where the others decide, and so it ends
-/// with the program.
-fn answer<RT: Threads + Wait + Sync + Copy + Send + 'static>(
+/// What comes of a request. Its files are those of the opener, and are judged in threads of the
+/// second handle. A source that may be silent is read in a thread that is left behind where the
+/// others decide, and so it ends with the program.
+fn answer<RT: Threads + Wait + Sync + Copy + Send + 'static, O: Opener>(
     rt: &HostRuntime,
     threads: &RT,
+    opener: &O,
     asked: &Asked,
 ) -> Ending
     requires { IsInRange asked.now }
-    ensures { EndsAsked asked.now result }
+    ensures { EndsAsked (O.known opener.now) asked.now result }
 {
     let names = asked.files.as_slice();
     let Ok(bell) = Arc::new(rt.alloc(), Bell::new()) else {
         return Ending::Failed(RunFault::NoMemory);
     };
-    let Opened { inputs, pipes } = match open_all(rt, threads, names, &bell) {
+    let Opened { inputs, pipes } = match open_all(rt, threads, opener, names, &bell) {
         Ok(opened) => opened,
         Err(ending) => return ending,
     };
@@ -58,7 +59,7 @@ fn answer<RT: Threads + Wait + Sync + Copy + Send + 'static>(
     };
     match run_with_bell(threads, rt.alloc(), inputs, settings, &bell) {
         Ok(outcome) => Ending::Ran(outcome),
-        Err(fault) => match first_unopened(rt, threads, names, pipes.as_slice()) {
+        Err(fault) => match first_unopened(rt.alloc(), threads, names, pipes.as_slice()) {
             Some(ending) => ending,
             None => Ending::Failed(fault),
         },
@@ -66,15 +67,16 @@ fn answer<RT: Threads + Wait + Sync + Copy + Send + 'static>(
 }
 
 /// What comes of the words, and whether the report is JSON.
-fn answer_words<RT: Threads + Wait + Sync + Copy + Send + 'static>(
+fn answer_words<RT: Threads + Wait + Sync + Copy + Send + 'static, O: Opener>(
     rt: &HostRuntime,
     threads: &RT,
+    opener: &O,
     words: &[&str],
 ) -> (Ending, bool)
-    ensures { EndsBy (texts words.now) result.0 result.1 }
+    ensures { EndsBy (O.known opener.now) (texts words.now) result.0 result.1 }
 {
     match asked(rt.alloc(), words) {
-        Ok(asked) => (answer(rt, threads, &asked), asked.json),
+        Ok(asked) => (answer(rt, threads, opener, &asked), asked.json),
         Err(fault) => (Ending::Words(fault), false),
     }
 }
@@ -84,14 +86,14 @@ fn end_of<RT: Threads + Wait + Sync + Copy + Send + 'static>(
     rt: &HostRuntime,
     threads: &RT,
 ) -> (Ending, bool)
-    ensures { IsEnd result.0 result.1 }
+    ensures { IsEnd nothing_known result.0 result.1 }
 {
     let words = match words_of(rt) {
         Ok(words) => words,
         Err(ending) => return (ending, false),
     };
     match texts_of(rt, words.as_slice()) {
-        Ok(texts) => answer_words(rt, threads, texts.as_slice()),
+        Ok(texts) => answer_words(rt, threads, &SystemFiles::new(*rt), texts.as_slice()),
         Err(ending) => (ending, false),
     }
 }
