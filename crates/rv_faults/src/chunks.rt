@@ -67,7 +67,7 @@ fn assert_chunk(rt: &impl Abort, alloc: Global, one: &LitmusTest) {
 }
 
 #[test]
-fn a_chunk_without_memory_goes_on_where_it_was(rt: HostRuntime) {
+fn a_chunk_goes_on_where_it_was_if_memory_ran_out(rt: HostRuntime) {
     for one in &litmus_tests(&rt, rt.alloc()) {
         if !one.rows.is_empty() {
             assert_chunk(&rt, rt.alloc(), one);

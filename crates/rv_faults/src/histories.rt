@@ -41,7 +41,7 @@ fn assert_pushes(rt: &impl Abort, alloc: Global, one: &LitmusTest) {
 }
 
 #[test]
-fn a_history_without_memory_is_as_it_was(rt: HostRuntime) {
+fn a_history_is_as_it_was_if_memory_ran_out(rt: HostRuntime) {
     for one in &litmus_tests(&rt, rt.alloc()) {
         if one.class != Class::Malformed {
             assert_pushes(&rt, rt.alloc(), one);

@@ -102,7 +102,7 @@ fn assert_offers(rt: &impl Abort, alloc: Global, one: &LitmusTest) {
 }
 
 #[test]
-fn an_offer_without_memory_leaves_the_book_as_it_was(rt: HostRuntime) {
+fn an_offer_leaves_the_book_as_it_was_if_memory_ran_out(rt: HostRuntime) {
     for one in &litmus_tests(&rt, rt.alloc()) {
         assert_offers(&rt, rt.alloc(), one);
     }

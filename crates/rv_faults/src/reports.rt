@@ -49,7 +49,7 @@ fn assert_reports(rt: &impl Abort, alloc: Global, outcome: &Outcome) {
 }
 
 #[test]
-fn a_report_without_memory_writes_nothing(rt: HostRuntime) {
+fn a_report_writes_nothing_if_memory_ran_out(rt: HostRuntime) {
     for one in &litmus_tests(&rt, rt.alloc()) {
         let entries = entries_of(&rt, rt.alloc(), one.rows);
         let outcome = outcome_of(&rt, rt.alloc(), one.model, entries.as_slice());

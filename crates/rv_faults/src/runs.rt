@@ -10,7 +10,7 @@ use std::sync::Wait;
 use std::thread::Threads;
 
 #[test]
-fn a_pass_without_memory_says_so(rt: HostRuntime) {
+fn a_pass_says_so_if_memory_ran_out(rt: HostRuntime) {
     for one in &litmus_tests(&rt, rt.alloc()) {
         let entries = entries_of(&rt, rt.alloc(), one.rows);
         let answer = match replay(rt.alloc(), one.model, entries.as_slice()) {
@@ -93,11 +93,11 @@ fn assert_runs<RT: Threads + Wait + Sync + Abort>(rt: &RT, alloc: Global, worker
 }
 
 #[test]
-fn a_run_by_one_worker_without_memory_says_so(rt: HostRuntime) {
+fn a_run_by_one_worker_says_so_if_memory_ran_out(rt: HostRuntime) {
     assert_runs(&rt, rt.alloc(), 1, 2);
 }
 
 #[test]
-fn a_run_by_eight_workers_without_memory_says_so(rt: HostRuntime) {
+fn a_run_by_eight_workers_says_so_if_memory_ran_out(rt: HostRuntime) {
     assert_runs(&rt, rt.alloc(), 8, 16);
 }

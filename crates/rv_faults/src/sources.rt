@@ -95,7 +95,7 @@ fn read_chunks(rt: &impl Abort, alloc: Global, text: &str, entries: &[Entry]) ->
 }
 
 #[test]
-fn a_source_without_memory_has_its_fault_for_ever(rt: HostRuntime) {
+fn a_source_has_its_fault_for_ever_if_memory_ran_out(rt: HostRuntime) {
     for one in &litmus_tests(&rt, rt.alloc()) {
         let text = text_of(&rt, rt.alloc(), one.rows);
         let list = entries_of(&rt, rt.alloc(), one.rows);

@@ -51,7 +51,7 @@ fn assert_raised(rt: &impl Abort, alloc: Global, verdict: Verdict, entries: &[En
 }
 
 #[test]
-fn a_verdict_without_memory_is_handed_back(rt: HostRuntime) {
+fn a_verdict_is_handed_back_if_memory_ran_out(rt: HostRuntime) {
     for one in &litmus_tests(&rt, rt.alloc()) {
         let entries = entries_of(&rt, rt.alloc(), one.rows);
         if let Some(verdict) = verdict_of(&rt, rt.alloc(), one.model, entries.as_slice()) {
@@ -147,7 +147,7 @@ fn serve_by_table<R: Wait + Abort>(rt: &R, alloc: Global, one: &LitmusTest) -> b
 }
 
 #[test]
-fn a_worker_without_memory_ends(rt: HostRuntime) {
+fn a_worker_ends_if_memory_ran_out(rt: HostRuntime) {
     for one in &litmus_tests(&rt, rt.alloc()) {
         if !one.rows.is_empty() {
             let served = serve_locked(&rt, rt.alloc(), one) || serve_locked(&rt, rt.alloc(), one);
