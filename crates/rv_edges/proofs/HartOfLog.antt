@@ -28,10 +28,7 @@ module _ (model : MemoryModel) (log : List Event) (e : Event) (known : Indexed l
   pub partner_from : (lr : Event) → Contains own.events lr → Paired (followed own e) lr e → IsPartner log e lr
   partner_from lr c p =
       let f = own_contains log e.id.hart lr c in
-      record {
-        of_log = f.0;
-        paired = search (paired_from, known', own-new);
-      }
+      record { of_log = f.0; paired = search (paired_from, known', own-new) }
 
   -- and the other way round
   pub partner_to : (lr : Event) → IsPartner log e lr → Contains own.events lr × Paired (followed own e) lr e

@@ -139,10 +139,7 @@ module _ (model : MemoryModel) (log : List Event) (e : Event) (known : Indexed l
     where
       by_rule : (k : ℕ) → Rule model new k a e → Names before a.id ⊎ IsSplit model log new (Preserved k) a e
       by_rule k r = elim (by_rules.carried k a (contains_own log e.id.hart a known ca r.earlier.hart) (rule_own
-          k a r)) [
-            | inl n ↦ inl (n.0, left n.0 n.1, n.2)
-            | inr s ↦ inr (split_is k a s)
-          ]
+          k a r)) [ inl n ↦ inl (n.0, left n.0 n.1, n.2) | inr s ↦ inr (split_is k a s) ]
 
       go : ((k : ℕ) × (reason ≡ Preserved k)) ⊎ IsOfVersions reason → Names before a.id ⊎
           IsSplit model log new reason a e

@@ -38,11 +38,7 @@ pub popped_sides :
 popped_sides xs ys ls ms x l same e f =
     let lengths : length ys ≡ length ms =
     omega (arith, same, ap length e, ap length f, length-append ys (x ∷ []), length-append ms (l ∷ [])) in
-    record {
-      lengths = lengths;
-      last = kept_one x l;
-      cut = search (kept_from-push, rules);
-    }
+    record { lengths = lengths; last = kept_one x l; cut = search (kept_from-push, rules) }
 
 -- lists with one more at the end are equal where their fronts are
 pub same_front : {X : Type 0} (xs ys : List X) (x y : X) → xs ++ x ∷ [] ≡ ys ++ y ∷ [] → xs ≡ ys

@@ -59,11 +59,7 @@ module _ {h : Hart} {e : Event} (f : Fits h e) (memory : IsMemory e) where
     overlapped : (p : ℕ) → HasEvent (IsOfWord e.word) h.events p → IsOrderedBy h e 1 p
     overlapped p x = let o = ordered f memory 1 x.a x.of_list (
       x.holds.0,
-      overlapping_store (record {
-        store
-            = store;
-        word = x.holds.1;
-      }),
+      overlapping_store (record { store = store; word = x.holds.1 }),
     ) in record { a = o.a; of_hart = o.of_hart; at = o.at ∙ x.at; rule = o.rule }
 
     sound-more : (p : ℕ) (row row' : List ℕ) → IsOverlapWalk h e (Some p) row →

@@ -132,11 +132,7 @@ IsSpread-more ranks low old new mark targets i once long marks h l b below high 
         | inl e ↦ inr (ap (mark_of low ranks next) e ∙ same, rw e (Contains-take_last targets i l), rw e high)
         | inr n ↦ elim (h.only a free) [
           | inl e ↦ inl (other a n ∙ e)
-          | inr w ↦ inr (
-            other a n ∙ w.0,
-            Contains-take_kept targets i a l w.1,
-            w.2,
-          )
+          | inr w ↦ inr (other a n ∙ w.0, Contains-take_kept targets i a l w.1, w.2)
         ]
       ];
     }

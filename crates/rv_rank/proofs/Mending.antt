@@ -163,12 +163,7 @@ module _ (b f : ℕ → Bool) (nodes ranks : List ℕ) (inverse : IsInverse node
       let same : p.0 ≡ a = sym p.1 ∙ q in
       elim p.3 [
         | inl w ↦ false≢true (sym e ∙ ap (either_of b f) (sym same) ∙ w.1)
-        | inr r ↦ omega (
-          arith,
-          same,
-          r,
-          l,
-        )
+        | inr r ↦ omega (arith, same, r, l)
       ]
 
   module _ (test : ℕ → Bool) (tests : (k : ℕ) → k < length nodes → test k ≡ either_of b f (get_or nodes k 0))

@@ -42,10 +42,7 @@ below_few s zero = omega arith
 below_few s (suc k) =
     let h = below_few s k in
     elim (s k) as (λ b. cond b (suc (count_below s k)) (count_below s k) ≤ suc k) [
-      | true ↦ omega (
-        arith,
-        h,
-      )
+      | true ↦ omega (arith, h)
       | false ↦ omega (arith, h)
     ]
 
