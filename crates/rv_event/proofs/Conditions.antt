@@ -160,5 +160,6 @@ pub Condition-above : (model : MemoryModel) (log : List Event) (a b : Event) (k 
 Condition-above model log a b k h = grind (arith, common_steps)
 
 -- there are thirteen rules
-pub Condition-below : (model : MemoryModel) (log : List Event) (a b : Event) (k : ℕ) → Condition model log a b k → k < 14
+pub Condition-below : (model : MemoryModel) (log : List Event) (a b : Event) (k : ℕ) → Condition model log a b k →
+    k < 14
 Condition-below model log a b k h = grind (arith, common_steps)

@@ -44,8 +44,8 @@ pub record IsReadOf (from : ℕ) (streams : List (Option Stream)) (entries : Lis
   pub each : (k : ℕ) → k < length streams → AreEventsOf (get_or streams k None) (get_or ess k [])
 
 all-of-more :
-    (s : Option Stream) (streams : List (Option Stream)) (es : List Event) (ess : List (List Event)) → AreEventsOf s es →
-    ((k : ℕ) → k < length streams → AreEventsOf (get_or streams k None) (get_or ess k [])) →
+    (s : Option Stream) (streams : List (Option Stream)) (es : List Event) (ess : List (List Event)) →
+    AreEventsOf s es → ((k : ℕ) → k < length streams → AreEventsOf (get_or streams k None) (get_or ess k [])) →
     (k : ℕ) → k < length (s ∷ streams) → AreEventsOf (get_or (s ∷ streams) k None) (get_or (es ∷ ess) k [])
 all-of-more s streams es ess here more zero low = here
 all-of-more s streams es ess here more (suc k) low = more k (omega (arith, low))

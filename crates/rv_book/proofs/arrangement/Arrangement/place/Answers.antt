@@ -86,7 +86,8 @@ refuse-requires c =
     c.as_slice-nodes.result.now c.pop-removed.result.event =
     subst (λ (x : Entry). ShowsCircle c.pop-removed.new.self.model c.pop-removed.new.self.kept
     c.as_slice-names.result.now c.as_slice-nodes.result.now x.event) (sym was.entry)
-    (circle_at _ _ _ _ _ _ path _ k.event (ap (λ (w : Past). w.model) was.history) (ap (λ (w : Past). w.kept) was.history)
+    (circle_at _ _ _ _ _ _ path _ k.event (ap (λ (w : Past). w.model) was.history)
+    (ap (λ (w : Past). w.kept) was.history)
     (c.as_slice-names.ensures.value ∙ c.in_ok-reserve.ensures.items) c.as_slice-nodes.ensures.value
     (circle_shown _ c.self.invariant k fit preds succs
     (subst (λ (x : List Id). AreNodes x k.before preds) ids found.before)
