@@ -45,7 +45,8 @@ pub use Rattle.rv_hart.specs.Parts.{AddsPart, ArePartsFor, IsIn, IsOfPart, IsPar
 pub use Rattle.rv_hart.specs.Places.{places_from, places_of}
 pub use Rattle.rv_hart.specs.Rows.{IsBefore, IsCandidate, IsEnough, IsGenerated, IsOrderedBy, RowsMean}
 pub use Rattle.rv_hart.specs.RuleLinks.{AreEnoughLinks, AreRuleLinks}
-pub use Rattle.rv_hart.specs.RuleRows.{Adds, ConditionOf, IsLowestRule, IsOperationOf, IsOverlapRow, RuleRowIs}
+pub use Rattle.rv_hart.specs.RuleRows.{Adds, ConditionOf, IsApart, IsLastOther, IsLeadingRow, IsLowestRule}
+pub use Rattle.rv_hart.specs.RuleRows.{IsOperationOf}
 pub use Rattle.rv_hart.specs.Sets.{AreSets, HasEvent, IsAddressing, IsControlling, IsFencedFor, IsReservation}
 pub use Rattle.rv_hart.specs.Sets.{IsReserving, NamesMemory, RowIs}
 pub use Rattle.rv_hart.specs.Words.{AreNumbered, AreWords, IsAbove, IsBeforeRun, IsHighestStore, IsLastBelow}

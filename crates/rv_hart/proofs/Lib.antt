@@ -9,6 +9,7 @@ pub mod RuleConditions
 pub mod TableParts
 pub mod StalePairs
 pub mod RowMeanings
+pub mod ReadRuns
 pub mod WordWalks
 pub mod WordLinks
 pub mod OfHart

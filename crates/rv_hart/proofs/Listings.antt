@@ -8,10 +8,11 @@ use Rattle.rv_hart.proofs.Common.{IsLowest, Id, Event, Link, Reason, Preserved, 
 use Rattle.rv_hart.proofs.Common.{IsTaken, IsReached, IsThinned, Swept, swept-init, swept-step, swept-done}
 use Rattle.rv_hart.proofs.Common.{Gathers, gathers-none, gathers-step, Hart, followed, hart_with, IsOrderedBy}
 use Rattle.rv_hart.proofs.Common.{IsCandidate, IsBefore, IsEnough, RowsMean, AreRuleLinks, IsOperationOf}
-use Rattle.rv_hart.proofs.Common.{ConditionOf, IsLowestRule}
+use Rattle.rv_hart.proofs.Common.{ConditionOf, IsApart, IsClosed, IsGenerated, IsLeadingRow, IsLowestRule, cases_eq}
 use Rattle.rv_event.specs.Log.{named}
 use Rattle.rv_hart.proofs.HartFacts.{Known, Fits, known_with, same_event, old_new}
 use Rattle.rv_hart.proofs.RowMeanings.{carried, unsplit, row_is, rule-old, rows_closed}
+use Rattle.rv_hart.proofs.RuleConditions.{ordered}
 use Rattle.rv_hart.proofs.Candidates.{candidates-own}
 
 -- ---- the lowest rule of a candidate
@@ -41,6 +42,35 @@ module _ {h : Hart} {e : Event} (f : Fits h e) (memory : IsMemory e) (s : ℕ) (
   some-rule k high none =
       let low = Condition-number h.model (followed h e) a e candidate.0 candidate.1.rule.condition in
       none candidate.0 (omega arith) candidate.1
+
+-- the row of rule 2 decides the rule for an operation that stands in the row of no other load of it
+pub reads-decide : {h : Hart} {e : Event} → Fits h e → IsMemory e → (rows : List (List ℕ)) → RowsMean h rows →
+    (reads : List ℕ) → IsLeadingRow h e 2 reads → (a : Event) → IsOperationOf h a → IsApart rows reads a.id.seq →
+    Has reads a.id.seq ↔ ConditionOf h e 2 a
+reads-decide {h} {e} f memory rows mean reads leading a is apart = (to, from)
+  where
+    to : Has reads a.id.seq → ConditionOf h e 2 a
+    to x = let o = leading.sound a.id.seq x in
+        subst (ConditionOf h e 2) (same_event f.known o.a a o.of_hart is.of_hart o.at) o.rule.condition
+
+    from : ConditionOf h e 2 a → Has reads a.id.seq
+    from holds =
+        let o = ordered f memory 2 a is.of_hart (is.memory, holds) in
+        let this : o.a ≡ a = same_event f.known o.a a o.of_hart is.of_hart o.at in
+        let g = leading.enough a (subst (λ (x : Event). Rule h.model (followed h e) 2 x e) this o.rule) in
+        let p = leading.sound g.c.id.seq g.has in
+        let same : p.a ≡ g.c = same_event f.known p.a g.c p.of_hart g.of_hart p.at in
+        let row : RowHas rows g.c.id.seq a.id.seq = (mean g.c.id.seq a.id.seq).1 (record {
+          a = a;
+          b = g.c;
+          a_of_hart = is.of_hart;
+          b_of_hart = g.of_hart;
+          a_at = refl;
+          b_at = refl;
+          memory = subst IsMemory same p.rule.from_memory;
+          leads = g.leads;
+        }) in
+        subst (Has reads) (apart g.c.id.seq g.has row) g.has
 
 -- ---- one link
 -- the link is the lowest rule of an event that a sweep took
@@ -225,6 +255,49 @@ module _ {h : Hart} {e : Event} {rows : List (List ℕ)} {first : List ℕ} (g :
   pub listing-candidate : (left left' : List ℕ) (top b : ℕ) (links : List Link) →
       IsListing h e rows first left top links → IsTaken rows left (Some b) left' → IsCandidate h e b
   listing-candidate left left' top b links so is = g.enough.sound b (so.swept.sub b is.0.1)
+
+  -- what is taken stands in the row of no other load of rule 2
+  pub listing-apart : (left left' : List ℕ) (top b : ℕ) (links : List Link) (reads : List ℕ) →
+      IsListing h e rows first left top links → IsTaken rows left (Some b) left' → IsLeadingRow h e 2 reads →
+      IsApart rows reads b
+  listing-apart left left' top b links reads so is leading c x r = go (cases_eq made.c.id.seq b)
+    where
+      closed : IsClosed rows
+      closed = rows_closed h rows g.fits.known g.mean
+
+      o : IsOrderedBy h e 2 c
+      o = leading.sound c x
+
+      -- a candidate whose row has the load
+      made : IsGenerated h first o.a
+      made = g.enough.enough 2 o.a o.rule
+
+      same : (g.enough.sound made.c.id.seq made.has).1.a ≡ made.c
+      same = let k = (g.enough.sound made.c.id.seq made.has).1 in
+          same_event g.fits.known k.a made.c k.of_hart made.of_hart k.at
+
+      has : RowHas rows made.c.id.seq c
+      has = (g.mean made.c.id.seq c).1 (record {
+        a = o.a;
+        b = made.c;
+        a_of_hart = o.of_hart;
+        b_of_hart = made.of_hart;
+        a_at = o.at;
+        b_at = refl;
+        memory = subst IsMemory same (g.enough.sound made.c.id.seq made.has).1.rule.from_memory;
+        leads = made.leads;
+      })
+
+      swept : Swept rows first left' (so.taken ++ b ∷ []) b
+      swept = next left left' so.taken top b so.swept is
+
+      go : (made.c.id.seq ≡ b) ⊎ (made.c.id.seq ≡ b → ⊥) → c ≡ b
+      go (inl here) =
+          let low : c ≤ made.c.id.seq = closed.below made.c.id.seq c has in
+          let high : b ≤ c = closed.below c b r in
+          omega arith
+      go (inr other) = absurd (swept.unsplit b made.c.id.seq (Contains-push so.taken b) made.has other
+          (closed.closed made.c.id.seq c b has r))
 
   -- one link more
   pub listing-more : (left left' : List ℕ) (top b k : ℕ) (links links' : List Link) →

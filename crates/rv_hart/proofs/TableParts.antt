@@ -3,10 +3,10 @@ use Rattle.rv_hart.proofs.Common.{◌≡◌, ℕ, Bool, true, false, ◌<◌, �
 use Rattle.rv_hart.proofs.Common.{refl, ◌∙◌, subst, length, get_or, ◌||◌, ◌==◌, eqb-true, eq-eqb, if◌then◌else◌}
 use Rattle.rv_hart.proofs.Common.{or_cases, or_left, or_right, Contains-get_or, arith, common_steps, IsMemory}
 use Rattle.rv_hart.proofs.Common.{Event, has_bit, Hart, IsOfPart, NamesEvents, IsPartFor, ArePartsFor, AddsPart}
-use Rattle.rv_hart.proofs.Common.{Adds, RuleRowIs, IsOrderedBy, RowIs, Part, Nothing}
+use Rattle.rv_hart.proofs.Common.{Adds, RowIs, Part, Nothing}
 use Rattle.rv_hart.specs.Parts.{IsUnder}
 use Rattle.rv_hart.proofs.HartFacts.{Fits, Known, same_event}
-use Rattle.rv_hart.proofs.RuleConditions.{HasMore, adds, more-both, ordered}
+use Rattle.rv_hart.proofs.RuleConditions.{HasMore, adds, more-both}
 
 module _ (h : Hart) (e : Event) where
   -- a part under a test has its events where the test passes
@@ -53,16 +53,6 @@ row-at {h} {e} f P row result a ca are is = (
   λ t. (let y = (are a.id.seq).0 (sym is ∙ t) in
       subst P (same_event f.known y.a a y.of_list ca y.at) y.holds),
   λ p. is ∙ (are a.id.seq).1 (record { a = a; of_list = ca; at = refl; holds = p }),
-)
-
--- the row of rule 2 has the loads that the rule orders
-pub reads-row :
-    {h : Hart} {e : Event} → Fits h e → IsMemory e → (reads : List ℕ) → RuleRowIs h e 2 reads →
-    RowIs reads (IsUnder h e 2) h.events
-reads-row {h} {e} f memory reads are s = (
-  λ x. (let o = (are s).0 x in
-      record { a = o.a; of_list = o.of_hart; at = o.at; holds = (o.rule.from_memory, o.rule.condition) }),
-  λ y. (are s).1 (subst (λ (n : ℕ). IsOrderedBy h e 2 n) y.at (ordered f memory 2 y.a y.of_list y.holds)),
 )
 
 -- what is read at a number is the event with that number

@@ -12,7 +12,7 @@ use Rattle.rv_hart.specs.Sets.{HasEvent, IsFencedFor, IsControlling, IsAddressin
 use Rattle.rv_hart.specs.declared.parts.SetName.{SetName}
 use Rattle.rv_hart.specs.declared.parts.SetName.TheVariants as set
 use Rattle.rv_hart.specs.declared.parts.Part.{Part}
-use Rattle.rv_hart.specs.declared.parts.Part.TheVariants.{Nothing, Reads, In, One, Named, NamedBy}
+use Rattle.rv_hart.specs.declared.parts.Part.TheVariants.{Nothing, In, One, Named, NamedBy}
 
 -- the event is one of the set
 abbrev pub IsIn : Hart → SetName → Event → Type 0
@@ -32,7 +32,6 @@ IsUnder h e k a = IsMemory a × Condition h.model (followed h e) a e k
 -- the event is of the part
 abbrev pub IsOfPart : Hart → Event → Part → Event → Type 0
 IsOfPart h e Nothing a = ⊥
-IsOfPart h e Reads a = IsUnder h e 2 a
 IsOfPart h e (In name) a = IsIn h name a
 IsOfPart h e (One s) a = a.id.seq ≡ s
 IsOfPart h e (Named kind) a = IsMemory a × DependsOn kind e a

@@ -58,10 +58,11 @@ impl HartOrder {
     /// `returned` is the number of the hart's own store that the event, a load, returns, where
     /// there is one.
     ///
-    /// It costs a step for each 64 events from the first to the last of the candidates, for each
-    /// link, and a step for each operation of its word back to the hart's last store of it; loads
-    /// of one version in a row cost one step together. A hart's fences, annotated events and
-    /// branches cost a pass over their sets each.
+    /// It costs a step for each 64 events from the first to the last of the candidates, and for
+    /// each link. A store costs a step for each operation of its word back to the hart's last store
+    /// of it. A load costs a step for each load of the nearest run, of its word, that returned one
+    /// other version. A hart's fences, annotated events and branches cost a pass over their sets
+    /// each.
     ///
     /// # Errors
     /// `NoMemory` where the list could not be had.

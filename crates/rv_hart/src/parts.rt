@@ -30,8 +30,6 @@ pub enum SetName {
 pub enum Part {
     /// None.
     Nothing,
-    /// The loads that rule 2 orders before the next event.
-    Reads,
     /// Those of a set.
     In(SetName),
     /// The one with this number.

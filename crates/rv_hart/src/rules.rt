@@ -2,15 +2,15 @@
 //! table (manual, section 14.1, "Preserved Program Order").
 //!
 //! The candidates are all that the table has; the lowest rule of a candidate is the first whose
-//! parts have it. Rule 1 is not in the table, as its walk stops at a store that all earlier
-//! operations lead to.
+//! parts have it. Rules 1 and 2 are not in the table, as their walks stop at operations that all
+//! earlier ones lead to.
 ghost use Rattle.std.specs.Prelude.{ℕ, ◌≡◌, ◌<◌, ◌↔◌, ◌⊎◌, IsTrue, false};
 ghost use Rattle.rv_event.specs.declared.event.Op.TheVariants.{Amo, Sc};
 ghost use Rattle.rv_rows.specs.Bits.{has_bit};
 ghost use Rattle.rv_hart.specs.Kept.{hart_at, IsAsked, IsKept};
 ghost use Rattle.rv_hart.specs.Parts.{AddsPart, ArePartsFor, IsIn, IsOfPart, IsPartFor, NamesEvents};
 ghost use Rattle.rv_hart.specs.Rows.{IsCandidate, IsEnough};
-ghost use Rattle.rv_hart.specs.RuleRows.{ConditionOf, IsLowestRule, IsOperationOf, RuleRowIs};
+ghost use Rattle.rv_hart.specs.RuleRows.{ConditionOf, IsApart, IsLeadingRow, IsLowestRule, IsOperationOf};
 ghost use Rattle.rv_hart.specs.Sets.{RowIs};
 
 use crate::next::Next;
@@ -25,11 +25,10 @@ impl Next<'_> {
     #[inline(always)]
     fn parts(&self, rule: u8) -> (Part, Part)
         requires asked { IsAsked self.now }
-        requires rule { 1 < rule }
+        requires rule { 2 < rule }
         ensures { ArePartsFor (hart_at self.now) self.now.event.now rule result.0 result.1 }
     {
         match rule {
-            2 => (Part::Reads, Part::Nothing),
             3 => (self.atomic_part(), Part::Nothing),
             4 => {
                 let loads = part_if(self.event.is_load(), Part::In(SetName::FencedForLoad));
@@ -123,11 +122,10 @@ impl Next<'_> {
         }
     }
 
-    /// Puts in the events of the part. `reads` is the row of rule 2.
+    /// Puts in the events of the part.
     #[inline(always)]
-    fn add_part(&self, part: Part, reads: &Row, row: &mut Row)
+    fn add_part(&self, part: Part, row: &mut Row)
         requires asked { IsAsked self.now }
-        requires reads { RuleRowIs (hart_at self.now) self.now.event.now 2 reads.now }
         requires names { NamesEvents (hart_at self.now) part }
         ensures { AddsPart (hart_at self.now) self.now.event.now part row.old row.new }
     {
@@ -135,7 +133,6 @@ impl Next<'_> {
         let stores = &self.kept.sets.stores;
         match part {
             Part::Nothing => {}
-            Part::Reads => row.join(reads),
             Part::In(name) => row.join(self.set(name)),
             Part::One(number) => row.insert(number as usize),
             Part::Named(kind) => add_dependencies(row, self.event, kind, loads, stores),
@@ -146,11 +143,10 @@ impl Next<'_> {
         }
     }
 
-    /// Whether the operation is of the part. `reads` is the row of rule 2.
+    /// Whether the operation is of the part.
     #[inline(always)]
-    fn has_part(&self, part: Part, reads: &Row, met: &Event) -> bool
+    fn has_part(&self, part: Part, met: &Event) -> bool
         requires asked { IsAsked self.now }
-        requires reads { RuleRowIs (hart_at self.now) self.now.event.now 2 reads.now }
         requires names { NamesEvents (hart_at self.now) part }
         requires met { IsOperationOf (hart_at self.now) met.now }
         ensures { IsTrue result ↔ IsOfPart (hart_at self.now) self.now.event.now part met.now }
@@ -158,7 +154,6 @@ impl Next<'_> {
         let at = met.id.seq;
         match part {
             Part::Nothing => false,
-            Part::Reads => reads.has(at as usize),
             Part::In(name) => self.set(name).has(at as usize),
             Part::One(number) => number == at,
             Part::Named(kind) => depends_on(kind, self.event, met),
@@ -169,26 +164,29 @@ impl Next<'_> {
         }
     }
 
-    /// Puts the candidates into an empty row: what some rule orders before the event, of rule 1
-    /// only what the rest leads to. `reads` is the row of rule 2.
+    /// Puts the candidates into an empty row: what some rule orders before the event, of rules 1
+    /// and 2 only what the rest leads to. `reads` is the row of rule 2.
     pub fn fill_candidates(&self, reads: &Row, row: &mut Row)
         requires asked { IsAsked self.now }
-        requires reads { RuleRowIs (hart_at self.now) self.now.event.now 2 reads.now }
+        requires reads { IsLeadingRow (hart_at self.now) self.now.event.now 2 reads.now }
         requires empty { (s : ℕ) → has_bit row.old s ≡ false }
         ensures { IsEnough (hart_at self.now) self.now.event.now row.new }
     {
         self.fill_overlapping(row);
-        for rule in 2..14u8 {
+        row.join(reads);
+        for rule in 3..14u8 {
             let (one, other) = self.parts(rule);
-            self.add_part(one, reads, row);
-            self.add_part(other, reads, row);
+            self.add_part(one, row);
+            self.add_part(other, row);
         }
     }
 
-    /// The lowest rule that orders the candidate before the event. `reads` is the row of rule 2.
+    /// The lowest rule that orders the candidate before the event. `reads` is the row of rule 2,
+    /// none of whose other loads the candidate leads to.
     pub fn lowest_rule(&self, reads: &Row, number: usize) -> u8
         requires asked { IsAsked self.now }
-        requires reads { RuleRowIs (hart_at self.now) self.now.event.now 2 reads.now }
+        requires reads { IsLeadingRow (hart_at self.now) self.now.event.now 2 reads.now }
+        requires apart { IsApart self.now.kept.now.rows reads.now number }
         requires candidate { IsCandidate (hart_at self.now) self.now.event.now number }
         ensures { IsLowestRule (hart_at self.now) self.now.event.now number result }
     {
@@ -202,19 +200,23 @@ impl Next<'_> {
     }
 
     /// Whether the condition of the rule with this number holds between the operation that was met
-    /// and the event.
+    /// and the event. `reads` is the row of rule 2, none of whose other loads it leads to.
     fn is_condition(&self, rule: u8, met: &Event, reads: &Row) -> bool
         requires asked { IsAsked self.now }
         requires met { IsOperationOf (hart_at self.now) met.now }
-        requires reads { RuleRowIs (hart_at self.now) self.now.event.now 2 reads.now }
+        requires reads { IsLeadingRow (hart_at self.now) self.now.event.now 2 reads.now }
+        requires apart { IsApart self.now.kept.now.rows reads.now met.now.id.seq }
         requires rule { 0 < rule }
         ensures { IsTrue result ↔ ConditionOf (hart_at self.now) self.now.event.now rule met.now }
     {
         if rule == 1 {
             return is_overlapping_store(met, self.event);
         }
+        if rule == 2 {
+            return reads.has(met.id.seq as usize);
+        }
         let (one, other) = self.parts(rule);
-        self.has_part(one, reads, met) || self.has_part(other, reads, met)
+        self.has_part(one, met) || self.has_part(other, met)
     }
 }
 

@@ -4,10 +4,9 @@ ghost use Rattle.std.specs.Prelude.{ℕ, ◌≡◌, ◌≢◌, ◌↔◌, IsTrue
 ghost use Rattle.rv_event.specs.Operations.{IsLoad};
 ghost use Rattle.rv_rows.specs.Bits.{has_bit};
 ghost use Rattle.rv_hart.specs.Kept.{hart_at, IsAsked};
-ghost use Rattle.rv_hart.specs.RuleRows.{RuleRowIs, IsOverlapRow};
+ghost use Rattle.rv_hart.specs.RuleRows.{IsLastOther, IsLeadingRow};
 
 use crate::next::Next;
-use crate::rows::insert_if;
 use rv_event::Event;
 use rv_rows::Row;
 
@@ -17,7 +16,7 @@ impl Next<'_> {
     pub fn fill_overlapping(&self, row: &mut Row)
         requires asked { IsAsked self.now }
         requires empty { (s : ℕ) → has_bit row.old s ≡ false }
-        ensures { IsOverlapRow (hart_at self.now) self.now.event.now row.new }
+        ensures { IsLeadingRow (hart_at self.now) self.now.event.now 1 row.new }
     {
         if !self.event.is_store() {
             return;
@@ -35,30 +34,52 @@ impl Next<'_> {
         }
     }
 
-    /// Rule 2: puts into an empty row, where the event is a load, the loads of its word back to the
-    /// last store that returned another version.
+    /// Rule 2: puts into an empty row, where the event is a load, the nearest run of loads of its
+    /// word that returned one other version, which all earlier ones lead to.
     pub fn fill_different_reads(&self, row: &mut Row)
         requires asked { IsAsked self.now }
         requires empty { (s : ℕ) → has_bit row.old s ≡ false }
-        ensures { RuleRowIs (hart_at self.now) self.now.event.now 2 row.new }
+        ensures { IsLeadingRow (hart_at self.now) self.now.event.now 2 row.new }
     {
         if !self.event.is_load() {
             return;
         }
         let mut next = self.kept.words.last(self.event.word);
         'met: while let Some(number) = next {
-            let number = number as usize;
-            let met = self.events.at(number);
-            insert_if(row, is_other_read(met, self.event), number);
+            let met = self.events.at(number as usize);
+            if is_other_read(met, self.event) {
+                self.fill_run(number, row);
+                return;
+            }
             if met.is_store() {
                 return;
             }
-            let link = self.kept.words.links[number];
-            next = if met.read == self.event.read {
-                link.before_run
-            } else {
-                link.previous
-            };
+            let link = self.kept.words.links[number as usize];
+            next = link.before_run;
+        }
+    }
+
+    /// Puts into an empty row the loads of the event's word that returned what the one with this
+    /// number did, from that one back to the next store or load of another version.
+    fn fill_run(&self, number: u32, row: &mut Row)
+        requires asked { IsAsked self.now }
+        requires last { IsLastOther (hart_at self.now) self.now.event.now number }
+        requires empty { (s : ℕ) → has_bit row.old s ≡ false }
+        ensures { IsLeadingRow (hart_at self.now) self.now.event.now 2 row.new }
+    {
+        let version = self.events.at(number as usize).read;
+        let mut next = Some(number);
+        'run: while let Some(number) = next {
+            let met = self.events.at(number as usize);
+            if !met.is_load() || met.read != version {
+                return;
+            }
+            row.insert(number as usize);
+            if met.is_store() {
+                return;
+            }
+            let behind = self.kept.words.links[number as usize];
+            next = behind.previous;
         }
     }
 }

@@ -1,28 +1,19 @@
 -- Each part adds its events.
 use Rattle.rv_hart.proofs.Common.{◌<◌, ◌≤◌, length, sym, ◌∙◌, subst, arith, common_steps, IsMemory, DependsOn}
 use Rattle.rv_hart.proofs.Common.{IsIn, IsOfPart, NamedBy, Event, Hart, hart_at}
-use Rattle.rv_hart.specs.Parts.{IsUnder}
 use Rattle.rv_hart.proofs.HartFacts.{fits, deps-few, own-deps-few, same_event}
 use Rattle.rv_hart.proofs.RuleConditions.{more-none, more-all, more-named}
-use Rattle.rv_hart.proofs.TableParts.{reads-row, read-event, more-number, more-same}
+use Rattle.rv_hart.proofs.TableParts.{read-event, more-number, more-same}
 use Rattle.rv_hart.proofs.next.Next.add_part.Goals as goal
 
 pub returns-in-Nothing : goal.returns-in-Nothing
 returns-in-Nothing c = rw c.in-Nothing.is (more-none (hart_at c.args.self.now).events c.args.row.now)
 
-pub returns-in-Reads : goal.returns-in-Reads
-returns-in-Reads c =
-    let h : Hart = hart_at c.args.self.now in
-    let e : Event = c.args.self.now.event.now in
-    let f = fits c.requires.asked in
-    rw c.in-Reads.is (more-all (IsUnder h e 2) h.events c.args.row.now c.args.reads.now c.join.new.self
-    (reads-row f c.requires.asked.memory c.args.reads.now c.requires.reads) c.join.ensures)
-
 pub returns-in-In : goal.returns-in-In
 returns-in-In c =
     let h : Hart = hart_at c.args.self.now in
-    rw c.in-In.is (more-all (IsIn h c.in-In.name) h.events c.args.row.now c.set.result.now c.join-in-In.new.self
-    c.set.ensures c.join-in-In.ensures)
+    rw c.in-In.is (more-all (IsIn h c.in-In.name) h.events c.args.row.now c.set.result.now c.join.new.self
+    c.set.ensures c.join.ensures)
 
 pub insert-requires : goal.insert-requires
 insert-requires c =

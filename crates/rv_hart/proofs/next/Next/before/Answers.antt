@@ -2,7 +2,7 @@ use Rattle.rv_hart.proofs.Common.{◌≡◌, List, ℕ, Some, None, length, sym,
 use Rattle.rv_hart.proofs.Common.{IsTaken, Hart, hart_at}
 use Rattle.rv_hart.proofs.HartFacts.{fits_of}
 use Rattle.rv_hart.proofs.Listings.{Sweeping, IsListing, rows-few, listing-begun, listing-candidate, listing-more}
-use Rattle.rv_hart.proofs.Listings.{listing-done}
+use Rattle.rv_hart.proofs.Listings.{listing-apart, listing-done}
 use Rattle.rv_hart.proofs.next.Next.before.Goals as goal
 
 pub returns-then-not-is_memory : goal.returns-then-not-is_memory
@@ -48,6 +48,19 @@ lowest_rule-rule-requires-clause-candidate c =
     rw c.in-Some.is at c.take_highest.ensures in
     listing-candidate g c.taken.left c.take_highest.new.candidates c.taken.top c.in-Some.number
     c.taken.links.items c.taken.invariant is
+
+pub lowest_rule-rule-requires-clause-apart : goal.lowest_rule-rule-requires-clause-apart
+lowest_rule-rule-requires-clause-apart c =
+    let h : Hart = hart_at c.args.self.now in
+    let e : Event = c.args.self.now.event.now in
+    let rows : List (List ℕ) = c.args.self.now.kept.now.rows in
+    let first : List ℕ = c.fill_candidates.new.row in
+    let g : Sweeping h e rows first =
+    search (fits_of, c.is_memory.ensures.0 c.if-not-is_memory.false, rules) in
+    let is : IsTaken rows c.taken.left (Some c.in-Some.number) c.take_highest.new.candidates =
+    rw c.in-Some.is at c.take_highest.ensures in
+    listing-apart g c.taken.left c.take_highest.new.candidates c.taken.top c.in-Some.number
+    c.taken.links.items c.fill_different_reads.new.row c.taken.invariant is c.fill_different_reads.ensures
 
 pub taken-preserved : goal.taken-preserved
 taken-preserved c =

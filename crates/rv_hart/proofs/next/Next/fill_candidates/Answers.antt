@@ -19,7 +19,7 @@ loop-rule-preserved c k is =
     let same : j + 1 ≡ k = omega (arith, is, c.loop-rule.auto) in
     let for : ArePartsFor h e (j + 1) _ _ =
     subst (λ (n : ℕ). ArePartsFor h e n c.parts-one.result.0 c.parts-one.result.1) (sym before) c.parts-one.ensures in
-    subst (λ (n : ℕ). AreAdded h e n c.fill_overlapping.new.row c.add_part-in-loop-rule.new.row) same
+    subst (λ (n : ℕ). AreAdded h e n c.join.new.self c.add_part-in-loop-rule.new.row) same
     (added-more h e j _ _ _ (c.loop-rule.invariant j before)
     (adds-parts f c.requires.asked.memory (j + 1) c.parts-one.result.0 c.parts-one.result.1 c.loop-rule.row
     c.add_part.new.row c.add_part-in-loop-rule.new.row for c.add_part.ensures c.add_part-in-loop-rule.ensures))
@@ -27,5 +27,5 @@ loop-rule-preserved c k is =
 pub returns : goal.returns
 returns c =
     let f = fits c.requires.asked in
-    enough-added f c.fill_overlapping.new.row c.loop-rule.row c.fill_overlapping.ensures
-    (c.loop-rule.invariant 13 (omega arith))
+    enough-added f c.fill_overlapping.new.row c.args.reads.now c.join.new.self c.loop-rule.row
+    c.fill_overlapping.ensures c.requires.reads c.join.ensures (c.loop-rule.invariant 13 (omega arith))

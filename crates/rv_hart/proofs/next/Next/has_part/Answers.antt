@@ -1,9 +1,8 @@
 -- Each part is asked for an operation.
 use Rattle.rv_hart.proofs.Common.{◌<◌, length, sym, ◌∙◌, subst, arith, false≢true, common_steps, DependsOn, IsIn}
 use Rattle.rv_hart.proofs.Common.{Event, Hart, hart_at}
-use Rattle.rv_hart.specs.Parts.{IsUnder}
 use Rattle.rv_hart.proofs.HartFacts.{fits, number-few, same_event}
-use Rattle.rv_hart.proofs.TableParts.{row-at, reads-row, read-event}
+use Rattle.rv_hart.proofs.TableParts.{row-at, read-event}
 use Rattle.rv_hart.proofs.next.Next.has_part.Goals as goal
 
 pub returns-in-Nothing : goal.returns-in-Nothing
@@ -14,25 +13,12 @@ has-requires c =
     let f = fits c.requires.asked in
     number-few f.known c.args.met.now c.requires.met.of_hart
 
-pub returns-in-Reads : goal.returns-in-Reads
-returns-in-Reads c =
-    let h : Hart = hart_at c.args.self.now in
-    let e : Event = c.args.self.now.event.now in
-    let f = fits c.requires.asked in
-    rw c.in-Reads.is (row-at f (IsUnder h e 2) c.args.reads.now c.has.result c.args.met.now c.requires.met.of_hart
-    (reads-row f c.requires.asked.memory c.args.reads.now c.requires.reads) c.has.ensures)
-
-pub has-requires-in-In : goal.has-requires-in-In
-has-requires-in-In c =
-    let f = fits c.requires.asked in
-    number-few f.known c.args.met.now c.requires.met.of_hart
-
 pub returns-in-In : goal.returns-in-In
 returns-in-In c =
     let h : Hart = hart_at c.args.self.now in
     let f = fits c.requires.asked in
-    rw c.in-In.is (row-at f (IsIn h c.in-In.name) c.set.result.now c.has-in-In.result c.args.met.now
-    c.requires.met.of_hart c.set.ensures c.has-in-In.ensures)
+    rw c.in-In.is (row-at f (IsIn h c.in-In.name) c.set.result.now c.has.result c.args.met.now
+    c.requires.met.of_hart c.set.ensures c.has.ensures)
 
 pub returns-in-One : goal.returns-in-One
 returns-in-One c = grind (arith, common_steps)

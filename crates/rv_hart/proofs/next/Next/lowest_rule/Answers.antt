@@ -1,5 +1,6 @@
 use Rattle.rv_hart.proofs.Common.{Condition-above, ◌≡◌, ◌<◌, ◌↔◌, IsTrue, length, sym, ◌∙◌, subst, arith}
-use Rattle.rv_hart.proofs.Common.{false≢true, common_steps, IsOperationOf, ConditionOf, Event, Hart, hart_at}
+use Rattle.rv_hart.proofs.Common.{ap, false≢true, common_steps, IsApart, IsOperationOf, ConditionOf}
+use Rattle.rv_hart.proofs.Common.{Event, Hart, hart_at}
 use Rattle.rv_hart.proofs.HartFacts.{fits, read_is, fits_of}
 use Rattle.rv_hart.proofs.Listings.{candidate-operation, lowest-here, none-here, some-rule}
 use Rattle.rv_hart.proofs.next.Next.lowest_rule.Goals as goal
@@ -25,6 +26,16 @@ is_condition-requires-clause-met c =
     o.at c.at-met.ensures in
     subst (IsOperationOf h) (sym same) (candidate-operation f c.requires.asked.memory c.args.number
     c.requires.candidate)
+
+pub is_condition-requires-clause-apart : goal.is_condition-requires-clause-apart
+is_condition-requires-clause-apart c =
+    let h : Hart = hart_at c.args.self.now in
+    let f = fits c.requires.asked in
+    let o = c.requires.candidate.1 in
+    let same : c.at-met.result.now ≡ o.a = read_is f.known o.a c.at-met.result.now c.args.number o.of_hart
+    o.at c.at-met.ensures in
+    subst (IsApart c.args.self.now.kept.now.rows c.args.reads.now)
+    (sym (ap (λ (x : Event). x.id.seq) same ∙ o.at)) c.requires.apart
 
 pub returns-then-is_condition : goal.returns-then-is_condition
 returns-then-is_condition c =

@@ -9,9 +9,6 @@ use Rattle.rv_hart.proofs.HartFacts.{fits}
 use Rattle.rv_hart.specs.declared.parts.SetName.TheVariants as set
 use Rattle.rv_hart.proofs.next.Next.parts.Goals as goal
 
-pub returns-in-2 : goal.returns-in-2
-returns-in-2 c = grind (arith, common_steps)
-
 pub returns-in-3 : goal.returns-in-3
 returns-in-3 c = search rules
 
