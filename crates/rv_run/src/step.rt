@@ -22,9 +22,12 @@ use std::{array, thread};
 /// How many chunks a source may be ahead of another that is still read.
 const AHEAD: u64 = 2;
 
-/// How often other threads are given the processor before a chunk that is ahead is put all the
-/// same, since a source that is slow to come must not stop the others.
-const TURNS: u64 = 1000;
+/// How often other threads are given the processor while a chunk is ahead, before its thread rests.
+const TURNS: u64 = 32;
+
+/// How often such a thread then rests, a millisecond at most each time. Then the chunk is put all
+/// the same, since a source that is slow to come must not stop the others.
+const RESTS: u64 = 20;
 
 /// For how many milliseconds a thread rests at most, for the case that it was not woken.
 const REST: u64 = 200;
@@ -32,20 +35,26 @@ const REST: u64 = 200;
 /// The count of a source that is not read, or not any more.
 const ENDED: u64 = u64::MAX;
 
+/// No count of a source.
+const NONE: u64 = u64::MAX - 1;
+
 /// How far one source is.
 #[derive(Drop)]
 struct Lane {
     /// How many chunks were placed, or `ENDED`.
     placed: AtomicU64,
-    /// How often its next chunk was held back.
-    turns: AtomicU64,
+    /// How many chunks the slowest source had placed where this one was held back for it in vain,
+    /// or `NONE`. It is not held back again before the slowest has placed more.
+    passed: AtomicU64,
+    /// Whether its next chunk is held back: 1, else 0.
+    held: AtomicU64,
     /// Whether its next chunk found no free slot: 1, else 0.
     wants: AtomicU64,
 }
 
 /// A carrier and a gate that are used together, with how far each source is. A worker that rests is
-/// woken where a chunk was placed, a source's thread where a slot may be free, and all where the
-/// gate may be stopped. The readers are told by the bell.
+/// woken where a chunk was placed, a source's thread where a slot may be free or another source has
+/// caught up, and all where the gate may be stopped. The readers are told by the bell.
 #[derive(Drop)]
 pub struct InStep<'a, C, G> {
     carrier: C,
@@ -53,6 +62,7 @@ pub struct InStep<'a, C, G> {
     lanes: [Lane; 8],
     chunks: Condvar,
     slots: Condvar,
+    steps: Condvar,
     bell: &'a Bell,
 }
 
@@ -68,11 +78,13 @@ impl<'a, C: Drop, G: Drop> InStep<'a, C, G> {
             gate,
             lanes: array::from_fn(|i| Lane {
                 placed: AtomicU64::new(if i < count { 0 } else { ENDED }),
-                turns: AtomicU64::new(0),
+                passed: AtomicU64::new(NONE),
+                held: AtomicU64::new(0),
                 wants: AtomicU64::new(0),
             }),
             chunks: Condvar::new(),
             slots: Condvar::new(),
+            steps: Condvar::new(),
             bell,
         }
     }
@@ -86,36 +98,68 @@ impl<'a, C: Drop, G: Drop> InStep<'a, C, G> {
 }
 
 impl<'a, C, G> InStep<'a, C, G> {
-    /// Whether another source that is still read is far behind this chunk.
-    fn is_ahead(&self, number: u64) -> bool {
-        self.lanes.iter().any(|lane| lane.placed.load(Ordering::SeqCst).saturating_add(AHEAD)
-            < number)
+    /// How many chunks the slowest source has placed, of those that are still read and whose next
+    /// row has come.
+    fn slowest(&self) -> u64 {
+        let mut least = ENDED;
+        for (source, lane) in (0u8..8).zip(&self.lanes) {
+            if !self.bell.is_dry(source) {
+                least = least.min(lane.placed.load(Ordering::SeqCst));
+            }
+        }
+        least
     }
 
-    /// Gives other threads the processor while the chunk is ahead, for so many turns at most in
-    /// all. A chunk that was put before, with fewer events, is not held back.
-    fn hold(&self, lane: &Lane, number: u64) {
+    /// Whether the source's next chunk, of this number, waits for the slowest one.
+    fn is_held(&self, lane: &Lane, number: u64) -> bool {
+        let slowest = self.slowest();
+        slowest.saturating_add(AHEAD) < number && lane.passed.load(Ordering::SeqCst) != slowest
+    }
+
+    /// Holds the chunk back while it is ahead: its thread gives up the processor for some turns,
+    /// and then rests, each time until another source has placed a chunk or for a moment. A chunk
+    /// that was put before, with fewer events, is not held back.
+    fn hold<R: Wait>(&self, rt: &R, lane: &Lane, number: u64) {
         if number < lane.placed.load(Ordering::SeqCst) {
             return;
         }
-        for _ in lane.turns.load(Ordering::SeqCst)..TURNS {
-            if !self.is_ahead(number) {
+        for _ in 0..TURNS {
+            if !self.is_held(lane, number) {
                 return;
             }
-            lane.turns.fetch_add(1, Ordering::SeqCst);
             thread::yield_now();
         }
+        lane.held.store(1, Ordering::SeqCst);
+        for _ in 0..RESTS {
+            let seen = self.steps.notifications();
+            if !self.is_held(lane, number) {
+                lane.held.store(0, Ordering::SeqCst);
+                return;
+            }
+            self.steps.sleep(rt, seen, Duration::from_millis(1));
+        }
+        lane.held.store(0, Ordering::SeqCst);
+        lane.passed.store(self.slowest(), Ordering::SeqCst);
     }
 
-    /// Takes down that a chunk was placed, and wakes a worker.
+    /// Takes down that a chunk was placed, and wakes a worker and who was held back.
     fn count(&self, lane: &Lane, number: u64) {
         lane.wants.store(0, Ordering::SeqCst);
         if lane.placed.load(Ordering::SeqCst) <= number {
             lane.placed
                 .store(number.saturating_add(1), Ordering::SeqCst);
-            lane.turns.store(0, Ordering::SeqCst);
         }
         self.chunks.notify_one();
+        if self.holds_back() {
+            self.steps.notify_all();
+        }
+    }
+
+    /// Whether a source's thread rests as its chunk is ahead.
+    fn holds_back(&self) -> bool {
+        self.lanes
+            .iter()
+            .any(|lane| lane.held.load(Ordering::SeqCst) > 0)
     }
 
     /// Whether a source's thread waits for a free slot.
@@ -129,6 +173,7 @@ impl<'a, C, G> InStep<'a, C, G> {
     fn wake_all(&self) {
         self.chunks.notify_all();
         self.slots.notify_all();
+        self.steps.notify_all();
     }
 
     /// Whether no source is read any more.
@@ -159,7 +204,7 @@ impl<'a, C: Carrier, G> Carrier for InStep<'a, C, G> {
             return self.carrier.put_chunk(rt, seat, chunk);
         };
         let number = u64::from(chunk.number());
-        self.hold(lane, number);
+        self.hold(rt, lane, number);
         let (mut seat, mut put) = self.carrier.put_chunk(rt, seat, chunk);
         if put == Put::Busy {
             lane.wants.store(1, Ordering::SeqCst);

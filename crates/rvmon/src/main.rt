@@ -16,6 +16,8 @@ ghost use Rattle.rv_cli.specs.Asked.{IsInRange};
 ghost use Rattle.rvmon.specs.Starting.{EndsAsked, EndsBy, IsEnd, nothing_known};
 
 mod ending;
+#[cfg(test)]
+mod in_memory;
 mod opening;
 #[cfg(test)]
 mod tests;

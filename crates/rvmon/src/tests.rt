@@ -65,7 +65,7 @@ fn fault_of(kind: FaultKind, row: u32) -> Ending {
 }
 
 /// The ending prints these texts to standard output and standard error, and has this status.
-fn assert_printed(
+pub(crate) fn assert_printed(
     rt: &impl Abort,
     alloc: Global,
     ending: &Ending,

@@ -1,0 +1,96 @@
+//! Requests whose files lie in memory: each ending is of the files that the words name.
+ghost use Rattle.std.specs.Prelude.{option_map};
+ghost use Rattle.std.specs.HashMap.{get_by_text};
+
+use crate::answer_words;
+use crate::ending::Ending;
+use crate::opening::{Opener, Unopened};
+use crate::tests::assert_printed;
+use rv_report::Outcome;
+use std::alloc::Global;
+use std::collections::HashMap;
+use std::test::Fail;
+
+/// Files in memory, by their names.
+#[derive(Drop)]
+struct MemoryFiles<'a> {
+    files: &'a HashMap<String, Vec<u8>>,
+}
+
+impl<'a> Opener for MemoryFiles<'a> {
+    type File = &'a [u8];
+
+    ghost known = { λ opener name. option_map (λ file. file.items) (get_by_text opener.files.now name) };
+
+    fn open(&self, name: &String) -> Result<Option<&'a [u8]>, Unopened> {
+        match self.files.get(name.as_str()) {
+            Some(file) => Ok(Some(file.as_slice())),
+            None => Err(Unopened),
+        }
+    }
+}
+
+/// The files of the tests: a name, and the bytes.
+const FILES: [(&str, &str); 5] = [
+    (
+        "one.csv",
+        "hart,seq,op,word,read,wrote,ann,deps\n0,0,S,0,,1,,\n0,1,F,,,,rw-rw,\n0,2,L,1,0,,,\n",
+    ),
+    (
+        "other.csv",
+        "hart,seq,op,word,read,wrote,ann,deps\n1,0,S,1,,1,,\n1,1,F,,,,rw-rw,\n1,2,L,0,0,,,\n",
+    ),
+    (
+        "unfenced.csv",
+        "hart,seq,op,word,read,wrote,ann,deps\n1,0,S,1,,1,,\n1,1,L,0,0,,,\n",
+    ),
+    (
+        "stale.csv",
+        "hart,seq,op,word,read,wrote,ann,deps\n0,0,S,0,,1,,\n0,1,L,0,0,,,\n",
+    ),
+    ("headless.csv", "0,0,S,0,,1,,\n"),
+];
+
+/// These files, by their names.
+fn files_of(alloc: Global) -> Result<HashMap<String, Vec<u8>>, Fail> {
+    let mut files = HashMap::new(alloc);
+    for (name, text) in FILES {
+        let bytes = text.as_bytes().to_vec(alloc)?;
+        files.insert(String::from_str(alloc, name)?, bytes)?;
+    }
+    Ok(files)
+}
+
+#[test]
+fn a_request_is_judged_by_the_files_that_it_names(rt: HostRuntime) -> Result<(), Fail> {
+    let files = files_of(rt.alloc())?;
+    let allowed = "allowed: 5 events, 4 operations, 0 waiting loads\n";
+    let stale = "forbidden: h0:1 after 1 events\nstale: h0:1 reads below h0:0\n";
+    let json = "{\"after\":1,\"certificate\":{\"stale\":{\"load\":\"h0:1\",\"store\":\"h0:0\"}},\
+                \"event\":\"h0:1\",\"outcome\":\"forbidden\"}\n";
+    let headless = "rvmon: source 1 row 0: trace fault 1\n";
+    let missing = "rvmon: cannot open missing.csv\n";
+    let cases = [
+        (["one.csv", "unfenced.csv"], allowed, "", 0),
+        (["unfenced.csv", "one.csv"], allowed, "", 0),
+        (["--json", "stale.csv"], json, "", 1),
+        (["--workers=2", "stale.csv"], stale, "", 1),
+        (["one.csv", "headless.csv"], "", headless, 2),
+        (["one.csv", "missing.csv"], "", missing, 3),
+    ];
+    for (words, text, line, status) in cases {
+        let opener = MemoryFiles { files: &files };
+        let (ending, json) = answer_words(&rt, &rt, &opener, words.as_slice());
+        assert_printed(&rt, rt.alloc(), &ending, json, (text, line, status));
+    }
+    Ok(())
+}
+
+#[test]
+fn two_files_are_judged_together(rt: HostRuntime) -> Result<(), Fail> {
+    let files = files_of(rt.alloc())?;
+    let opener = MemoryFiles { files: &files };
+    let (ending, _) = answer_words(&rt, &rt, &opener, &["one.csv", "other.csv"]);
+    assert!(rt; matches!(&ending, Ending::Ran(Outcome::Forbidden(_))));
+    Ok(())
+}
