@@ -4,5 +4,8 @@ pub mod Decoding
 pub mod Encodings
 pub mod Fields
 pub mod Lines
+pub mod Listing
 pub mod Mnemonics
 pub mod Operands
+pub mod Roles
+pub mod Units

@@ -1,0 +1,269 @@
+//! What an instruction reads and writes, and what goes on from where to where.
+ghost use Rattle.std.specs.Prelude.{◌≡◌, ◌↔◌, IsTrue, Some};
+ghost use Rattle.rv_insn.specs.Roles.{Carries, CarriesCsr, CarriesOver, IsOperand, IsRaised};
+ghost use Rattle.rv_insn.specs.Roles.{address, csr_destination, csr_source, destinations};
+ghost use Rattle.rv_insn.specs.Roles.{flag_destination};
+ghost use Rattle.rv_insn.specs.Roles.{address_source, data_source, flag_source, frm_destination};
+ghost use Rattle.rv_insn.specs.Roles.{frm_source};
+ghost use Rattle.rv_insn.specs.Roles.{raises, read, reads_csr, sources, value, writes_csr, written};
+ghost use Rattle.rv_insn.specs.Roles.{x_register};
+
+use crate::insn::Insn;
+use crate::listing::usage_of;
+use crate::unit::{Flag, Unit, flag_of, is_other_csr, names, names_flags, names_frm};
+use crate::usage::{CsrUse, Operand, Target};
+
+/// An `x` register; x0 is none.
+fn x_register(number: u8) -> Option<Unit>
+    ensures { result ≡ x_register number }
+{
+    if number == 0 {
+        None
+    } else {
+        Some(Unit::X(number))
+    }
+}
+
+/// The register that an operand reads.
+fn read(operand: Operand, number: u8) -> Option<Unit>
+    ensures { result ≡ read operand number }
+{
+    match operand {
+        Operand::Unused => None,
+        Operand::X | Operand::AddressX | Operand::DataX => x_register(number),
+        Operand::F | Operand::DataF => Some(Unit::F(number)),
+    }
+}
+
+/// The register that is written.
+fn written(target: Target, number: u8) -> Option<Unit>
+    ensures { result ≡ written target number }
+{
+    match target {
+        Target::Nowhere => None,
+        Target::ToX => x_register(number),
+        Target::ToF => Some(Unit::F(number)),
+    }
+}
+
+/// Whether the instruction reads its CSR.
+fn reads_csr(csr: CsrUse, insn: Insn) -> bool
+    ensures { result ≡ reads_csr csr insn }
+{
+    match csr {
+        CsrUse::NoCsr => false,
+        CsrUse::Swap => insn.rd != 0,
+        CsrUse::Change => true,
+    }
+}
+
+/// Whether the instruction writes its CSR.
+fn writes_csr(csr: CsrUse, insn: Insn) -> bool
+    ensures { result ≡ writes_csr csr insn }
+{
+    match csr {
+        CsrUse::NoCsr => false,
+        CsrUse::Swap => true,
+        CsrUse::Change => !(insn.rs1 == 0 && insn.immediate == 0),
+    }
+}
+
+/// Whether the operation may raise the flag.
+fn raises(insn: Insn, flag: Flag) -> bool
+    ensures { result ≡ raises insn flag }
+{
+    flag_of(usage_of(insn.operation).raises, flag)
+}
+
+/// The flag, where it is a source.
+fn flag_source(insn: Insn, flag: Flag) -> Option<Unit>
+    ensures { result ≡ flag_source insn flag }
+{
+    let is_read = reads_csr(usage_of(insn.operation).csr, insn) && names_flags(insn.csr);
+    if raises(insn, flag) || is_read {
+        Some(Unit::Accrued(flag))
+    } else {
+        None
+    }
+}
+
+/// The flag, where it is a destination.
+fn flag_destination(insn: Insn, flag: Flag) -> Option<Unit>
+    ensures { result ≡ flag_destination insn flag }
+{
+    let is_written = writes_csr(usage_of(insn.operation).csr, insn) && names_flags(insn.csr);
+    if raises(insn, flag) || is_written {
+        Some(Unit::Accrued(flag))
+    } else {
+        None
+    }
+}
+
+/// The rounding mode, where it is a source.
+fn frm_source(insn: Insn) -> Option<Unit>
+    ensures { result ≡ frm_source insn }
+{
+    let is_read = reads_csr(usage_of(insn.operation).csr, insn) && names_frm(insn.csr);
+    if insn.rounding == 7 || is_read {
+        Some(Unit::Frm)
+    } else {
+        None
+    }
+}
+
+/// The rounding mode, where it is a destination.
+fn frm_destination(insn: Insn) -> Option<Unit>
+    ensures { result ≡ frm_destination insn }
+{
+    if writes_csr(usage_of(insn.operation).csr, insn) && names_frm(insn.csr) {
+        Some(Unit::Frm)
+    } else {
+        None
+    }
+}
+
+/// A CSR that is tracked as a whole, where it is a source.
+fn csr_source(insn: Insn) -> Option<Unit>
+    ensures { result ≡ csr_source insn }
+{
+    if reads_csr(usage_of(insn.operation).csr, insn) && is_other_csr(insn.csr) {
+        Some(Unit::Csr(insn.csr))
+    } else {
+        None
+    }
+}
+
+/// A CSR that is tracked as a whole, where it is a destination.
+fn csr_destination(insn: Insn) -> Option<Unit>
+    ensures { result ≡ csr_destination insn }
+{
+    if writes_csr(usage_of(insn.operation).csr, insn) && is_other_csr(insn.csr) {
+        Some(Unit::Csr(insn.csr))
+    } else {
+        None
+    }
+}
+
+/// The sources of the instruction, each in a place of its own: rs1, rs2, rs3, the rounding mode, the
+/// CSR, and the flags from inexact to invalid operation. x0 is none (manual, section 14.3).
+pub fn sources(insn: Insn) -> [Option<Unit>; 10]
+    ensures { result ≡ sources insn }
+{
+    let usage = usage_of(insn.operation);
+    [
+        read(usage.first, insn.rs1),
+        read(usage.second, insn.rs2),
+        read(usage.third, insn.rs3),
+        frm_source(insn),
+        csr_source(insn),
+        flag_source(insn, Flag::Nx),
+        flag_source(insn, Flag::Uf),
+        flag_source(insn, Flag::Of),
+        flag_source(insn, Flag::Dz),
+        flag_source(insn, Flag::Nv),
+    ]
+}
+
+/// The destinations of the instruction, each in a place of its own: rd, the rounding mode, the CSR,
+/// and the flags from inexact to invalid operation. x0 is none (manual, section 14.3).
+pub fn destinations(insn: Insn) -> [Option<Unit>; 8]
+    ensures { result ≡ destinations insn }
+{
+    [
+        written(usage_of(insn.operation).to, insn.rd),
+        frm_destination(insn),
+        csr_destination(insn),
+        flag_destination(insn, Flag::Nx),
+        flag_destination(insn, Flag::Uf),
+        flag_destination(insn, Flag::Of),
+        flag_destination(insn, Flag::Dz),
+        flag_destination(insn, Flag::Nv),
+    ]
+}
+
+/// The source from which the address of an access is taken.
+pub fn address_source(insn: Insn) -> Option<Unit>
+    ensures { result ≡ address_source insn }
+{
+    match usage_of(insn.operation).first {
+        Operand::AddressX => x_register(insn.rs1),
+        _ => None,
+    }
+}
+
+/// The source from which the value is taken that is stored.
+pub fn data_source(insn: Insn) -> Option<Unit>
+    ensures { result ≡ data_source insn }
+{
+    match usage_of(insn.operation).second {
+        Operand::DataX => x_register(insn.rs2),
+        Operand::DataF => Some(Unit::F(insn.rs2)),
+        _ => None,
+    }
+}
+
+/// Whether the unit is a register that the instruction reads, or `frm` where it takes the rounding
+/// mode from there.
+fn is_operand(insn: Insn, unit: Unit) -> bool
+    ensures { IsTrue result ↔ IsOperand insn unit }
+{
+    let usage = usage_of(insn.operation);
+    is_unit(read(usage.first, insn.rs1), unit)
+        || is_unit(read(usage.second, insn.rs2), unit)
+        || is_unit(read(usage.third, insn.rs3), unit)
+        || (insn.rounding == 7 && unit == Unit::Frm)
+}
+
+/// Whether the place has the unit.
+fn is_unit(place: Option<Unit>, unit: Unit) -> bool
+    ensures { IsTrue result ↔ (place ≡ Some unit) }
+{
+    match place {
+        Some(other) => other == unit,
+        None => false,
+    }
+}
+
+/// Whether the unit is a flag that the operation may raise.
+fn is_raised(insn: Insn, unit: Unit) -> bool
+    ensures { IsTrue result ↔ IsRaised insn unit }
+{
+    match unit {
+        Unit::Accrued(flag) => raises(insn, flag),
+        _ => false,
+    }
+}
+
+/// Whether the instruction, which has no CSR, carries from the one unit to the other.
+fn carries_over(insn: Insn, from: Unit, to: Unit) -> bool
+    ensures { IsTrue result ↔ CarriesOver insn from to }
+{
+    let usage = usage_of(insn.operation);
+    let is_from = is_operand(insn, from);
+    (usage.carries && is_from && is_unit(written(usage.to, insn.rd), to))
+        || (is_raised(insn, to) && (is_from || from == to))
+}
+
+/// Whether the instruction carries from the one unit to the other, by its CSR.
+fn carries_csr(insn: Insn, from: Unit, to: Unit) -> bool
+    ensures { IsTrue result ↔ CarriesCsr insn from to }
+{
+    let usage = usage_of(insn.operation);
+    (writes_csr(usage.csr, insn)
+        && is_unit(read(usage.first, insn.rs1), from)
+        && names(insn.csr, to))
+        || (reads_csr(usage.csr, insn)
+            && names(insn.csr, from)
+            && is_unit(written(usage.to, insn.rd), to))
+}
+
+/// Whether the instruction carries a dependency from the one unit to the other (manual, section
+/// 14.1, "Syntactic Dependencies").
+pub fn carries(insn: Insn, from: Unit, to: Unit) -> bool
+    ensures { IsTrue result ↔ Carries insn from to }
+{
+    match usage_of(insn.operation).csr {
+        CsrUse::NoCsr => carries_over(insn, from, to),
+        CsrUse::Swap | CsrUse::Change => carries_csr(insn, from, to),
+    }
+}
