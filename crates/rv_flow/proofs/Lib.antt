@@ -1,0 +1,8 @@
+mod Eight
+pub mod Gathering
+pub mod Paths
+pub mod Places
+pub mod Roles
+mod Longer
+mod Setting
+mod Units

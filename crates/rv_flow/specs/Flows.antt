@@ -1,0 +1,80 @@
+-- What a flow says of the instructions so far.
+use Rattle.std.specs.Prelude.{ℕ, ◌≡◌, ◌≢◌, ◌<◌, ◌+◌, ◌≤◌, ◌↔◌, ◌⊎◌, List, [], Some, None, length}
+use Rattle.std.specs.Prelude.{slice_index_or, vec_capacity}
+use Rattle.rv_insn.specs.Roles.{Carries, destinations}
+use Rattle.rv_insn.specs.declared.unit.Unit.{Unit}
+use Rattle.rv_rows.specs.Bits.{Has}
+use Rattle.rv_flow.specs.Dependencies.{IsAt, IsDestination}
+use Rattle.rv_flow.specs.Leading.{Leads}
+use Rattle.rv_flow.specs.declared.flow.Flow.{Flow}
+use Rattle.rv_flow.specs.declared.step.Step.{Step}
+
+-- the unit stands first at this place
+pub record IsPlace (units : List Unit) (u : Unit) (k : ℕ) : Type 0 where
+  pub within : k < length units
+  pub at : slice_index_or units k u ≡ u
+  pub first : (j : ℕ) → j < k → slice_index_or units j u ≢ u
+
+-- the unit stands at no place
+abbrev pub Lacks : List Unit → Unit → Type 0
+Lacks units u = (j : ℕ) → j < length units → slice_index_or units j u ≢ u
+
+-- the row at the unit's place has the event
+pub record HoldsIn (units : List Unit) (rows : List (List ℕ)) (u : Unit) (n : ℕ) : Type 0 where
+  pub place : ℕ
+  pub is_place : IsPlace units u place
+  pub has : Has (slice_index_or rows place []) n
+
+-- the flow has the event for the unit
+abbrev pub Holds : Flow → Unit → ℕ → Type 0
+Holds flow u n = HoldsIn flow.units.items flow.rows.items u n
+
+-- instruction i made event n
+abbrev pub EventAt : List Step → ℕ → ℕ → Type 0
+EventAt steps i n = (z : Step) × IsAt steps i z × (z.event ≡ Some n)
+
+-- what the unit holds after the instructions was computed from event n
+abbrev pub ComesFrom : List Step → Unit → ℕ → Type 0
+ComesFrom steps u n = (i : ℕ) × (s : Unit) × Leads steps (length steps) u i s × EventAt steps i n
+
+-- the flow is that of the instructions
+abbrev pub IsFlowOf : List Step → Flow → Type 0
+IsFlowOf steps flow = (u : Unit) (n : ℕ) → Holds flow u n ↔ ComesFrom steps u n
+
+-- the flow has the same events for each unit
+abbrev pub IsSame : Flow → Flow → Type 0
+IsSame old new = (u : Unit) (n : ℕ) → Holds new u n ↔ Holds old u n
+
+-- the unit has these events, and each other one those that it had
+abbrev pub IsSet : Flow → Unit → List ℕ → Flow → Type 0
+IsSet old unit row new =
+    (u : Unit) (n : ℕ) →
+    Holds new u n ↔ (((u ≡ unit) × Has row n) ⊎ ((u ≡ unit → ⊥) × Holds old u n))
+
+-- there is room for so many units more
+pub record HasRoom (flow : Flow) (more : ℕ) : Type 0 where
+  pub units : length flow.units.items + more ≤ vec_capacity flow.units
+  pub rows : length flow.rows.items + more ≤ vec_capacity flow.rows
+
+-- the instruction computes what it puts into the unit from the event: its own, or one from which a unit
+-- was computed that it carries from
+abbrev pub Next : Flow → Step → Unit → ℕ → Type 0
+Next flow step to n =
+    (step.event ≡ Some n) ⊎ ((p : Unit) × Carries step.insn p to × Holds flow p n)
+
+-- the row has just these events
+abbrev pub IsNext : Flow → Step → List ℕ → Unit → Type 0
+IsNext flow step row to = (n : ℕ) → Has row n ↔ Next flow step to n
+
+-- and so has each of the rows for the destination at its place
+abbrev pub AreNext : Flow → Step → List (List ℕ) → Type 0
+AreNext flow step rows =
+    (k : ℕ) (to : Unit) → k < 8 → slice_index_or (destinations step.insn) k None ≡ Some to →
+    IsNext flow step (slice_index_or rows k []) to
+
+-- each destination has these events, and each other unit those that it had
+abbrev pub IsAfter : Flow → Step → Flow → Type 0
+IsAfter old step new =
+    (u : Unit) (n : ℕ) →
+    Holds new u n ↔
+    ((IsDestination step.insn u × Next old step u n) ⊎ ((IsDestination step.insn u → ⊥) × Holds old u n))

@@ -1,0 +1,4 @@
+pub mod Dependencies
+pub mod Flows
+pub mod Laws
+pub mod Leading
