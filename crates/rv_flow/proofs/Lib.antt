@@ -1,4 +1,4 @@
-mod Eight
+mod DestinationRows
 pub mod Gathering
 pub mod Paths
 pub mod Places

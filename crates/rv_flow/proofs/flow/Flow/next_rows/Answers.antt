@@ -1,6 +1,6 @@
 -- Each destination's row, at its place.
 use Rattle.rv_flow.specs.Flows.{IsNext}
-use Rattle.rv_flow.proofs.Eight.{row-at}
+use Rattle.rv_flow.proofs.DestinationRows.{row-at}
 use Rattle.rv_flow.proofs.flow.Flow.next_rows.Goals as goal
 
 pub returns : goal.returns
