@@ -136,6 +136,15 @@ impl Chunk {
         Some(Chunk { words: *words })
     }
 
+    /// The chunk of words that are known to be a chunk text. It takes no memory, and no look at the
+    /// words.
+    pub fn of_text(words: &[u64; 58]) -> Chunk
+        requires { IsTrue (is_chunk_text words.now) }
+        ensures { words.now ≡ chunk_text result.source result.number result.events }
+    {
+        Chunk { words: *words }
+    }
+
     /// The words: the chunk text of the chunk's source, number and events.
     pub fn words(&self) -> &[u64; 58]
         ensures words { result.now ≡ chunk_text self.now.source self.now.number self.now.events }

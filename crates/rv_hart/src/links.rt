@@ -11,6 +11,9 @@ use crate::next::Next;
 use rv_event::{Id, Link, NoMemory, Reason};
 use rv_rows::{Row, take_highest};
 
+/// How many links there is room for at once, those for other reasons included.
+const USUAL_LINKS: usize = 8;
+
 impl Next<'_> {
     /// The links of the hart's next event. What is no memory operation has none.
     ///
@@ -20,10 +23,10 @@ impl Next<'_> {
         requires next { IsNext self.now }
         ensures { IfOk result (λ links. AreRuleLinks (hart_at self.now) self.now.event.now links.items) }
     {
-        let mut links = Vec::new(self.kept.alloc);
         if !self.event.is_memory() {
-            return Ok(links);
+            return Ok(Vec::new(self.kept.alloc));
         }
+        let mut links = Vec::with_capacity(self.kept.alloc, USUAL_LINKS)?;
         let mut reads = Row::new();
         self.fill_different_reads(&mut reads);
         let mut left = Row::new();

@@ -21,10 +21,7 @@ pub(crate) struct Slot {
 fn copy_of(chunk: &Chunk) -> Chunk
     ensures { HasChunk (Some result) chunk.now }
 {
-    match Chunk::of_words(chunk.words()) {
-        Some(copy) => copy,
-        None => unreachable!(),
-    }
+    Chunk::of_text(chunk.words())
 }
 
 impl Slot {

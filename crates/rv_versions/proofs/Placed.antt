@@ -1,5 +1,5 @@
 -- The accesses of each word in its place.
-use Rattle.rv_versions.proofs.Common.{◌≡◌, ◌≢◌, ℕ, ◌+◌, ◌<◌, List, [], ◌∷◌, ◌++◌, length, get_or, set, flat_map}
+use Rattle.rv_versions.proofs.Common.{◌≡◌, ◌≢◌, ℕ, ◌<◌, List, [], ◌∷◌, ◌++◌, length, get_or, set, flat_map}
 use Rattle.rv_versions.proofs.Common.{Contains, Option, Some, None, ◌⊎◌, inl, inr, refl, sym, ap, ◌∙◌, arith, subst}
 use Rattle.rv_versions.proofs.Common.{cases_eq, length-set, get_or-set_same, get_or-set_other, at_read, same_Some}
 use Rattle.rv_versions.proofs.Common.{none-some, rules, common_steps, IsOf, AreAllOf, ArePostingsTo, IsInserted}

@@ -159,21 +159,6 @@ pub start_found : (ys xs : List Access) (v n : ℕ) → ys ≡ xs →
     IsPartitionPoint (λ x. ltb x.version v ≡ true) (λ x. ltb x.version v ≡ false) ys n → IsStart xs v n
 start_found ys xs v n same part = grind (arith, common_steps)
 
--- where the last access is of a lower version
-pub start_past :
-    (ys xs : List Access) (v n : ℕ) → ys ≡ xs → AreByVersion xs → n ≡ length ys → (b : Access) → 0 < length ys →
-    HoldsAt (λ x. b ≡ x) ys (length ys - 1) → b.version < v → IsStart xs v n
-start_past ys xs v n same ordered size b some is low = subst (λ (zs : List Access). IsStart zs v n) same (
-  λ k d from upto. low_before ys (subst AreByVersion (sym same) ordered) v (length ys - 1) b (omega arith)
-      (is b) low k d
-      from (omega arith),
-  λ k d from upto. absurd (omega arith),
-)
-
--- no accesses begin anywhere
-pub start_empty : (ys xs : List Access) (v n : ℕ) → ys ≡ xs → n ≡ length ys → length ys ≤ 0 → IsStart xs v n
-start_empty ys xs v n same size none = grind (arith, common_steps)
-
 -- ---- questions
 
 module _ (xs : List Access) (v n : ℕ) (part : IsStart xs v n) where

@@ -15,6 +15,9 @@ use rv_event::NoMemory;
 use std::alloc::Global;
 use std::marker::Model;
 
+/// How many of the last accesses are looked at before the search.
+const NEAR: usize = 8;
+
 /// The accesses to one word, in the order of their versions. Those of one version stand in the
 /// order in which they came.
 ///
@@ -149,11 +152,12 @@ impl ByVersion {
         ensures bound { result ≤ length self.now }
         ensures parted { IsStart self.now version result }
     {
-        match self.accesses.last() {
-            Some(last) if version <= u64::from(last.version) => self
+        let count = self.accesses.len();
+        match self.accesses.get(count.saturating_sub(NEAR)) {
+            Some(near) if version <= u64::from(near.version) => self
                 .accesses
                 .partition_point(|x| u64::from(x.version) < version),
-            _ => self.accesses.len(),
+            _ => self.start_back(version, count),
         }
     }
 

@@ -16,6 +16,9 @@ impl Accesses {
         ensures { (log : List Event) (word : ℕ) → AreOfWord log word self.now →
             result ≡ option_map (λ w. w.id) (writer log word version) }
     {
+        if version == 0 {
+            return None;
+        }
         let from = u64::from(version);
         let Some(store) = self.stores.between(from, from + 1).first() else {
             return None;

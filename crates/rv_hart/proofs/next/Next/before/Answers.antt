@@ -17,8 +17,8 @@ taken-init c =
     let g : Sweeping h e rows first =
     search (fits_of, c.is_memory.ensures.0 c.if-not-is_memory.false, rules) in
     let top : length rows ≡ c.len-top.result = sym c.len-top.ensures in
-    subst (λ (n : ℕ). IsListing h e rows first first n c.new-links.result.items) top
-    (listing-begun g c.new-links.result.items c.new-links.ensures.items)
+    subst (λ (n : ℕ). IsListing h e rows first first n c.in_ok-links.links.items) top
+    (listing-begun g c.in_ok-links.links.items c.in_ok-links.ensures.items)
 
 pub take_highest-requires-clause-few : goal.take_highest-requires-clause-few
 take_highest-requires-clause-few c =

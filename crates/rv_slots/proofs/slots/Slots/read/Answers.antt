@@ -8,8 +8,8 @@ long_is : (f : Pinned) → length (pin_words (pinned_view f).records) ≡ 58
 long_is f = ap (λ (l : List (Option ℕ)). length l) (pin_words_is (pinned_view f) f.pinned.records)
     ∙ f.pinned.long
 
-pub unreachable-requires : goal.unreachable-requires
-unreachable-requires c = grind (arith, common_steps, put_all, long_is, true≢false)
+pub of_text-requires : goal.of_text-requires
+of_text-requires c = grind (arith, common_steps, put_all, long_is, true≢false)
 
 pub returns-clause-read : goal.returns-clause-read
 returns-clause-read c =
@@ -17,4 +17,4 @@ returns-clause-read c =
     let i = c.loop-place.invariant in
     let all = put_all (pin_words (pinned_view f).records) c.loop-place.words c.loop-place.place
     c.loop-place-test.false c.loop-place.auto.place-end (long_is f) i.2 i.1 in
-    (all.0, all.1 ∙ c.in-Some.ensures.same, i.4, i.5, i.6)
+    (all.0, all.1 ∙ c.of_text.ensures, i.4, i.5, i.6)
