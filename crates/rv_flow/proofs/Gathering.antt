@@ -1,12 +1,14 @@
 -- The events of the sources so far.
 use Rattle.std.proofs.Common.{◌≡◌, ℕ, ◌+◌, ◌<◌, ◌≤◌, List, [], ◌∷◌, ◌++◌, length, get_or}
-use Rattle.std.proofs.Common.{Contains, Option, Some, None, take, ◌⊎◌}
+use Rattle.std.proofs.Common.{Contains, Option, Some, None, take, ◌⊎◌, arith, false}
 use Rattle.std.proofs.Common.{◌↔◌, inl, inr, sym, subst, ◌∙◌}
 use Rattle.std.proofs.lemmas.List.{take_all, take_more}
 use Rattle.std.proofs.lemmas.List.Elements.{Contains-push, Contains-push_cases, Contains-append_left}
+use Rattle.std.proofs.lemmas.Bool.{false≢true}
+use Rattle.std.proofs.lemmas.Grind.{common_steps}
 use Rattle.std.proofs.lemmas.Option.{same_Some}
 use Rattle.rv_insn.specs.declared.unit.Unit.{Unit}
-use Rattle.rv_rows.specs.Bits.{Has}
+use Rattle.rv_rows.specs.Bits.{Has, has_bit}
 
 -- an event of the instruction itself, or of a source of the list that it carries from
 abbrev pub SoFar : Option ℕ → (Unit → Type 0) → (Unit → ℕ → Type 0) → List (Option Unit) → ℕ → Type 0
@@ -94,3 +96,16 @@ module _ (event : Option ℕ) (Carried : Unit → Type 0) (Held : Unit → ℕ �
         carried,
         held,
       )
+
+-- ---- where the instruction's own event is left aside
+pub none_some : (n : ℕ) → None ≡ Some n → ⊥
+none_some n is = grind (arith, common_steps)
+
+-- before the first source
+pub nothing-so-far : (Carried : Unit → Type 0) (Held : Unit → ℕ → Type 0) (row : List ℕ) →
+    ((n : ℕ) → has_bit row n ≡ false) → (n : ℕ) → Has row n ↔ SoFar None Carried Held [] n
+nothing-so-far Carried Held row empty n = (λ has. absurd (false≢true (sym (empty n) ∙ has)), λ so. absurd (never so))
+  where
+    never : SoFar None Carried Held [] n → ⊥
+    never (inl none) = none_some n none
+    never (inr (p, c, carried, held)) = let low = c.1 in absurd (omega (low, arith))

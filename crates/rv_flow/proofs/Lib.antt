@@ -1,3 +1,4 @@
+pub mod Dependents
 mod DestinationRows
 pub mod Gathering
 pub mod Paths

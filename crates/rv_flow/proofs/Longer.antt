@@ -5,8 +5,8 @@ use Rattle.std.proofs.lemmas.List.{get_or_append_left, get_or_at, length_push}
 use Rattle.std.proofs.lemmas.Option.{get_or_from_slice_get, same_Some, slice_get-get_or, slice_get_within}
 use Rattle.rv_insn.specs.Roles.{Carries}
 use Rattle.rv_insn.specs.declared.unit.Unit.{Unit}
-use Rattle.rv_flow.specs.Dependencies.{IsAt, IsDestination}
-use Rattle.rv_flow.specs.Flows.{ComesFrom, EventAt}
+use Rattle.rv_flow.specs.Dependencies.{EventAt, IsAt, IsDestination}
+use Rattle.rv_flow.specs.Flows.{ComesFrom}
 use Rattle.rv_flow.specs.Leading.{Leads, here, on, past}
 use Rattle.rv_flow.specs.declared.step.Step.{Step}
 
@@ -15,31 +15,31 @@ module _ (steps : List Step) (x : Step) where
   abbrev pub all : List Step
   all = steps ++ x ∷ []
 
-  long : length all ≡ suc (length steps)
+  pub long : length all ≡ suc (length steps)
   long = let more = length_push steps x in omega (more, arith)
 
-  at-end : IsAt all (length steps) x
+  pub at-end : IsAt all (length steps) x
   at-end = slice_get-get_or all (length steps) x (let more = length_push steps x in omega (more, arith)) ∙
       ap Some (get_or_at steps x [] x (length steps) refl)
 
-  at-low : (i : ℕ) (z : Step) → IsAt steps i z → IsAt all i z
+  pub at-low : (i : ℕ) (z : Step) → IsAt steps i z → IsAt all i z
   at-low i z a =
       let low : i < length steps = slice_get_within steps i z a in
       slice_get-get_or all i z (let more = length_push steps x in omega (more, low, arith)) ∙
       ap Some (get_or_append_left steps (x ∷ []) z i low ∙ get_or_from_slice_get steps i z z a)
 
-  at-lower : (i : ℕ) (z : Step) → IsAt all i z → i < length steps → IsAt steps i z
+  pub at-lower : (i : ℕ) (z : Step) → IsAt all i z → i < length steps → IsAt steps i z
   at-lower i z a low = slice_get-get_or steps i z low ∙
       ap Some (sym (get_or_append_left steps (x ∷ []) z i low) ∙ get_or_from_slice_get all i z z a)
 
   -- what was held is held still
-  lift : (k i : ℕ) (u s : Unit) → Leads steps k u i s → Leads all k u i s
+  pub lift : (k i : ℕ) (u s : Unit) → Leads steps k u i s → Leads all k u i s
   lift k i u s (here {k = j} {x = z} a d) = here (at-low j z a) d
   lift k i u s (on {k = j} {x = z} {p = p} a d c l) = on (at-low j z a) d c (lift j i p s l)
   lift k i u s (past {k = j} {x = z} a none l) = past (at-low j z a) none (lift j i u s l)
 
   -- and nothing else before
-  lower : (k i : ℕ) (u s : Unit) → k ≤ length steps → Leads all k u i s → Leads steps k u i s
+  pub lower : (k i : ℕ) (u s : Unit) → k ≤ length steps → Leads all k u i s → Leads steps k u i s
   lower k i u s low (here {k = j} {x = z} a d) = here (at-lower j z a (omega (low, arith))) d
   lower k i u s low (on {k = j} {x = z} {p = p} a d c l) =
       on (at-lower j z a (omega (low, arith))) d c (lower j i p s (omega (low, arith)) l)
@@ -47,7 +47,7 @@ module _ (steps : List Step) (x : Step) where
       past (at-lower j z a (omega (low, arith))) none (lower j i u s (omega (low, arith)) l)
 
   -- it is from an earlier instruction
-  earlier : (k i : ℕ) (u s : Unit) → Leads steps k u i s → i < k
+  pub earlier : (k i : ℕ) (u s : Unit) → Leads steps k u i s → i < k
   earlier k i u s (here a d) = omega arith
   earlier k i u s (on {k = j} {p = p} a d c l) = let low = earlier j i p s l in omega (low, arith)
   earlier k i u s (past {k = j} a none l) = let low = earlier j i u s l in omega (low, arith)

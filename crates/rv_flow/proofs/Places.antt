@@ -5,7 +5,7 @@ use Rattle.std.proofs.lemmas.Bool.{cases_eq, cases_lt, cases_order}
 use Rattle.std.proofs.lemmas.List.{get_or_default, get_or_append_left, get_or_at, get_or-set_other, get_or-set_same}
 use Rattle.std.proofs.lemmas.List.{length_push}
 use Rattle.rv_insn.specs.declared.unit.Unit.{Unit}
-use Rattle.rv_rows.specs.Bits.{Has, has_bit}
+use Rattle.rv_rows.specs.Bits.{Has}
 use Rattle.rv_flow.specs.Flows.{HoldsIn, IsPlace, Lacks}
 
 -- a unit has one first place
@@ -19,62 +19,61 @@ place-one units u j k a b = elim (cases_order j k) [
 unit-one : (units : List Unit) (u v : Unit) (k : ℕ) → IsPlace units u k → IsPlace units v k → u ≡ v
 unit-one units u v k a b = sym a.at ∙ get_or_default units k u v a.within ∙ b.at
 
-module _ (units : List Unit) (rows : List (List ℕ)) (unit : Unit) (row copy : List ℕ)
-    (many : length units ≡ length rows)
-    (copied : (n : ℕ) → has_bit copy n ≡ has_bit row n) where
+module _ (units : List Unit) (rows : List (List ℕ)) (unit : Unit) (row : List ℕ)
+    (many : length units ≡ length rows) where
   -- at a place that it has
-  pub set-at : (k : ℕ) → IsPlace units unit k → (u : Unit) (n : ℕ) → HoldsIn units (set rows k copy) u n ↔
+  pub set-at : (k : ℕ) → IsPlace units unit k → (u : Unit) (n : ℕ) → HoldsIn units (set rows k row) u n ↔
       (((u ≡ unit) × Has row n) ⊎ ((u ≡ unit → ⊥) × HoldsIn units rows u n))
   set-at k is u n = (λ h. to h (cases_eq h.place k), from)
     where
-      same-row : get_or (set rows k copy) k [] ≡ copy
-      same-row = get_or-set_same rows k copy [] (let low = is.within in omega (arith, many))
+      same-row : get_or (set rows k row) k [] ≡ row
+      same-row = get_or-set_same rows k row [] (let low = is.within in omega (arith, many))
 
-      to : (h : HoldsIn units (set rows k copy) u n) → (h.place ≡ k) ⊎ (h.place ≡ k → ⊥) →
+      to : (h : HoldsIn units (set rows k row) u n) → (h.place ≡ k) ⊎ (h.place ≡ k → ⊥) →
           ((u ≡ unit) × Has row n) ⊎ ((u ≡ unit → ⊥) × HoldsIn units rows u n)
       to h (inl here) = inl (
         unit-one units u unit k (subst (IsPlace units u) here h.is_place) is,
-        sym (copied n) ∙ subst (λ (xs : List ℕ). Has xs n)
-            (ap (λ (j : ℕ). get_or (set rows k copy) j []) here ∙ same-row) h.has,
+        subst (λ (xs : List ℕ). Has xs n)
+            (ap (λ (j : ℕ). get_or (set rows k row) j []) here ∙ same-row) h.has,
       )
       to h (inr apart) = inr (
         λ same. apart (place-one units u h.place k h.is_place (subst (λ (v : Unit). IsPlace units v k) (sym same) is)),
         record {
           place = h.place;
           is_place = h.is_place;
-          has = subst (λ (xs : List ℕ). Has xs n) (get_or-set_other rows k h.place copy [] apart) h.has;
+          has = subst (λ (xs : List ℕ). Has xs n) (get_or-set_other rows k h.place row [] apart) h.has;
         },
       )
 
-      from : ((u ≡ unit) × Has row n) ⊎ ((u ≡ unit → ⊥) × HoldsIn units rows u n) → HoldsIn units (set rows k copy) u n
+      from : ((u ≡ unit) × Has row n) ⊎ ((u ≡ unit → ⊥) × HoldsIn units rows u n) → HoldsIn units (set rows k row) u n
       from (inl (same, has)) = record {
         place = k;
         is_place = subst (λ (v : Unit). IsPlace units v k) (sym same) is;
-        has = subst (λ (xs : List ℕ). Has xs n) (sym same-row) (copied n ∙ has);
+        has = subst (λ (xs : List ℕ). Has xs n) (sym same-row) has;
       }
       from (inr (other, h)) = record {
         place = h.place;
         is_place = h.is_place;
-        has = subst (λ (xs : List ℕ). Has xs n) (sym (get_or-set_other rows k h.place copy []
+        has = subst (λ (xs : List ℕ). Has xs n) (sym (get_or-set_other rows k h.place row []
             (λ here. other (unit-one units u unit k (subst (IsPlace units u) here h.is_place) is)))) h.has;
       }
 
   -- at a new place
-  pub push-at : Lacks units unit → (u : Unit) (n : ℕ) → HoldsIn (units ++ unit ∷ []) (rows ++ copy ∷ []) u n ↔
+  pub push-at : Lacks units unit → (u : Unit) (n : ℕ) → HoldsIn (units ++ unit ∷ []) (rows ++ row ∷ []) u n ↔
       (((u ≡ unit) × Has row n) ⊎ ((u ≡ unit → ⊥) × HoldsIn units rows u n))
   push-at lacks u n = (λ h. to h (cases_lt h.place (length units)), from)
     where
       old-unit : (j : ℕ) → j < length units → (v : Unit) → get_or (units ++ unit ∷ []) j v ≡ get_or units j v
       old-unit j low v = get_or_append_left units (unit ∷ []) v j low
 
-      old-row : (j : ℕ) → j < length units → get_or (rows ++ copy ∷ []) j [] ≡ get_or rows j []
-      old-row j low = get_or_append_left rows (copy ∷ []) [] j (omega (low, many, arith))
+      old-row : (j : ℕ) → j < length units → get_or (rows ++ row ∷ []) j [] ≡ get_or rows j []
+      old-row j low = get_or_append_left rows (row ∷ []) [] j (omega (low, many, arith))
 
       new-unit : (v : Unit) → get_or (units ++ unit ∷ []) (length units) v ≡ unit
       new-unit v = get_or_at units unit [] v (length units) refl
 
-      new-row : get_or (rows ++ copy ∷ []) (length units) [] ≡ copy
-      new-row = get_or_at rows copy [] [] (length units) (sym many)
+      new-row : get_or (rows ++ row ∷ []) (length units) [] ≡ row
+      new-row = get_or_at rows row [] [] (length units) (sym many)
 
       new-place : IsPlace (units ++ unit ∷ []) unit (length units)
       new-place = record {
@@ -83,7 +82,7 @@ module _ (units : List Unit) (rows : List (List ℕ)) (unit : Unit) (row copy : 
         first = λ j less at. lacks j less (sym (old-unit j less unit) ∙ at);
       }
 
-      to : (h : HoldsIn (units ++ unit ∷ []) (rows ++ copy ∷ []) u n) → (h.place < length units) ⊎
+      to : (h : HoldsIn (units ++ unit ∷ []) (rows ++ row ∷ []) u n) → (h.place < length units) ⊎
           (length units ≤ h.place) → ((u ≡ unit) × Has row n) ⊎ ((u ≡ unit → ⊥) × HoldsIn units rows u n)
       to h (inl low) = inr (
         other,
@@ -105,19 +104,19 @@ module _ (units : List Unit) (rows : List (List ℕ)) (unit : Unit) (row copy : 
           other same = lacks h.place low (subst (λ (v : Unit). get_or units h.place v ≡ v) same place.at)
       to h (inr high) = inl (
         sym h.is_place.at ∙ ap (λ (j : ℕ). get_or (units ++ unit ∷ []) j u) here ∙ new-unit u,
-        sym (copied n) ∙ subst (λ (xs : List ℕ). Has xs n)
-            (ap (λ (j : ℕ). get_or (rows ++ copy ∷ []) j []) here ∙ new-row) h.has,
+        subst (λ (xs : List ℕ). Has xs n)
+            (ap (λ (j : ℕ). get_or (rows ++ row ∷ []) j []) here ∙ new-row) h.has,
       )
         where
           here : h.place ≡ length units
           here = let low = h.is_place.within in let long = length_push units unit in omega (low, long, high, arith)
 
       from : ((u ≡ unit) × Has row n) ⊎ ((u ≡ unit → ⊥) × HoldsIn units rows u n) →
-          HoldsIn (units ++ unit ∷ []) (rows ++ copy ∷ []) u n
+          HoldsIn (units ++ unit ∷ []) (rows ++ row ∷ []) u n
       from (inl (same, has)) = record {
         place = length units;
         is_place = subst (λ (v : Unit). IsPlace (units ++ unit ∷ []) v (length units)) (sym same) new-place;
-        has = subst (λ (xs : List ℕ). Has xs n) (sym new-row) (copied n ∙ has);
+        has = subst (λ (xs : List ℕ). Has xs n) (sym new-row) has;
       }
       from (inr (other, h)) = record {
         place = h.place;

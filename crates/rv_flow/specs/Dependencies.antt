@@ -1,6 +1,7 @@
 -- Syntactic dependencies: manual, section 14.1 ("Syntactic Dependencies").
-use Rattle.std.specs.Prelude.{ℕ, ◌≡◌, ◌<◌, List, Contains, Some, slice_get}
-use Rattle.rv_insn.specs.Roles.{Carries, destinations, sources}
+use Rattle.std.specs.Prelude.{ℕ, ◌≡◌, ◌≢◌, ◌<◌, List, Contains, Option, Some, None, IsTrue, length, slice_get}
+use Rattle.std.specs.Prelude.{slice_index_or}
+use Rattle.rv_insn.specs.Roles.{Carries, address_source, data_source, destinations, is_branch, sources}
 use Rattle.rv_insn.specs.declared.insn.Insn.{Insn}
 use Rattle.rv_insn.specs.declared.unit.Unit.{Unit}
 use Rattle.rv_flow.specs.declared.step.Step.{Step}
@@ -30,3 +31,41 @@ pub data DependsVia (steps : List Step) : ℕ → Unit → ℕ → Unit → Type
   through :
       {j m i : ℕ} {y : Step} {r q p s : Unit} → IsAt steps m y → DependsVia steps j r m q →
       DependsVia steps m p i s → Carries y.insn p q → DependsVia steps j r i s
+
+-- instruction i made event n
+abbrev pub EventAt : List Step → ℕ → ℕ → Type 0
+EventAt steps i n = (z : Step) × IsAt steps i z × (z.event ≡ Some n)
+
+-- instruction j has a syntactic dependency, by source r, on the instruction that made event n
+abbrev pub DependsOn : List Step → ℕ → Unit → ℕ → Type 0
+DependsOn steps j r n = (i : ℕ) × (s : Unit) × DependsVia steps j r i s × EventAt steps i n
+
+-- instruction j depends on event n by the source in this role
+pub record HasBy (role : Insn → Option Unit) (steps : List Step) (j n : ℕ) : Type 0 where
+  pub x : Step
+  pub at : IsAt steps j x
+  pub r : Unit
+  pub source : role x.insn ≡ Some r
+  pub depends : DependsOn steps j r n
+
+-- an address dependency: by the source of its address
+abbrev pub HasAddress : List Step → ℕ → ℕ → Type 0
+HasAddress = HasBy address_source
+
+-- a data dependency: by the source of the value that it stores
+abbrev pub HasData : List Step → ℕ → ℕ → Type 0
+HasData = HasBy data_source
+
+-- a control dependency: a branch before it has a syntactic dependency on that instruction
+pub record HasControl (steps : List Step) (j n : ℕ) : Type 0 where
+  pub m : ℕ
+  pub before : m < j
+  pub x : Step
+  pub at : IsAt steps m x
+  pub branch : IsTrue (is_branch x.insn.operation)
+  pub r : Unit
+  pub depends : DependsOn steps m r n
+
+-- the destinations have no other than the first
+abbrev pub HasNoOthers : List (Option Unit) → Type 0
+HasNoOthers to = (k : ℕ) (u : Unit) → 0 < k → k < length to → slice_index_or to k None ≢ Some u

@@ -1,10 +1,11 @@
 -- What a flow says of the instructions so far.
-use Rattle.std.specs.Prelude.{ℕ, ◌≡◌, ◌≢◌, ◌<◌, ◌+◌, ◌≤◌, ◌↔◌, ◌⊎◌, List, [], Some, None, length}
+use Rattle.std.specs.Prelude.{ℕ, ◌≡◌, ◌≢◌, ◌<◌, ◌+◌, ◌≤◌, ◌↔◌, ◌⊎◌, ◌++◌, ◌∷◌, List, [], Some, None, IsTrue, length}
 use Rattle.std.specs.Prelude.{slice_index_or, vec_capacity}
-use Rattle.rv_insn.specs.Roles.{Carries, destinations}
+use Rattle.rv_insn.specs.Roles.{Carries, destinations, is_branch}
+use Rattle.rv_insn.specs.declared.insn.Insn.{Insn}
 use Rattle.rv_insn.specs.declared.unit.Unit.{Unit}
 use Rattle.rv_rows.specs.Bits.{Has}
-use Rattle.rv_flow.specs.Dependencies.{IsAt, IsDestination}
+use Rattle.rv_flow.specs.Dependencies.{EventAt, HasControl, IsDestination, IsSource}
 use Rattle.rv_flow.specs.Leading.{Leads}
 use Rattle.rv_flow.specs.declared.flow.Flow.{Flow}
 use Rattle.rv_flow.specs.declared.step.Step.{Step}
@@ -29,21 +30,33 @@ pub record HoldsIn (units : List Unit) (rows : List (List ℕ)) (u : Unit) (n : 
 abbrev pub Holds : Flow → Unit → ℕ → Type 0
 Holds flow u n = HoldsIn flow.units.items flow.rows.items u n
 
--- instruction i made event n
-abbrev pub EventAt : List Step → ℕ → ℕ → Type 0
-EventAt steps i n = (z : Step) × IsAt steps i z × (z.event ≡ Some n)
-
 -- what the unit holds after the instructions was computed from event n
 abbrev pub ComesFrom : List Step → Unit → ℕ → Type 0
 ComesFrom steps u n = (i : ℕ) × (s : Unit) × Leads steps (length steps) u i s × EventAt steps i n
 
 -- the flow is that of the instructions
-abbrev pub IsFlowOf : List Step → Flow → Type 0
-IsFlowOf steps flow = (u : Unit) (n : ℕ) → Holds flow u n ↔ ComesFrom steps u n
+pub record IsFlowOf (steps : List Step) (flow : Flow) : Type 0 where
+  pub units : (u : Unit) (n : ℕ) → Holds flow u n ↔ ComesFrom steps u n
+  pub tested : (n : ℕ) → Has flow.tested n ↔ HasControl steps (length steps) n
+
+-- the list with the hart's next instruction
+abbrev pub with_next : List Step → Step → List Step
+with_next steps x = steps ++ x ∷ []
+
+-- the row has the events on which this is true of the hart's next instruction, and no others
+abbrev pub OfNext : (List Step → ℕ → ℕ → Type 0) → Flow → Insn → List ℕ → Type 0
+OfNext Has' flow insn row =
+    (steps : List Step) (x : Step) → IsFlowOf steps flow → x.insn ≡ insn → (n : ℕ) →
+    Has row n ↔ Has' (with_next steps x) (length steps) n
 
 -- the flow has the same events for each unit
-abbrev pub IsSame : Flow → Flow → Type 0
-IsSame old new = (u : Unit) (n : ℕ) → Holds new u n ↔ Holds old u n
+abbrev pub HasSameUnits : Flow → Flow → Type 0
+HasSameUnits old new = (u : Unit) (n : ℕ) → Holds new u n ↔ Holds old u n
+
+-- and the same ones on which branches depend
+pub record IsSame (old new : Flow) : Type 0 where
+  pub units : HasSameUnits old new
+  pub tested : new.tested ≡ old.tested
 
 -- the unit has these events, and each other one those that it had
 abbrev pub IsSet : Flow → Unit → List ℕ → Flow → Type 0
@@ -78,3 +91,12 @@ IsAfter old step new =
     (u : Unit) (n : ℕ) →
     Holds new u n ↔
     ((IsDestination step.insn u × Next old step u n) ⊎ ((IsDestination step.insn u → ⊥) × Holds old u n))
+
+-- the branches so far depend on what they did, and the instruction, where it is a branch, on what its
+-- sources hold
+abbrev pub Tests : Flow → Insn → Flow → Type 0
+Tests old insn new =
+    (n : ℕ) →
+    Has new.tested n ↔
+    (Has old.tested n ⊎
+    (IsTrue (is_branch insn.operation) × (u : Unit) × IsSource insn u × Holds old u n))

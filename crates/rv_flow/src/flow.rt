@@ -1,10 +1,13 @@
-//! What each unit of a hart holds, by the events from which it was computed.
-ghost use Rattle.std.specs.Prelude.{ℕ, ◌≡◌, ◌<◌, ◌+◌, ◌↔◌, ◌⊎◌, ◌++◌, ◌∷◌, [], List, length};
-ghost use Rattle.std.specs.Prelude.{IfSome, MatchOption, OnErr, OnOk};
-ghost use Rattle.rv_rows.specs.Bits.{Has};
+//! What each unit of a hart holds, by the events from which it was computed, and what depends on
+//! them.
+ghost use Rattle.std.specs.Prelude.{ℕ, ◌≡◌, ◌<◌, ◌+◌, ◌↔◌, ◌⊎◌, [], List, Option, None, IsFalse, IsTrue, length};
+ghost use Rattle.std.specs.Prelude.{Some, ◌≢◌, IfSome, MatchOption, OnErr, OnOk, slice_get};
+ghost use Rattle.std.specs.List.{AllPairs};
+ghost use Rattle.rv_flow.specs.Dependencies.{HasNoOthers};
+ghost use Rattle.rv_rows.specs.Bits.{Has, has_bit};
 
 use crate::step::Step;
-use rv_insn::{Unit, carries, destinations, sources};
+use rv_insn::{Insn, Unit, address_source, carries, data_source, destinations, is_branch, sources};
 use rv_rows::Row;
 use std::alloc::{AllocError, Global};
 
@@ -12,8 +15,9 @@ use std::alloc::{AllocError, Global};
 /// which its value was computed (manual, section 14.1, "Syntactic Dependencies"). What the sources
 /// of the next instruction hold are the events on which it depends.
 ///
-/// It keeps one row of bits for each unit that was written, so that a hart's flow is as large as
-/// the registers that it uses, however long it runs. Contracts see the fields.
+/// It keeps one row of bits for each unit that was written, and one for the branches so far, so
+/// that a hart's flow is as large as the registers that it uses, however long it runs. Contracts see
+/// the fields.
 #[derive(Drop)]
 pub struct Flow {
     alloc: Global,
@@ -21,12 +25,29 @@ pub struct Flow {
     pub units: Vec<Unit>,
     /// Of each the events, at its place.
     pub rows: Vec<Row>,
+    /// The events on which a branch so far depends.
+    pub tested: Row,
+    /// Where units are looked for first; a hint may be wrong.
+    hints: [u8; 64],
     ghost same: { length units.items ≡ length rows.items },
+    ghost distinct: { AllPairs (λ u v. u ≢ v) units.items },
+}
+
+/// Which hint is the unit's: each register has one of its own.
+fn hint_of(unit: Unit) -> usize
+    ensures { result < 64 }
+{
+    match unit {
+        Unit::X(number) => (number % 32) as usize,
+        Unit::F(number) => 32 + (number % 32) as usize,
+        Unit::Accrued(_) | Unit::Frm | Unit::Csr(_) => 0,
+    }
 }
 
 impl Flow {
-    ghost use Rattle.rv_flow.specs.Flows.{AreNext, HasRoom, Holds, IsAfter, IsFlowOf, IsNext};
-    ghost use Rattle.rv_flow.specs.Flows.{IsPlace, IsSame, IsSet, Lacks, Next};
+    ghost use Rattle.rv_flow.specs.Dependencies.{HasAddress, HasControl, HasData, IsSource};
+    ghost use Rattle.rv_flow.specs.Flows.{AreNext, HasRoom, Holds, IsAfter, IsFlowOf, IsNext, OfNext};
+    ghost use Rattle.rv_flow.specs.Flows.{IsPlace, IsSame, IsSet, Lacks, Next, Tests, with_next};
 
     /// Before any instruction. It takes no memory.
     pub fn new(alloc: Global) -> Flow
@@ -36,6 +57,64 @@ impl Flow {
             alloc,
             units: Vec::new(alloc),
             rows: Vec::new(alloc),
+            tested: Row::new(),
+            hints: [0; 64],
+        }
+    }
+
+    /// The events on which the address of the hart's next instruction depends (manual, section
+    /// 14.1, "Syntactic Dependencies").
+    pub fn address(&self, insn: Insn) -> Row
+        ensures { OfNext HasAddress self.now insn result }
+    {
+        self.held(address_source(insn))
+    }
+
+    /// The events on which the value depends that the hart's next instruction stores (as above).
+    pub fn data(&self, insn: Insn) -> Row
+        ensures { OfNext HasData self.now insn result }
+    {
+        self.held(data_source(insn))
+    }
+
+    /// The events on which the hart's next instruction has a control dependency (as above).
+    pub fn control(&self) -> &Row
+        ensures { (insn : Insn) → OfNext HasControl self.now insn result.now }
+    {
+        &self.tested
+    }
+
+    /// The events from which the unit's value was computed, where there is a unit.
+    fn held(&self, unit: Option<Unit>) -> Row
+        ensures { (n : ℕ) → Has result n ↔ ((u : Unit) × (unit ≡ Some u) × Holds self.now u n) }
+    {
+        let mut row = Row::new();
+        if let Some(unit) = unit {
+            self.gather(unit, &mut row);
+        }
+        row
+    }
+
+    /// The events on which the instruction depends by any of its sources.
+    fn held_by_sources(&self, insn: Insn) -> Row
+        ensures { (n : ℕ) → Has result n ↔ ((u : Unit) × IsSource insn u × Holds self.now u n) }
+    {
+        let mut row = Row::new();
+        for source in sources(insn) {
+            if let Some(from) = source {
+                self.gather(from, &mut row);
+            }
+        }
+        row
+    }
+
+    /// Whether the unit stands at the place.
+    fn is_at(&self, place: usize, unit: Unit) -> bool
+        ensures { IsTrue result ↔ (slice_get self.now.units.items place ≡ Some unit) }
+    {
+        match self.units.get(place) {
+            Some(other) => *other == unit,
+            None => false,
         }
     }
 
@@ -44,6 +123,10 @@ impl Flow {
         ensures { MatchOption result (Lacks self.now.units.items unit)
             (IsPlace self.now.units.items unit) }
     {
+        let hint = self.hints[hint_of(unit)] as usize;
+        if self.is_at(hint, unit) {
+            return Some(hint);
+        }
         for (place, other) in self.units.iter().enumerate() {
             if *other == unit {
                 return Some(place);
@@ -119,18 +202,18 @@ impl Flow {
     }
 
     /// Gives the unit these events. There is room for one more.
-    fn set(&mut self, unit: Unit, row: &Row)
+    fn set(&mut self, unit: Unit, row: Row)
         requires { HasRoom self.old 1 }
-        ensures set { IsSet self.old unit row.now self.new }
+        ensures set { IsSet self.old unit row self.new }
+        ensures tested { self.new.tested ≡ self.old.tested }
         ensures room { (more : ℕ) → HasRoom self.old (more + 1) → HasRoom self.new more }
     {
-        let mut copy = Row::new();
-        copy.join(row);
         match self.place(unit) {
-            Some(place) => self.rows[place] = copy,
+            Some(place) => self.rows[place] = row,
             None => {
+                self.hints[hint_of(unit)] = (self.units.len() % 256) as u8;
                 self.units.push_reserved(unit);
-                self.rows.push_reserved(copy);
+                self.rows.push_reserved(row);
             }
         }
     }
@@ -139,13 +222,55 @@ impl Flow {
     fn set_all(&mut self, step: Step, rows: &[Row; 8])
         requires room { HasRoom self.old 8 }
         requires next { AreNext self.old step rows.now }
-        ensures { IsAfter self.old step self.new }
+        ensures after { IsAfter self.old step self.new }
+        ensures tested { self.new.tested ≡ self.old.tested }
     {
         let to = destinations(step.insn);
         for place in 0..to.len() {
             if let Some(unit) = to[place] {
-                self.set(unit, &rows[place]);
+                self.set(unit, copy_of(&rows[place]));
             }
+        }
+    }
+
+    /// Puts in the events on which the instruction depends, where it is a branch.
+    fn test(&mut self, insn: Insn)
+        ensures units { (self.new.units ≡ self.old.units) × (self.new.rows ≡ self.old.rows) }
+        ensures tested { Tests self.old insn self.new }
+    {
+        if is_branch(insn) {
+            let row = self.held_by_sources(insn);
+            self.tested.join(&row);
+        }
+    }
+
+    /// Gives several destinations of the instruction their events. There is room for eight more.
+    ///
+    /// It is a call of its own, so that other instructions make no room for eight rows.
+    #[inline(never)]
+    fn take_several(&mut self, step: Step)
+        requires room { HasRoom self.old 8 }
+        requires few { IfSome step.event (λ n. n < 4096) }
+        ensures after { IsAfter self.old step self.new }
+        ensures tested { self.new.tested ≡ self.old.tested }
+    {
+        let rows = self.next_rows(step);
+        self.set_all(step, &rows);
+    }
+
+    /// Gives the destinations of the instruction their events. There is room for eight more.
+    fn take(&mut self, step: Step)
+        requires room { HasRoom self.old 8 }
+        requires few { IfSome step.event (λ n. n < 4096) }
+        ensures after { IsAfter self.old step self.new }
+        ensures tested { self.new.tested ≡ self.old.tested }
+    {
+        let to = destinations(step.insn);
+        if has_others(&to) {
+            self.take_several(step);
+        } else if let Some(unit) = to[0] {
+            let row = self.next_row(step, unit);
+            self.set(unit, row);
         }
     }
 
@@ -159,11 +284,27 @@ impl Flow {
         requires { IfSome step.event (λ n. n < 4096) }
         ensures kept { OnErr result (IsSame self.old self.new) }
         ensures taken { (steps : List Step) → IsFlowOf steps self.old →
-            OnOk result (IsFlowOf (steps ++ step ∷ []) self.new) }
+            OnOk result (IsFlowOf (with_next steps step) self.new) }
     {
         self.reserve(8)?;
-        let rows = self.next_rows(step);
-        self.set_all(step, &rows);
+        self.test(step.insn);
+        self.take(step);
         Ok(())
     }
+}
+
+/// Whether an instruction with these destinations has others than rd.
+fn has_others(to: &[Option<Unit>; 8]) -> bool
+    ensures { IsFalse result → HasNoOthers to.now }
+{
+    to[1..].iter().any(|other| other.is_some())
+}
+
+/// A row of the same events.
+fn copy_of(row: &Row) -> Row
+    ensures { (n : ℕ) → has_bit result n ≡ has_bit row.now n }
+{
+    let mut copy = Row::new();
+    copy.join(row);
+    copy
 }

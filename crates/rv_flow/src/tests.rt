@@ -1,7 +1,7 @@
 //! Instructions in a row, and the events from which registers were computed. Their dependencies are
 //! those that the manual's section 14.1 ("Syntactic Dependencies") names in its prose.
 use crate::{Flow, Step};
-use rv_insn::{Unit, Width, decode};
+use rv_insn::{Insn, Unit, Width, decode};
 use rv_rows::Row;
 use std::alloc::Global;
 use std::process::Abort;
@@ -18,6 +18,15 @@ const ADD: u32 = 0x00c5_0533;
 const STORE: u32 = 0x00c6_a023;
 /// `addi zero, a0, 0`
 const DISCARD: u32 = 0x0005_0013;
+
+/// `add a1, a1, a0`
+const SUM: u32 = 0x00a5_85b3;
+/// `sw a1, 0(a3)`
+const STORE_SUM: u32 = 0x00b6_a023;
+/// `bnez a1, .+8`
+const BRANCH_ON_SUM: u32 = 0x0005_9463;
+/// `sw zero, 0(a0)`
+const STORE_BY_LAST: u32 = 0x0005_2023;
 
 /// The register of this number.
 fn register(number: u8) -> Unit {
@@ -84,4 +93,42 @@ fn neither_a_store_nor_x0_passes_a_value_on(rt: HostRuntime) {
     let flow = flow_of(&rt, rt.alloc(), &words);
     assert_held(&rt, &flow, 0, [false; 4]);
     assert_held(&rt, &flow, 13, [false; 4]);
+}
+
+/// The row has so many events from 0 on, and no others below 200.
+fn assert_first(rt: &impl Abort, row: &Row, count: usize) {
+    for event in 0..200 {
+        assert_eq!(rt; row.has(event), event < count, "event {event} of {count}");
+    }
+}
+
+/// The instruction of the word.
+fn insn_of(rt: &impl Abort, word: u32) -> Insn {
+    match decode(word, Width::Rv64) {
+        Ok(insn) => insn,
+        Err(_) => panic!(rt; "{word:x} is not decoded"),
+    }
+}
+
+#[test]
+fn a_running_sum_has_each_of_a_hundred_loads(rt: HostRuntime) {
+    let mut words = Vec::new(rt.alloc());
+    for event in 0..100u32 {
+        words.push((LOAD, Some(event))).expect(&rt, "memory");
+        words.push((SUM, None)).expect(&rt, "memory");
+    }
+    words.push((BRANCH_ON_SUM, None)).expect(&rt, "memory");
+    let flow = flow_of(&rt, rt.alloc(), words.as_slice());
+    assert_first(&rt, &flow.data(insn_of(&rt, STORE_SUM)), 100);
+    assert_first(&rt, &flow.address(insn_of(&rt, STORE_SUM)), 0);
+    assert_first(&rt, flow.control(), 100);
+}
+
+#[test]
+fn an_address_is_that_of_the_last_load_alone(rt: HostRuntime) {
+    let words = [(LOAD, Some(0)), (SUM, None), (LOAD, Some(1))];
+    let flow = flow_of(&rt, rt.alloc(), &words);
+    let row = flow.address(insn_of(&rt, STORE_BY_LAST));
+    assert!(rt; row.has(1) && !row.has(0));
+    assert_first(&rt, flow.control(), 0);
 }

@@ -1,7 +1,6 @@
 -- A test of two lines that no bits fit both, and of all pairs of a table.
 use Rattle.std.proofs.Common.{◌≡◌, ℕ, Bool, true, false, not, ◌&&◌, ◌||◌, ◌==◌, List, [], ◌∷◌}
-use Rattle.std.proofs.Common.{Contains, IsTrue, ◌⊎◌}
-use Rattle.std.proofs.Common.{inl, inr, sym, refl, ap, ◌∙◌, eqb-true, eq-eqb}
+use Rattle.std.proofs.Common.{inl, inr, sym, ap, ◌∙◌, eqb-true, eq-eqb}
 use Rattle.std.specs.Prelude.{bit_and}
 use Rattle.std.specs.List.{list_all, list_any}
 use Rattle.std.proofs.lemmas.Nat.{and_comm, and_assoc}

@@ -8,7 +8,7 @@ use Rattle.rv_insn.specs.Fields.{imm_ci_signed}
 use Rattle.rv_insn.specs.declared.insn.Insn.{Insn}
 use Rattle.rv_insn.specs.declared.operation.Operation.{Operation}
 use Rattle.rv_insn.specs.declared.format.Format.{Format}
-use Rattle.rv_insn.specs.declared.format.Format.TheVariants.{R, R4, Rounded, Unary, RoundedUnary, I}
+use Rattle.rv_insn.specs.declared.format.Format.TheVariants.{R, R4, Rounded, RoundedUnary, I}
 use Rattle.rv_insn.specs.declared.format.Format.TheVariants.{Shift, S, B, U, J, Csr, CsrImmediate}
 use Rattle.rv_insn.specs.declared.format.Format.TheVariants.{LoadReserved, Atomic, FenceSets, Bare}
 use Rattle.rv_insn.specs.declared.format.Format.TheVariants.{Ciw, ClWord, ClDouble, CsWord}

@@ -7,6 +7,8 @@ use Rattle.std.specs.Ordering.{int_eq}
 use Rattle.rv_insn.specs.Listing.{listing}
 use Rattle.rv_insn.specs.Units.{flag_of, is_other_csr, names, names_flags, names_frm}
 use Rattle.rv_insn.specs.declared.insn.Insn.{Insn}
+use Rattle.rv_insn.specs.declared.operation.Operation.{Operation}
+use Rattle.rv_insn.specs.declared.operation.Operation.TheVariants.{Beq, Bne, Blt, Bge, Bltu, Bgeu, Jalr}
 use Rattle.rv_insn.specs.declared.unit.Flag.{Flag}
 use Rattle.rv_insn.specs.declared.unit.Flag.TheVariants.{Nx, Uf, Of, Dz, Nv}
 use Rattle.rv_insn.specs.declared.unit.Unit.{Unit}
@@ -149,3 +151,14 @@ CarriesBy Change i p q = CarriesCsr i p q
 
 abbrev pub Carries : Insn → Unit → Unit → Type 0
 Carries i p q = CarriesBy (listing i.operation).csr i p q
+
+-- a conditional branch or an indirect jump
+abbrev pub is_branch : Operation → Bool
+is_branch Beq = true
+is_branch Bne = true
+is_branch Blt = true
+is_branch Bge = true
+is_branch Bltu = true
+is_branch Bgeu = true
+is_branch Jalr = true
+is_branch _ = false

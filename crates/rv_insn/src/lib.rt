@@ -4,7 +4,8 @@
 //! [`decode`] answers an [`Insn`]: what the instruction does, its registers, its immediate and the
 //! bits that order memory. A compressed instruction is the one of 32 bits that it stands for. What
 //! is no such instruction is refused by the manual's word for it. [`sources`], [`destinations`] and
-//! [`carries`] say what it reads and writes, and what goes on from where to where.
+//! [`carries`] say what it reads and writes, and what goes on from where to where; [`is_branch`]
+//! whether later instructions depend on it.
 //!
 //! - [`insn`], [`operation`], [`undecoded`]: the answer. [`mnemonics`]: the operations' names.
 //! - [`line`]: the lines of a table of encodings, and which bits fit them. [`encodings`] and
@@ -50,7 +51,7 @@ pub use laws::no_bits_fit_two_lines;
 pub use listing::usage_of;
 pub use mnemonics::mnemonic;
 pub use operation::Operation;
-pub use roles::{address_source, carries, data_source, destinations, sources};
+pub use roles::{address_source, carries, data_source, destinations, is_branch, sources};
 pub use undecoded::Undecoded;
 pub use unit::{Flag, Unit};
 pub use usage::{CsrUse, Flags, Operand, Target, Usage};

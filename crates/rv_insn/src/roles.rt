@@ -1,17 +1,19 @@
 //! What an instruction reads and writes, and what goes on from where to where.
 ghost use Rattle.std.specs.Prelude.{◌≡◌, ◌↔◌, IsTrue, Some};
+ghost use Rattle.rv_insn.specs.Listing.{listing};
 ghost use Rattle.rv_insn.specs.Roles.{Carries, CarriesCsr, CarriesOver, IsOperand, IsRaised};
 ghost use Rattle.rv_insn.specs.Roles.{address, csr_destination, csr_source, destinations};
 ghost use Rattle.rv_insn.specs.Roles.{flag_destination};
 ghost use Rattle.rv_insn.specs.Roles.{address_source, data_source, flag_source, frm_destination};
-ghost use Rattle.rv_insn.specs.Roles.{frm_source};
-ghost use Rattle.rv_insn.specs.Roles.{raises, read, reads_csr, sources, value, writes_csr, written};
+ghost use Rattle.rv_insn.specs.Roles.{frm_source, is_branch};
+ghost use Rattle.rv_insn.specs.Roles.{read, reads_csr, sources, value, writes_csr, written};
 ghost use Rattle.rv_insn.specs.Roles.{x_register};
 
 use crate::insn::Insn;
 use crate::listing::usage_of;
+use crate::operation::Operation;
 use crate::unit::{Flag, Unit, flag_of, is_other_csr, names, names_flags, names_frm};
-use crate::usage::{CsrUse, Operand, Target};
+use crate::usage::{CsrUse, Operand, Target, Usage};
 
 /// An `x` register; x0 is none.
 fn x_register(number: u8) -> Option<Unit>
@@ -68,19 +70,13 @@ fn writes_csr(csr: CsrUse, insn: Insn) -> bool
     }
 }
 
-/// Whether the operation may raise the flag.
-fn raises(insn: Insn, flag: Flag) -> bool
-    ensures { result ≡ raises insn flag }
-{
-    flag_of(usage_of(insn.operation).raises, flag)
-}
-
 /// The flag, where it is a source.
-fn flag_source(insn: Insn, flag: Flag) -> Option<Unit>
+fn flag_source(usage: Usage, insn: Insn, flag: Flag) -> Option<Unit>
+    requires { usage ≡ listing insn.operation }
     ensures { result ≡ flag_source insn flag }
 {
-    let is_read = reads_csr(usage_of(insn.operation).csr, insn) && names_flags(insn.csr);
-    if raises(insn, flag) || is_read {
+    let is_read = reads_csr(usage.csr, insn) && names_flags(insn.csr);
+    if flag_of(usage.raises, flag) || is_read {
         Some(Unit::Accrued(flag))
     } else {
         None
@@ -88,11 +84,12 @@ fn flag_source(insn: Insn, flag: Flag) -> Option<Unit>
 }
 
 /// The flag, where it is a destination.
-fn flag_destination(insn: Insn, flag: Flag) -> Option<Unit>
+fn flag_destination(usage: Usage, insn: Insn, flag: Flag) -> Option<Unit>
+    requires { usage ≡ listing insn.operation }
     ensures { result ≡ flag_destination insn flag }
 {
-    let is_written = writes_csr(usage_of(insn.operation).csr, insn) && names_flags(insn.csr);
-    if raises(insn, flag) || is_written {
+    let is_written = writes_csr(usage.csr, insn) && names_flags(insn.csr);
+    if flag_of(usage.raises, flag) || is_written {
         Some(Unit::Accrued(flag))
     } else {
         None
@@ -100,10 +97,11 @@ fn flag_destination(insn: Insn, flag: Flag) -> Option<Unit>
 }
 
 /// The rounding mode, where it is a source.
-fn frm_source(insn: Insn) -> Option<Unit>
+fn frm_source(usage: Usage, insn: Insn) -> Option<Unit>
+    requires { usage ≡ listing insn.operation }
     ensures { result ≡ frm_source insn }
 {
-    let is_read = reads_csr(usage_of(insn.operation).csr, insn) && names_frm(insn.csr);
+    let is_read = reads_csr(usage.csr, insn) && names_frm(insn.csr);
     if insn.rounding == 7 || is_read {
         Some(Unit::Frm)
     } else {
@@ -112,10 +110,11 @@ fn frm_source(insn: Insn) -> Option<Unit>
 }
 
 /// The rounding mode, where it is a destination.
-fn frm_destination(insn: Insn) -> Option<Unit>
+fn frm_destination(usage: Usage, insn: Insn) -> Option<Unit>
+    requires { usage ≡ listing insn.operation }
     ensures { result ≡ frm_destination insn }
 {
-    if writes_csr(usage_of(insn.operation).csr, insn) && names_frm(insn.csr) {
+    if writes_csr(usage.csr, insn) && names_frm(insn.csr) {
         Some(Unit::Frm)
     } else {
         None
@@ -123,10 +122,11 @@ fn frm_destination(insn: Insn) -> Option<Unit>
 }
 
 /// A CSR that is tracked as a whole, where it is a source.
-fn csr_source(insn: Insn) -> Option<Unit>
+fn csr_source(usage: Usage, insn: Insn) -> Option<Unit>
+    requires { usage ≡ listing insn.operation }
     ensures { result ≡ csr_source insn }
 {
-    if reads_csr(usage_of(insn.operation).csr, insn) && is_other_csr(insn.csr) {
+    if reads_csr(usage.csr, insn) && is_other_csr(insn.csr) {
         Some(Unit::Csr(insn.csr))
     } else {
         None
@@ -134,10 +134,11 @@ fn csr_source(insn: Insn) -> Option<Unit>
 }
 
 /// A CSR that is tracked as a whole, where it is a destination.
-fn csr_destination(insn: Insn) -> Option<Unit>
+fn csr_destination(usage: Usage, insn: Insn) -> Option<Unit>
+    requires { usage ≡ listing insn.operation }
     ensures { result ≡ csr_destination insn }
 {
-    if writes_csr(usage_of(insn.operation).csr, insn) && is_other_csr(insn.csr) {
+    if writes_csr(usage.csr, insn) && is_other_csr(insn.csr) {
         Some(Unit::Csr(insn.csr))
     } else {
         None
@@ -154,13 +155,13 @@ pub fn sources(insn: Insn) -> [Option<Unit>; 10]
         read(usage.first, insn.rs1),
         read(usage.second, insn.rs2),
         read(usage.third, insn.rs3),
-        frm_source(insn),
-        csr_source(insn),
-        flag_source(insn, Flag::Nx),
-        flag_source(insn, Flag::Uf),
-        flag_source(insn, Flag::Of),
-        flag_source(insn, Flag::Dz),
-        flag_source(insn, Flag::Nv),
+        frm_source(usage, insn),
+        csr_source(usage, insn),
+        flag_source(usage, insn, Flag::Nx),
+        flag_source(usage, insn, Flag::Uf),
+        flag_source(usage, insn, Flag::Of),
+        flag_source(usage, insn, Flag::Dz),
+        flag_source(usage, insn, Flag::Nv),
     ]
 }
 
@@ -169,15 +170,16 @@ pub fn sources(insn: Insn) -> [Option<Unit>; 10]
 pub fn destinations(insn: Insn) -> [Option<Unit>; 8]
     ensures { result ≡ destinations insn }
 {
+    let usage = usage_of(insn.operation);
     [
-        written(usage_of(insn.operation).to, insn.rd),
-        frm_destination(insn),
-        csr_destination(insn),
-        flag_destination(insn, Flag::Nx),
-        flag_destination(insn, Flag::Uf),
-        flag_destination(insn, Flag::Of),
-        flag_destination(insn, Flag::Dz),
-        flag_destination(insn, Flag::Nv),
+        written(usage.to, insn.rd),
+        frm_destination(usage, insn),
+        csr_destination(usage, insn),
+        flag_destination(usage, insn, Flag::Nx),
+        flag_destination(usage, insn, Flag::Uf),
+        flag_destination(usage, insn, Flag::Of),
+        flag_destination(usage, insn, Flag::Dz),
+        flag_destination(usage, insn, Flag::Nv),
     ]
 }
 
@@ -204,10 +206,10 @@ pub fn data_source(insn: Insn) -> Option<Unit>
 
 /// Whether the unit is a register that the instruction reads, or `frm` where it takes the rounding
 /// mode from there.
-fn is_operand(insn: Insn, unit: Unit) -> bool
+fn is_operand(usage: Usage, insn: Insn, unit: Unit) -> bool
+    requires { usage ≡ listing insn.operation }
     ensures { IsTrue result ↔ IsOperand insn unit }
 {
-    let usage = usage_of(insn.operation);
     is_unit(read(usage.first, insn.rs1), unit)
         || is_unit(read(usage.second, insn.rs2), unit)
         || is_unit(read(usage.third, insn.rs3), unit)
@@ -225,30 +227,33 @@ fn is_unit(place: Option<Unit>, unit: Unit) -> bool
 }
 
 /// Whether the unit is a flag that the operation may raise.
-fn is_raised(insn: Insn, unit: Unit) -> bool
+fn is_raised(usage: Usage, insn: Insn, unit: Unit) -> bool
+    requires { usage ≡ listing insn.operation }
     ensures { IsTrue result ↔ IsRaised insn unit }
 {
+    // Its contract alone speaks of the instruction.
+    let _ = insn;
     match unit {
-        Unit::Accrued(flag) => raises(insn, flag),
+        Unit::Accrued(flag) => flag_of(usage.raises, flag),
         _ => false,
     }
 }
 
 /// Whether the instruction, which has no CSR, carries from the one unit to the other.
-fn carries_over(insn: Insn, from: Unit, to: Unit) -> bool
+fn carries_over(usage: Usage, insn: Insn, from: Unit, to: Unit) -> bool
+    requires { usage ≡ listing insn.operation }
     ensures { IsTrue result ↔ CarriesOver insn from to }
 {
-    let usage = usage_of(insn.operation);
-    let is_from = is_operand(insn, from);
+    let is_from = is_operand(usage, insn, from);
     (usage.carries && is_from && is_unit(written(usage.to, insn.rd), to))
-        || (is_raised(insn, to) && (is_from || from == to))
+        || (is_raised(usage, insn, to) && (is_from || from == to))
 }
 
 /// Whether the instruction carries from the one unit to the other, by its CSR.
-fn carries_csr(insn: Insn, from: Unit, to: Unit) -> bool
+fn carries_csr(usage: Usage, insn: Insn, from: Unit, to: Unit) -> bool
+    requires { usage ≡ listing insn.operation }
     ensures { IsTrue result ↔ CarriesCsr insn from to }
 {
-    let usage = usage_of(insn.operation);
     (writes_csr(usage.csr, insn)
         && is_unit(read(usage.first, insn.rs1), from)
         && names(insn.csr, to))
@@ -262,8 +267,26 @@ fn carries_csr(insn: Insn, from: Unit, to: Unit) -> bool
 pub fn carries(insn: Insn, from: Unit, to: Unit) -> bool
     ensures { IsTrue result ↔ Carries insn from to }
 {
-    match usage_of(insn.operation).csr {
-        CsrUse::NoCsr => carries_over(insn, from, to),
-        CsrUse::Swap | CsrUse::Change => carries_csr(insn, from, to),
+    let usage = usage_of(insn.operation);
+    match usage.csr {
+        CsrUse::NoCsr => carries_over(usage, insn, from, to),
+        CsrUse::Swap | CsrUse::Change => carries_csr(usage, insn, from, to),
     }
+}
+
+/// Whether the instruction is a conditional branch or an indirect jump (manual, section 14.1,
+/// "Syntactic Dependencies").
+pub fn is_branch(insn: Insn) -> bool
+    ensures { result ≡ is_branch insn.operation }
+{
+    matches!(
+        insn.operation,
+        Operation::Beq
+            | Operation::Bne
+            | Operation::Blt
+            | Operation::Bge
+            | Operation::Bltu
+            | Operation::Bgeu
+            | Operation::Jalr
+    )
 }

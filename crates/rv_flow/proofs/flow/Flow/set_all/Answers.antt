@@ -24,13 +24,18 @@ loop-place-preserved c = elim c.match-to-place.branch [
   | in-Some w ↦ rw w.self-is record {
     room = w.set.ensures.room (8 - (k + 1))
         (less-room (8 - k) (8 - (k + 1) + 1) (omega (low, arith)) c.loop-place.invariant.room);
+    tested = w.set.ensures.tested ∙ c.loop-place.invariant.tested;
     after = after-set items k low (Next old step) (Holds old) (Holds c.loop-place.self) c.loop-place.invariant.after
         (Holds w.set.new.self) w.in-Some.unit (is ∙ w.in-Some.is)
-        (Has (get_or c.args.rows.now k w.index-rows-place.result))
-        (next w.index-rows-place.result w.in-Some.unit (is ∙ w.in-Some.is)) w.set.ensures.set;
+        (Has w.copy_of.result) (λ n. (
+          λ has. (next w.index-rows-place.result w.in-Some.unit (is ∙ w.in-Some.is) n).0
+              (sym (w.copy_of.ensures n) ∙ has),
+          λ new. (w.copy_of.ensures n ∙ (next w.index-rows-place.result w.in-Some.unit (is ∙ w.in-Some.is) n).1 new),
+        )) w.set.ensures.set;
   }
   | in_default w ↦ rw w.self-is record {
     room = less-room (8 - k) (8 - (k + 1)) (omega (low, arith)) c.loop-place.invariant.room;
+    tested = c.loop-place.invariant.tested;
     after = after-skip items k low (Next old step) (Holds old) (Holds c.loop-place.self) c.loop-place.invariant.after
         (λ u some. w.in_default.not-Some u (sym is ∙ some));
   }
@@ -60,8 +65,8 @@ loop-place-preserved c = elim c.match-to-place.branch [
         (get_or_default c.args.rows.now k [] other (let long = c.type_inv.rows in omega (low, long, arith)))
         (c.requires.next k unit low to n)
 
-pub returns : goal.returns
-returns c = subst
+pub returns-clause-after : goal.returns-clause-after
+returns-clause-after c = subst
     (λ (xs : List (Option Unit)). After xs (Next c.args.self.now c.args.step) (Holds c.args.self.now)
     (Holds c.loop-place.self))
     (take_all c.loop-place.place (destinations c.args.step.insn)

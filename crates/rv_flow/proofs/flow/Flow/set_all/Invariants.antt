@@ -1,5 +1,5 @@
 -- The destinations so far have their rows, and there is room for the others.
-use Rattle.std.proofs.Common.{◌-◌, take}
+use Rattle.std.proofs.Common.{◌≡◌, ◌-◌, take}
 use Rattle.rv_insn.specs.Roles.{destinations}
 use Rattle.rv_flow.specs.Flows.{HasRoom, Holds, Next}
 use Rattle.rv_flow.proofs.Setting.{After}
@@ -7,6 +7,7 @@ use Rattle.rv_flow.proofs.flow.Flow.set_all.Given as goal
 
 pub record SetSoFar (l : goal.Live-loop-place) : Type 0 where
   pub room : HasRoom l.self (8 - l.place)
+  pub tested : l.self.tested ≡ l.fn.self.tested
   pub after :
       After (take l.place (destinations l.fn.step.insn)) (Next l.fn.self l.fn.step) (Holds l.fn.self) (Holds l.self)
 
