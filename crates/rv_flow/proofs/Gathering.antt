@@ -98,8 +98,8 @@ module _ (event : Option ℕ) (Carried : Unit → Type 0) (Held : Unit → ℕ �
       )
 
 -- ---- where the instruction's own event is left aside
-pub none_some : (n : ℕ) → None ≡ Some n → ⊥
-none_some n is = grind (arith, common_steps)
+pub none_some : {X : Type 0} (x : X) → None ≡ Some x → ⊥
+none_some x is = grind (arith, common_steps)
 
 -- before the first source
 pub nothing-so-far : (Carried : Unit → Type 0) (Held : Unit → ℕ → Type 0) (row : List ℕ) →

@@ -1,9 +1,9 @@
 pub mod Dependents
-mod DestinationRows
 pub mod Gathering
 pub mod Paths
 pub mod Places
 pub mod Roles
 mod Longer
+mod Others
 mod Setting
 mod Units

@@ -1,7 +1,7 @@
 -- Destinations so far have their new events, and other units those that they had.
 use Rattle.std.proofs.Common.{◌≡◌, ℕ, ◌+◌, ◌<◌, List, [], ◌∷◌, ◌++◌, length, get_or, Contains, Option, Some, None, take}
-use Rattle.std.proofs.Common.{◌⊎◌, ◌↔◌, ◌≢◌, inl, inr, sym, ap, subst, ◌∙◌, arith, zero, suc}
-use Rattle.std.proofs.lemmas.List.{get_or_default, take_more}
+use Rattle.std.proofs.Common.{◌⊎◌, ◌↔◌, inl, inr, sym, subst, ◌∙◌, arith}
+use Rattle.std.proofs.lemmas.List.{take_more}
 use Rattle.std.proofs.lemmas.List.Elements.{Contains-push, Contains-push_cases, Contains-append_left}
 use Rattle.std.proofs.lemmas.Option.{same_Some}
 use Rattle.rv_insn.specs.declared.unit.Unit.{Unit}
@@ -103,47 +103,3 @@ module _ (items : List (Option Unit)) (k : ℕ) (low : k < length items) (Fresh 
           (Contains (take k items) (Some u) × Fresh u n) ⊎ ((Contains (take k items) (Some u) → ⊥) × Old u n)
       from (inl (c, fresh)) = inl (same-known c, fresh)
       from (inr (none', old)) = inr (λ c. none' (more u c), old)
-
--- ---- where only the first place may have a unit
-module _ (items : List (Option Unit)) (few : 0 < length items)
-    (none : (k : ℕ) (u : Unit) → 0 < k → k < length items → get_or items k None ≢ Some u)
-    (Fresh Old New : Unit → ℕ → Type 0) where
-  at-first : (u : Unit) → Contains items (Some u) → get_or items 0 None ≡ Some u
-  at-first u (zero, low, is) = get_or_default items 0 None (Some u) low ∙ is
-  at-first u (suc k, low, is) = absurd (none (suc k) u (omega arith) low
-      (get_or_default items (suc k) None (Some u) low ∙ is))
-
-  first-known : (u : Unit) → get_or items 0 None ≡ Some u → Contains items (Some u)
-  first-known u is = (0, few, get_or_default items 0 (Some u) None few ∙ is)
-
-  -- it has one
-  pub after-first : (unit : Unit) → get_or items 0 None ≡ Some unit → (Row : ℕ → Type 0) →
-      ((n : ℕ) → Row n ↔ Fresh unit n) →
-      ((u : Unit) (n : ℕ) → New u n ↔ (((u ≡ unit) × Row n) ⊎ ((u ≡ unit → ⊥) × Old u n))) →
-      After items Fresh Old New
-  after-first unit is Row next set u n = (λ h. to ((set u n).0 h), λ h. (set u n).1 (from h))
-    where
-      the-one : Contains items (Some u) → u ≡ unit
-      the-one c = same_Some u unit (sym (at-first u c) ∙ is)
-
-      known : u ≡ unit → Contains items (Some u)
-      known same = first-known u (is ∙ ap Some (sym same))
-
-      to : ((u ≡ unit) × Row n) ⊎ ((u ≡ unit → ⊥) × Old u n) →
-          (Contains items (Some u) × Fresh u n) ⊎ ((Contains items (Some u) → ⊥) × Old u n)
-      to (inl (same, has)) = inl (known same, subst (λ (v : Unit). Fresh v n) (sym same) ((next n).0 has))
-      to (inr (apart, old)) = inr (λ c. apart (the-one c), old)
-
-      from : (Contains items (Some u) × Fresh u n) ⊎ ((Contains items (Some u) → ⊥) × Old u n) →
-          ((u ≡ unit) × Row n) ⊎ ((u ≡ unit → ⊥) × Old u n)
-      from (inl (c, fresh)) =
-          inl (the-one c, (next n).1 (subst (λ (v : Unit). Fresh v n) (the-one c) fresh))
-      from (inr (never, old)) = inr (λ same. never (known same), old)
-
-  -- it has none
-  pub after-nothing : ((u : Unit) → get_or items 0 None ≡ Some u → ⊥) → After items Fresh Old Old
-  after-nothing lacks u n = (λ old. inr (λ c. lacks u (at-first u c), old), from)
-    where
-      from : (Contains items (Some u) × Fresh u n) ⊎ ((Contains items (Some u) → ⊥) × Old u n) → Old u n
-      from (inl (c, fresh)) = absurd (lacks u (at-first u c))
-      from (inr (never, old)) = old

@@ -1,6 +1,5 @@
 -- Syntactic dependencies: manual, section 14.1 ("Syntactic Dependencies").
-use Rattle.std.specs.Prelude.{ℕ, ◌≡◌, ◌≢◌, ◌<◌, List, Contains, Option, Some, None, IsTrue, length, slice_get}
-use Rattle.std.specs.Prelude.{slice_index_or}
+use Rattle.std.specs.Prelude.{ℕ, ◌≡◌, ◌<◌, List, Contains, Option, Some, IsTrue, slice_get}
 use Rattle.rv_insn.specs.Roles.{Carries, address_source, data_source, destinations, is_branch, sources}
 use Rattle.rv_insn.specs.declared.insn.Insn.{Insn}
 use Rattle.rv_insn.specs.declared.unit.Unit.{Unit}
@@ -65,7 +64,3 @@ pub record HasControl (steps : List Step) (j n : ℕ) : Type 0 where
   pub branch : IsTrue (is_branch x.insn.operation)
   pub r : Unit
   pub depends : DependsOn steps m r n
-
--- the destinations have no other than the first
-abbrev pub HasNoOthers : List (Option Unit) → Type 0
-HasNoOthers to = (k : ℕ) (u : Unit) → 0 < k → k < length to → slice_index_or to k None ≢ Some u

@@ -1,11 +1,12 @@
 -- What a flow says of the instructions so far.
-use Rattle.std.specs.Prelude.{ℕ, ◌≡◌, ◌≢◌, ◌<◌, ◌+◌, ◌≤◌, ◌↔◌, ◌⊎◌, ◌++◌, ◌∷◌, List, [], Some, None, IsTrue, length}
+use Rattle.std.specs.Prelude.{ℕ, ◌≡◌, ◌≢◌, ◌<◌, ◌+◌, ◌≤◌, ◌↔◌, ◌⊎◌, ◌++◌, ◌∷◌, List, [], Some, IsTrue, length}
 use Rattle.std.specs.Prelude.{slice_index_or, vec_capacity}
-use Rattle.rv_insn.specs.Roles.{Carries, destinations, is_branch}
+use Rattle.rv_insn.specs.Roles.{Carries, is_branch}
 use Rattle.rv_insn.specs.declared.insn.Insn.{Insn}
 use Rattle.rv_insn.specs.declared.unit.Unit.{Unit}
 use Rattle.rv_rows.specs.Bits.{Has}
 use Rattle.rv_flow.specs.Dependencies.{EventAt, HasControl, IsDestination, IsSource}
+use Rattle.rv_flow.specs.Destinations.{IsOther}
 use Rattle.rv_flow.specs.Leading.{Leads}
 use Rattle.rv_flow.specs.declared.flow.Flow.{Flow}
 use Rattle.rv_flow.specs.declared.step.Step.{Step}
@@ -75,22 +76,18 @@ abbrev pub Next : Flow → Step → Unit → ℕ → Type 0
 Next flow step to n =
     (step.event ≡ Some n) ⊎ ((p : Unit) × Carries step.insn p to × Holds flow p n)
 
--- the row has just these events
-abbrev pub IsNext : Flow → Step → List ℕ → Unit → Type 0
-IsNext flow step row to = (n : ℕ) → Has row n ↔ Next flow step to n
-
--- and so has each of the rows for the destination at its place
-abbrev pub AreNext : Flow → Step → List (List ℕ) → Type 0
-AreNext flow step rows =
-    (k : ℕ) (to : Unit) → k < 8 → slice_index_or (destinations step.insn) k None ≡ Some to →
-    IsNext flow step (slice_index_or rows k []) to
-
 -- each destination has these events, and each other unit those that it had
 abbrev pub IsAfter : Flow → Step → Flow → Type 0
 IsAfter old step new =
     (u : Unit) (n : ℕ) →
     Holds new u n ↔
     ((IsDestination step.insn u × Next old step u n) ⊎ ((IsDestination step.insn u → ⊥) × Holds old u n))
+
+-- so has each destination but rd
+abbrev pub IsAfterOthers : Flow → Step → Flow → Type 0
+IsAfterOthers old step new =
+    (u : Unit) (n : ℕ) →
+    Holds new u n ↔ ((IsOther step.insn u × Next old step u n) ⊎ ((IsOther step.insn u → ⊥) × Holds old u n))
 
 -- the branches so far depend on what they did, and the instruction, where it is a branch, on what its
 -- sources hold

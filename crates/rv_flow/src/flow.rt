@@ -1,10 +1,10 @@
 //! What each unit of a hart holds, by the events from which it was computed, and what depends on
 //! them.
-ghost use Rattle.std.specs.Prelude.{ℕ, ◌≡◌, ◌<◌, ◌+◌, ◌↔◌, ◌⊎◌, [], List, Option, None, IsFalse, IsTrue, length};
+ghost use Rattle.std.specs.Prelude.{ℕ, ◌≡◌, ◌<◌, ◌+◌, ◌↔◌, ◌⊎◌, [], List, Option, None, IsTrue, length};
 ghost use Rattle.std.specs.Prelude.{Some, ◌≢◌, IfSome, MatchOption, OnErr, OnOk, slice_get};
 ghost use Rattle.std.specs.List.{AllPairs};
-ghost use Rattle.rv_flow.specs.Dependencies.{HasNoOthers};
-ghost use Rattle.rv_rows.specs.Bits.{Has, has_bit};
+ghost use Rattle.rv_insn.specs.Roles.{destinations};
+ghost use Rattle.rv_rows.specs.Bits.{Has};
 
 use crate::step::Step;
 use rv_insn::{Insn, Unit, address_source, carries, data_source, destinations, is_branch, sources};
@@ -46,7 +46,7 @@ fn hint_of(unit: Unit) -> usize
 
 impl Flow {
     ghost use Rattle.rv_flow.specs.Dependencies.{HasAddress, HasControl, HasData, IsSource};
-    ghost use Rattle.rv_flow.specs.Flows.{AreNext, HasRoom, Holds, IsAfter, IsFlowOf, IsNext, OfNext};
+    ghost use Rattle.rv_flow.specs.Flows.{HasRoom, Holds, IsAfter, IsAfterOthers, IsFlowOf, OfNext};
     ghost use Rattle.rv_flow.specs.Flows.{IsPlace, IsSame, IsSet, Lacks, Next, Tests, with_next};
 
     /// Before any instruction. It takes no memory.
@@ -164,34 +164,6 @@ impl Flow {
         row
     }
 
-    /// The events of a destination; where there is none, some events.
-    fn row_of(&self, step: Step, to: Option<Unit>) -> Row
-        requires { IfSome step.event (λ n. n < 4096) }
-        ensures { IfSome to (IsNext self.now step result) }
-    {
-        match to {
-            Some(unit) => self.next_row(step, unit),
-            None => Row::new(),
-        }
-    }
-
-    /// The events of each destination of the instruction, at its place.
-    fn next_rows(&self, step: Step) -> [Row; 8]
-        requires { IfSome step.event (λ n. n < 4096) }
-        ensures { AreNext self.now step result }
-    {
-        let to = destinations(step.insn);
-        let rd = self.row_of(step, to[0]);
-        let frm = self.row_of(step, to[1]);
-        let csr = self.row_of(step, to[2]);
-        let nx = self.row_of(step, to[3]);
-        let uf = self.row_of(step, to[4]);
-        let of = self.row_of(step, to[5]);
-        let dz = self.row_of(step, to[6]);
-        let nv = self.row_of(step, to[7]);
-        [rd, frm, csr, nx, uf, of, dz, nv]
-    }
-
     /// Makes room for so many units more.
     fn reserve(&mut self, more: usize) -> Result<(), AllocError>
         ensures kept { IsSame self.old self.new }
@@ -218,17 +190,21 @@ impl Flow {
         }
     }
 
-    /// Gives each destination of the instruction these events. There is room for eight more.
-    fn set_all(&mut self, step: Step, rows: &[Row; 8])
-        requires room { HasRoom self.old 8 }
-        requires next { AreNext self.old step rows.now }
-        ensures after { IsAfter self.old step self.new }
+    /// Gives each destination of the instruction but rd its events. There is room for seven more.
+    ///
+    /// The instruction carries to none of them from another one, so each is as the old flow says.
+    fn set_others(&mut self, step: Step, to: &[Option<Unit>; 8])
+        requires to { to.now ≡ destinations step.insn }
+        requires room { HasRoom self.old 7 }
+        requires few { IfSome step.event (λ n. n < 4096) }
+        ensures after { IsAfterOthers self.old step self.new }
         ensures tested { self.new.tested ≡ self.old.tested }
+        ensures room { (more : ℕ) → HasRoom self.old (more + 7) → HasRoom self.new more }
     {
-        let to = destinations(step.insn);
-        for place in 0..to.len() {
-            if let Some(unit) = to[place] {
-                self.set(unit, copy_of(&rows[place]));
+        for place in 0..7 {
+            if let Some(unit) = to[place + 1] {
+                let row = self.next_row(step, unit);
+                self.set(unit, row);
             }
         }
     }
@@ -244,20 +220,6 @@ impl Flow {
         }
     }
 
-    /// Gives several destinations of the instruction their events. There is room for eight more.
-    ///
-    /// It is a call of its own, so that other instructions make no room for eight rows.
-    #[inline(never)]
-    fn take_several(&mut self, step: Step)
-        requires room { HasRoom self.old 8 }
-        requires few { IfSome step.event (λ n. n < 4096) }
-        ensures after { IsAfter self.old step self.new }
-        ensures tested { self.new.tested ≡ self.old.tested }
-    {
-        let rows = self.next_rows(step);
-        self.set_all(step, &rows);
-    }
-
     /// Gives the destinations of the instruction their events. There is room for eight more.
     fn take(&mut self, step: Step)
         requires room { HasRoom self.old 8 }
@@ -266,11 +228,13 @@ impl Flow {
         ensures tested { self.new.tested ≡ self.old.tested }
     {
         let to = destinations(step.insn);
-        if has_others(&to) {
-            self.take_several(step);
-        } else if let Some(unit) = to[0] {
-            let row = self.next_row(step, unit);
-            self.set(unit, row);
+        match to[0] {
+            Some(unit) => {
+                let row = self.next_row(step, unit);
+                self.set_others(step, &to);
+                self.set(unit, row);
+            }
+            None => self.set_others(step, &to),
         }
     }
 
@@ -291,20 +255,4 @@ impl Flow {
         self.take(step);
         Ok(())
     }
-}
-
-/// Whether an instruction with these destinations has others than rd.
-fn has_others(to: &[Option<Unit>; 8]) -> bool
-    ensures { IsFalse result → HasNoOthers to.now }
-{
-    to[1..].iter().any(|other| other.is_some())
-}
-
-/// A row of the same events.
-fn copy_of(row: &Row) -> Row
-    ensures { (n : ℕ) → has_bit result n ≡ has_bit row.now n }
-{
-    let mut copy = Row::new();
-    copy.join(row);
-    copy
 }
