@@ -6,6 +6,7 @@
 //! - `reading`: the trace reader beside the CSV reader alone, over the same bytes in memory.
 //! - `placing`: the order keeper, over placements without and with successors.
 //! - `stepping`: sources in threads, in step and not.
+//! - `flowing`: the dependencies of a hart's instructions.
 //!
 //! `rt run` in this folder builds it; `out/rv_bench reading placing stepping` then prints each cost
 //! as the least of many runs, and `out/rv_bench 8-words:65536` what judging such a trace once
@@ -13,6 +14,7 @@
 //! `docs/SPEED.md` has what was seen.
 #![tactic(auto)]
 
+mod flowing;
 mod judging;
 mod placing;
 mod reading;
@@ -32,6 +34,7 @@ fn measure<RT: Threads + Wait + Sync>(
         return judging::report(rt, name, count);
     }
     match word {
+        "flowing" => flowing::report(rt),
         "reading" => reading::report(rt),
         "placing" => placing::report(rt),
         "stepping" => stepping::report(rt, threads),
@@ -43,7 +46,9 @@ fn measure<RT: Threads + Wait + Sync>(
 fn measure_all<RT: Threads + Wait + Sync>(rt: &HostRuntime, threads: &RT) -> io::Result<()> {
     let words = env::args(rt)?;
     if words.len() <= 1 {
-        return println!(rt; "usage: rv_bench [SHAPE:COUNT] [reading] [placing] [stepping]");
+        return println!(rt;
+            "usage: rv_bench [SHAPE:COUNT] [reading] [placing] [stepping] [flowing]"
+        );
     }
     for word in words.skip(1) {
         measure(rt, threads, word.as_str())?;
