@@ -7,7 +7,9 @@ ghost use Rattle.rv_insn.specs.Roles.{destinations};
 ghost use Rattle.rv_rows.specs.Bits.{Has};
 
 use crate::step::Step;
-use rv_insn::{Insn, Unit, address_source, carries, data_source, destinations, is_branch, sources};
+use rv_insn::{
+    Insn, Unit, address_source, carried_to, data_source, destinations, is_branch, sources,
+};
 use rv_rows::Row;
 use std::alloc::{AllocError, Global};
 
@@ -154,11 +156,9 @@ impl Flow {
         if let Some(event) = step.event {
             row.insert(event as usize);
         }
-        for source in sources(step.insn) {
+        for source in carried_to(step.insn, to) {
             if let Some(from) = source {
-                if carries(step.insn, from, to) {
-                    self.gather(from, &mut row);
-                }
+                self.gather(from, &mut row);
             }
         }
         row

@@ -51,7 +51,9 @@ pub use laws::no_bits_fit_two_lines;
 pub use listing::usage_of;
 pub use mnemonics::mnemonic;
 pub use operation::Operation;
-pub use roles::{address_source, carries, data_source, destinations, is_branch, sources};
+pub use roles::{
+    address_source, carried_to, carries, data_source, destinations, is_branch, sources,
+};
 pub use undecoded::Undecoded;
 pub use unit::{Flag, Unit};
 pub use usage::{CsrUse, Flags, Operand, Target, Usage};

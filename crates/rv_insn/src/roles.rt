@@ -1,5 +1,7 @@
 //! What an instruction reads and writes, and what goes on from where to where.
-ghost use Rattle.std.specs.Prelude.{◌≡◌, ◌↔◌, IsTrue, Some};
+ghost use Rattle.std.specs.Prelude.{◌≡◌, ◌↔◌, IsTrue, Contains, Some, None, if◌then◌else◌};
+ghost use Rattle.rv_insn.specs.Units.{names};
+ghost use Rattle.rv_insn.specs.declared.unit.Unit.{Unit};
 ghost use Rattle.rv_insn.specs.Listing.{listing};
 ghost use Rattle.rv_insn.specs.Roles.{Carries, CarriesCsr, CarriesOver, IsOperand, IsRaised};
 ghost use Rattle.rv_insn.specs.Roles.{address, csr_destination, csr_source, destinations};
@@ -271,6 +273,88 @@ pub fn carries(insn: Insn, from: Unit, to: Unit) -> bool
     match usage.csr {
         CsrUse::NoCsr => carries_over(usage, insn, from, to),
         CsrUse::Swap | CsrUse::Change => carries_csr(usage, insn, from, to),
+    }
+}
+
+/// The unit, where the test passes.
+fn unit_if(test: bool, unit: Unit) -> Option<Unit>
+    ensures { result ≡ (if test then Some unit else None) }
+{
+    if test { Some(unit) } else { None }
+}
+
+/// Whether the unit is an rd to which the operation carries.
+fn is_carried_rd(usage: Usage, insn: Insn, unit: Unit) -> bool
+    ensures { IsTrue result ↔ (IsTrue usage.carries × (written usage.to insn.rd ≡ Some unit)) }
+{
+    usage.carries && is_unit(written(usage.to, insn.rd), unit)
+}
+
+/// Whether the unit is an rd that is read from the CSR.
+fn is_csr_rd(usage: Usage, insn: Insn, unit: Unit) -> bool
+    ensures { IsTrue result ↔ (IsTrue (reads_csr usage.csr insn) × (written usage.to insn.rd ≡ Some unit)) }
+{
+    reads_csr(usage.csr, insn) && is_unit(written(usage.to, insn.rd), unit)
+}
+
+/// Whether the unit is a part of the CSR that is written.
+fn is_csr_part(usage: Usage, insn: Insn, unit: Unit) -> bool
+    ensures { IsTrue result ↔ (IsTrue (writes_csr usage.csr insn) × IsTrue (names insn.csr unit)) }
+{
+    writes_csr(usage.csr, insn) && names(insn.csr, unit)
+}
+
+/// The register that the operand reads, where the test passes.
+fn read_if(test: bool, operand: Operand, number: u8) -> Option<Unit>
+    ensures { result ≡ (if test then read operand number else None) }
+{
+    if test { read(operand, number) } else { None }
+}
+
+/// From where the instruction, which has no CSR, carries to the unit.
+fn carried_over(usage: Usage, insn: Insn, to: Unit) -> [Option<Unit>; 8]
+    requires { usage ≡ listing insn.operation }
+    ensures { (p : Unit) → Contains result (Some p) ↔ CarriesOver insn p to }
+{
+    let is_flag = is_raised(usage, insn, to);
+    let any = is_flag | is_carried_rd(usage, insn, to);
+    let first = read_if(any, usage.first, insn.rs1);
+    let second = read_if(any, usage.second, insn.rs2);
+    let third = read_if(any, usage.third, insn.rs3);
+    let mode = unit_if(any & (insn.rounding == 7), Unit::Frm);
+    let own = unit_if(is_flag, to);
+    [first, second, third, mode, own, None, None, None]
+}
+
+/// From where the instruction carries to the unit, by its CSR.
+fn carried_csr(usage: Usage, insn: Insn, to: Unit) -> [Option<Unit>; 8]
+    requires { usage ≡ listing insn.operation }
+    ensures { (p : Unit) → Contains result (Some p) ↔ CarriesCsr insn p to }
+{
+    let is_rd = is_csr_rd(usage, insn, to);
+    let has_flags = is_rd & names_flags(insn.csr);
+    let given = read_if(is_csr_part(usage, insn, to), usage.first, insn.rs1);
+    let mode = unit_if(is_rd & names_frm(insn.csr), Unit::Frm);
+    let whole = unit_if(is_rd & is_other_csr(insn.csr), Unit::Csr(insn.csr));
+    let inexact = unit_if(has_flags, Unit::Accrued(Flag::Nx));
+    let underflow = unit_if(has_flags, Unit::Accrued(Flag::Uf));
+    let overflow = unit_if(has_flags, Unit::Accrued(Flag::Of));
+    let by_zero = unit_if(has_flags, Unit::Accrued(Flag::Dz));
+    let invalid = unit_if(has_flags, Unit::Accrued(Flag::Nv));
+    [
+        given, mode, whole, inexact, underflow, overflow, by_zero, invalid,
+    ]
+}
+
+/// The sources from which the instruction carries a dependency to the unit, each in a place of its
+/// own (manual, section 14.1, "Syntactic Dependencies").
+pub fn carried_to(insn: Insn, to: Unit) -> [Option<Unit>; 8]
+    ensures { (p : Unit) → Contains result (Some p) ↔ Carries insn p to }
+{
+    let usage = usage_of(insn.operation);
+    match usage.csr {
+        CsrUse::NoCsr => carried_over(usage, insn, to),
+        CsrUse::Swap | CsrUse::Change => carried_csr(usage, insn, to),
     }
 }
 

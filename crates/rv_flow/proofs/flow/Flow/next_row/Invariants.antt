@@ -9,5 +9,5 @@ use Rattle.rv_flow.proofs.flow.Flow.next_row.Given as goal
 abbrev pub invariant-loop-source : goal.invariant-loop-source
 invariant-loop-source l =
     (n : ℕ) →
-    Has l.row n ↔ ((l.step.event ≡ Some n) ⊎ ((p : Unit) × Contains (take l.source-index l.source-items) (Some p)
-    × Carries l.step.insn p l.to × Holds l.self p n))
+    Has l.row n ↔ ((l.fn.step.event ≡ Some n) ⊎ ((p : Unit) × Contains (take l.source-index l.source-items) (Some p)
+    × Carries l.fn.step.insn p l.fn.to × Holds l.self p n))
