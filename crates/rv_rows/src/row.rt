@@ -1,5 +1,5 @@
 //! A set of numbers below 4,096.
-ghost use Rattle.std.specs.Prelude.{ℕ, not, ◌≡◌, ◌+◌, ◌<◌, ◌≤◌, ◌==◌, ◌&&◌, ◌||◌, false, length};
+ghost use Rattle.std.specs.Prelude.{ℕ, not, ◌≡◌, ◌+◌, ◌<◌, ◌≤◌, ◌==◌, ◌&&◌, ◌||◌, ◌↔◌, false, length, IsTrue};
 ghost use Rattle.rv_rows.specs.Bits.{AreEnds, Has, has_bit, IsBetween, IsEnd, IsFirst, IsHighest};
 ghost use Rattle.rv_rows.specs.Flat.{shifted};
 
@@ -102,6 +102,41 @@ impl Row {
         let (low, high) = ends(&self.words, self.low, self.high);
         self.low = low;
         self.high = high;
+    }
+
+    /// Takes out all that the other set has. It costs a step for each word that both use.
+    pub fn subtract(&mut self, other: &Row)
+        ensures { (j : ℕ) → has_bit self.new j ≡ (has_bit self.old j && not (has_bit other.now j)) }
+    {
+        let (first, words) = other.used();
+        self.subtract_words(first, words);
+    }
+
+    /// Takes the number out.
+    pub fn remove(&mut self, i: usize)
+        requires { i < 4096 }
+        ensures { (j : ℕ) → has_bit self.new j ≡ (has_bit self.old j && not (i == j)) }
+    {
+        let mut one = Row::new();
+        one.insert(i);
+        self.subtract(&one);
+    }
+
+    /// Whether the other set has all that the set has. It costs a step for each word of the two.
+    pub fn is_within(&self, other: &Row) -> bool
+        ensures { IsTrue result ↔ ((j : ℕ) → Has self.now j → Has other.now j) }
+    {
+        let mut left = Row::new();
+        left.join(self);
+        left.subtract(other);
+        left.highest().is_none()
+    }
+
+    /// The highest number of the set, and `None` where it is empty.
+    pub fn highest(&self) -> Option<usize>
+        ensures { IsHighest self.now result }
+    {
+        self.highest_below(self.high * 64)
     }
 
     /// The words that have the set's numbers, and the place of the first of them; none of an empty

@@ -34,6 +34,23 @@ fn sets_are_joined(rt: HostRuntime) {
     assert!(rt; both.has(0) && both.has(130));
 }
 
+#[test]
+fn a_set_is_taken_out_of_another(rt: HostRuntime) {
+    let mut set = first_row();
+    set.insert(63);
+    set.insert(4095);
+    let mut few = first_row();
+    few.insert(4095);
+    assert!(rt; few.is_within(&set) && !set.is_within(&few));
+    assert!(rt; Row::new().is_within(&few));
+    assert!(rt; set.highest() == Some(4095));
+    set.subtract(&few);
+    assert!(rt; set.has(63) && !set.has(0) && !set.has(4095));
+    assert!(rt; set.highest() == Some(63));
+    set.remove(63);
+    assert!(rt; !set.has(63) && set.highest().is_none());
+}
+
 /// Adds a row that has its own number alone.
 fn add_alone(rt: &impl Abort, rows: &mut Rows) {
     let number = rows.len();
