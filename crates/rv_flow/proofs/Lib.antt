@@ -3,7 +3,12 @@ pub mod Gathering
 pub mod Paths
 pub mod Places
 pub mod Roles
+mod Collecting
+mod Growing
 mod Longer
 mod Others
+mod Numbers
+mod Sets
 mod Setting
+mod Tracing
 mod Units

@@ -3,7 +3,7 @@
 ghost use Rattle.std.specs.Prelude.{ℕ, ◌≡◌, ◌<◌, ◌+◌, ◌↔◌, ◌⊎◌, [], List, Option, None, IsTrue, length};
 ghost use Rattle.std.specs.Prelude.{Some, ◌≢◌, IfSome, MatchOption, OnErr, OnOk, slice_get};
 ghost use Rattle.std.specs.List.{AllPairs};
-ghost use Rattle.rv_insn.specs.Roles.{destinations};
+ghost use Rattle.rv_insn.specs.Roles.{destinations, is_branch};
 ghost use Rattle.rv_rows.specs.Bits.{Has};
 
 use crate::step::Step;
@@ -209,15 +209,25 @@ impl Flow {
         }
     }
 
+    /// The events on which the instruction depends, where it is a branch.
+    pub(crate) fn tested_by(&self, insn: Insn) -> Row
+        ensures { (n : ℕ) → Has result n ↔ (IsTrue (is_branch insn.operation) × (u : Unit) ×
+            IsSource insn u × Holds self.now u n) }
+    {
+        if is_branch(insn) {
+            self.held_by_sources(insn)
+        } else {
+            Row::new()
+        }
+    }
+
     /// Puts in the events on which the instruction depends, where it is a branch.
     fn test(&mut self, insn: Insn)
         ensures units { (self.new.units ≡ self.old.units) × (self.new.rows ≡ self.old.rows) }
         ensures tested { Tests self.old insn self.new }
     {
-        if is_branch(insn) {
-            let row = self.held_by_sources(insn);
-            self.tested.join(&row);
-        }
+        let row = self.tested_by(insn);
+        self.tested.join(&row);
     }
 
     /// Gives the destinations of the instruction their events. There is room for eight more.

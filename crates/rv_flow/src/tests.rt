@@ -1,6 +1,6 @@
 //! Instructions in a row, and the events from which registers were computed. Their dependencies are
 //! those that the manual's section 14.1 ("Syntactic Dependencies") names in its prose.
-use crate::{Flow, Step};
+use crate::{Carrier, Flow, HartTrace, Step, Unlisted};
 use rv_insn::{Insn, Unit, Width, decode};
 use rv_rows::Row;
 use std::alloc::Global;
@@ -131,4 +131,98 @@ fn an_address_is_that_of_the_last_load_alone(rt: HostRuntime) {
     let row = flow.address(insn_of(&rt, STORE_BY_LAST));
     assert!(rt; row.has(1) && !row.has(0));
     assert_first(&rt, flow.control(), 0);
+}
+
+/// Loads so many values, and adds each to a register.
+fn load_sum(rt: &impl Abort, trace: &mut HartTrace, count: u32) {
+    for _ in 0..count {
+        trace.push_event(insn_of(rt, LOAD)).expect(rt, "a row");
+        trace.push(insn_of(rt, SUM)).expect(rt, "memory");
+    }
+}
+
+/// Takes the place of each row's number in the set that is a carrier's by those that it lists, the
+/// latest first.
+fn open_carriers(rt: &impl Abort, carriers: &[Carrier], set: &mut Row) {
+    for place in 0..carriers.len() {
+        let carrier = &carriers[carriers.len() - 1 - place];
+        let number = carrier.number as usize;
+        assert!(rt; number < 4096, "carrier {number}");
+        if set.has(number) {
+            set.remove(number);
+            insert_all(rt, set, &carrier.list.parts);
+        }
+    }
+}
+
+/// Puts in the numbers.
+fn insert_all(rt: &impl Abort, set: &mut Row, numbers: &[u32]) {
+    for number in numbers {
+        assert!(rt; *number < 4096, "row {number}");
+        set.insert(*number as usize);
+    }
+}
+
+#[test]
+fn carriers_list_each_of_a_hundred_loads(rt: HostRuntime) {
+    let mut trace = HartTrace::new(rt.alloc());
+    load_sum(&rt, &mut trace, 100);
+    let lists = trace.lists(insn_of(&rt, STORE_SUM)).expect(&rt, "room");
+    assert!(rt; lists.address.is_empty() && lists.value.len() == 2);
+    assert_eq!(rt; trace.carriers().len(), 14);
+    assert_eq!(rt; trace.next(), 114);
+    let mut set = Row::new();
+    insert_all(&rt, &mut set, &lists.value);
+    open_carriers(&rt, trace.carriers(), &mut set);
+    assert_first(&rt, &set, 100);
+    let branch = trace
+        .branch(insn_of(&rt, BRANCH_ON_SUM))
+        .expect(&rt, "memory");
+    assert_eq!(rt; branch.len(), 100);
+}
+
+#[test]
+fn eight_events_take_no_carrier(rt: HostRuntime) {
+    let mut trace = HartTrace::new(rt.alloc());
+    load_sum(&rt, &mut trace, 8);
+    let lists = trace.lists(insn_of(&rt, STORE_SUM)).expect(&rt, "room");
+    assert_eq!(rt; lists.value.len(), 8);
+    assert!(rt; trace.carriers().is_empty());
+    assert_eq!(rt; trace.next(), 8);
+}
+
+#[test]
+fn a_carrier_is_used_again(rt: HostRuntime) {
+    let mut trace = HartTrace::new(rt.alloc());
+    load_sum(&rt, &mut trace, 9);
+    for _ in 0..3 {
+        let lists = trace.lists(insn_of(&rt, STORE_SUM)).expect(&rt, "room");
+        assert_eq!(rt; lists.value.len(), 2);
+    }
+    assert_eq!(rt; trace.carriers().len(), 1);
+}
+
+#[test]
+fn a_branch_lists_an_event_once(rt: HostRuntime) {
+    let mut trace = HartTrace::new(rt.alloc());
+    load_sum(&rt, &mut trace, 2);
+    let insn = insn_of(&rt, BRANCH_ON_SUM);
+    assert_eq!(rt; trace.branch(insn).expect(&rt, "memory").len(), 2);
+    trace.push(insn).expect(&rt, "memory");
+    load_sum(&rt, &mut trace, 1);
+    assert_eq!(rt; trace.branch(insn).expect(&rt, "memory").len(), 1);
+}
+
+#[test]
+fn a_hart_has_4096_rows_at_most(rt: HostRuntime) {
+    let mut trace = HartTrace::new(rt.alloc());
+    load_sum(&rt, &mut trace, 9);
+    for number in 9..4096 {
+        assert!(rt; matches!(trace.number_row(), Ok(row) if row == number));
+    }
+    assert!(rt; matches!(trace.number_row(), Err(Unlisted::Full)));
+    assert!(rt; matches!(trace.push_event(insn_of(&rt, LOAD)), Err(Unlisted::Full)));
+    assert!(rt; matches!(trace.lists(insn_of(&rt, STORE_SUM)), Err(Unlisted::Full)));
+    assert!(rt; trace.carriers().is_empty());
+    assert_eq!(rt; trace.next(), 4096);
 }

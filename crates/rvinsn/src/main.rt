@@ -15,12 +15,19 @@
 //! of the output has the events on which the address depends, those on which the value depends that
 //! is stored, and those on which branches before it depend.
 //!
+//! With the word `rows` they are a hart's instructions too, each a word and, where the instruction
+//! has a row in a trace, `value` if a memory operation of it returned a value, or `row`. A line of
+//! the output is a row: its number, what it is, and the numbers of the rows that it lists.
+//!
 //! Parts of a line have `; ` between them, and `-` stands where there is nothing.
 //! `tests/dependencies` compares the lines with the manual's definition.
 //!
 //! It stands on `rv_insn` and `rv_flow`, and no promise stands on it.
 #![tactic(auto)]
 
+mod rows;
+
+use crate::rows::{HartRows, new_rows, write_rows};
 use rv_flow::{Flow, Step};
 use rv_insn::{
     Flag, Insn, Undecoded, Unit, Width, address_source, carries, data_source, decode, destinations,
@@ -40,6 +47,8 @@ enum Asked {
     Roles,
     /// On which events it depends.
     Deps,
+    /// Its rows in a trace.
+    Rows,
 }
 
 /// What the command line asks for.
@@ -62,6 +71,7 @@ fn request_of(rt: &HostRuntime) -> io::Result<Request> {
             "32" => request.width = Width::Rv32,
             "roles" => request.asked = Asked::Roles,
             "deps" => request.asked = Asked::Deps,
+            "rows" => request.asked = Asked::Rows,
             _ => {}
         }
     }
@@ -165,7 +175,7 @@ fn write_word<W: Write>(out: &mut W, text: &str, request: Request) -> io::Result
     match decode(bits, request.width) {
         Ok(insn) => match request.asked {
             Asked::Roles => write_roles(out, insn),
-            Asked::Fields | Asked::Deps => write_insn(out, insn),
+            Asked::Fields | Asked::Deps | Asked::Rows => write_insn(out, insn),
         },
         Err(why) => write_refusal(out, why),
     }
@@ -199,6 +209,25 @@ fn new_hart(alloc: Global) -> Hart {
     Hart {
         flow: Flow::new(alloc),
         end: 0,
+    }
+}
+
+/// What is kept of the hart whose instructions are read.
+#[derive(Drop)]
+struct Harts {
+    alloc: Global,
+    /// For its dependencies.
+    deps: Hart,
+    /// For its rows.
+    rows: HartRows,
+}
+
+/// Before any instruction.
+fn new_harts(alloc: Global) -> Harts {
+    Harts {
+        alloc,
+        deps: new_hart(alloc),
+        rows: new_rows(alloc),
     }
 }
 
@@ -247,22 +276,31 @@ fn write_deps<W: Write>(out: &mut W, hart: &mut Hart, text: &str, width: Width) 
     }
 }
 
+/// Writes the lines of a hart's instructions, one after the other, up to an empty line.
+fn write_line<W: Write>(
+    out: &mut W,
+    harts: &mut Harts,
+    text: &str,
+    request: Request,
+) -> io::Result<()> {
+    match request.asked {
+        Asked::Fields | Asked::Roles => write_word(out, text, request),
+        Asked::Deps if !text.is_empty() => write_deps(out, &mut harts.deps, text, request.width),
+        Asked::Rows if !text.is_empty() => write_rows(out, &mut harts.rows, text, request.width),
+        Asked::Deps | Asked::Rows => {
+            *harts = new_harts(harts.alloc);
+            writeln!(out, "")
+        }
+    }
+}
+
 /// Writes the lines of all words.
 fn write_all(rt: &HostRuntime, alloc: Global) -> io::Result<()> {
     let request = request_of(rt)?;
     let mut out = BufWriter::new(alloc, io::writer(rt))?;
-    let mut hart = new_hart(alloc);
+    let mut harts = new_harts(alloc);
     for line in BufReader::new(alloc, rt.reader())?.lines(alloc) {
-        let line = line?;
-        let text = line.as_str();
-        if !matches!(request.asked, Asked::Deps) {
-            write_word(&mut out, text, request)?;
-        } else if text.is_empty() {
-            hart = new_hart(alloc);
-            writeln!(out, "")?;
-        } else {
-            write_deps(&mut out, &mut hart, text, request.width)?;
-        }
+        write_line(&mut out, &mut harts, line?.as_str(), request)?;
     }
     out.flush()
 }
