@@ -1,5 +1,5 @@
 //! The dependencies of a hart's instructions, asked for one after the other.
-use rv_flow::{Flow, Step};
+use rv_flow::{Flow, HartTrace, Step, Unlisted};
 use rv_insn::{Operation, Width, decode};
 use std::alloc::{AllocError, Global};
 use std::io;
@@ -59,6 +59,11 @@ fn returns(operation: Operation) -> bool {
     )
 }
 
+/// Whether it is an operation that returns nothing, and changes what memory has.
+fn is_store(operation: Operation) -> bool {
+    matches!(operation, Operation::Sw | Operation::Sd)
+}
+
 /// The instruction of the word, with this number for its event where it makes one.
 fn step_of(word: u32, number: u32) -> Option<Step> {
     let Ok(insn) = decode(word, Width::Rv64) else {
@@ -101,24 +106,96 @@ fn run(alloc: Global, steps: &[Step]) -> Result<u32, AllocError> {
     Ok(count)
 }
 
-/// The nanoseconds that all programs take.
-fn time(rt: &HostRuntime) -> io::Result<u128> {
-    let mut sum = 0u128;
+/// Makes the row of an instruction, and those that it takes.
+fn push_rows(trace: &mut HartTrace, step: Step) -> Result<(), Unlisted> {
+    let _tested = trace.branch(step.insn)?;
+    if step.event.is_some() || is_store(step.insn.operation) {
+        let _lists = trace.lists(step.insn)?;
+    }
+    if step.event.is_some() {
+        trace.push_event(step.insn)?;
+    } else {
+        trace.push(step.insn)?;
+    }
+    Ok(())
+}
+
+/// Makes the rows of all instructions, and counts the carriers. A hart that has its 4,096 rows
+/// begins anew.
+fn run_rows(alloc: Global, steps: &[Step]) -> usize {
+    let mut trace = HartTrace::new(alloc);
+    let mut count = 0usize;
+    for step in steps {
+        if push_rows(&mut trace, *step).is_err() {
+            count = count.wrapping_add(trace.carriers().len());
+            trace = HartTrace::new(alloc);
+        }
+    }
+    count.wrapping_add(trace.carriers().len())
+}
+
+/// What is measured.
+#[derive(Clone, Copy)]
+enum Measured {
+    /// To ask for the dependencies.
+    Dependencies,
+    /// To make the rows that list them.
+    Rows,
+}
+
+/// What all programs took.
+#[derive(Clone, Copy)]
+struct Taken {
+    /// Nanoseconds.
+    time: u128,
+    /// How many carriers there are.
+    carriers: usize,
+}
+
+/// Runs all programs.
+fn run_all(rt: &HostRuntime, measured: Measured) -> io::Result<Taken> {
+    let mut taken = Taken {
+        time: 0,
+        carriers: 0,
+    };
     for seed in 0..PROGRAMS {
         let steps = program(rt.alloc(), seed)?;
         let start = Instant::now(rt)?;
-        let _count = run(rt.alloc(), steps.as_slice())?;
-        sum = sum.wrapping_add(start.elapsed(rt)?.as_nanos());
+        match measured {
+            Measured::Dependencies => {
+                let _count = run(rt.alloc(), steps.as_slice())?;
+            }
+            Measured::Rows => {
+                let count = run_rows(rt.alloc(), steps.as_slice());
+                taken.carriers = taken.carriers.wrapping_add(count);
+            }
+        }
+        taken.time = taken.time.wrapping_add(start.elapsed(rt)?.as_nanos());
     }
-    Ok(sum)
+    Ok(taken)
+}
+
+/// The least that all programs took.
+fn least(rt: &HostRuntime, measured: Measured) -> io::Result<Taken> {
+    let mut best = run_all(rt, measured)?;
+    for _ in 1..RUNS {
+        let taken = run_all(rt, measured)?;
+        if taken.time < best.time {
+            best = taken;
+        }
+    }
+    Ok(best)
 }
 
 /// Prints what an instruction costs.
 pub fn report(rt: &HostRuntime) -> io::Result<()> {
-    let mut least = u128::MAX;
-    for _ in 0..RUNS {
-        least = least.min(time(rt)?);
-    }
-    let each = least / u128::from(PROGRAMS * LENGTH);
-    println!(rt; "{each} ns an instruction")
+    let count = u128::from(PROGRAMS * LENGTH);
+    let dependencies = least(rt, Measured::Dependencies)?.time / count;
+    println!(rt; "{dependencies} ns an instruction")?;
+    let rows = least(rt, Measured::Rows)?;
+    println!(rt;
+        "{} ns with its rows, {} of them carriers",
+        rows.time / count,
+        rows.carriers
+    )
 }

@@ -14,8 +14,6 @@ use std::alloc::{AllocError, Global};
 const MOST_PARTS: usize = 8;
 /// How many rows of a hart a trace has at most.
 const MOST_ROWS: u32 = 4096;
-/// How many of the latest carriers are looked through for one that a list can name.
-const LATEST: usize = 16;
 
 /// What a row lists.
 #[derive(Drop)]
@@ -55,6 +53,17 @@ pub(crate) fn numbers_of(alloc: Global, set: &Row) -> Result<Vec<u32>, AllocErro
     }
     numbers.reverse();
     Ok(numbers)
+}
+
+/// Whether the set has all events of a carrier. Most that have not lack its latest, and cost one
+/// step.
+fn is_covered(events: &Row, set: &Row) -> bool
+    ensures { IsTrue result → (n : ℕ) → Has events.now n → Has set.now n }
+{
+    match events.highest() {
+        Some(latest) => set.has(latest) && events.is_within(set),
+        None => false,
+    }
 }
 
 impl Carriers {
@@ -159,7 +168,7 @@ impl Carriers {
     }
 
     /// Adds the latest carriers that have no events but those of the set, and takes theirs out of
-    /// it.
+    /// it. It costs a step for each carrier.
     fn cover(&self, list: &mut PartList, rest: &mut Row) -> Result<(), AllocError>
         requires carriers { AreCarriers self.now.all.items self.now.next }
         requires list { IsList self.now.all.items self.now.next list.old }
@@ -167,7 +176,7 @@ impl Carriers {
         ensures moved { OnOk result ((n : ℕ) → (Has list.new.events n ⊎ Has rest.new n) ↔
             (Has list.old.events n ⊎ Has rest.old n)) }
     {
-        'latest: for age in 0..LATEST {
+        'latest: for age in 0..self.all.len() {
             self.cover_by(age, list, rest)?;
         }
         Ok(())
@@ -186,7 +195,7 @@ impl Carriers {
             return Ok(());
         }
         let carrier = &self.all[self.all.len() - 1 - age];
-        if carrier.list.events.is_within(rest) {
+        if is_covered(&carrier.list.events, rest) {
             list.parts.push(carrier.number)?;
             list.events.join(&carrier.list.events);
             rest.subtract(&carrier.list.events);

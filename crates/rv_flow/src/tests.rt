@@ -202,6 +202,28 @@ fn a_carrier_is_used_again(rt: HostRuntime) {
     assert_eq!(rt; trace.carriers().len(), 1);
 }
 
+/// Adds a value from memory to the register, and stores the sum.
+fn add_to(rt: &impl Abort, trace: &mut HartTrace, register: u32) {
+    let sum = 0x00a0_0033 | register << 15 | register << 7;
+    let store = 0x0006_a023 | register << 20;
+    trace.push_event(insn_of(rt, LOAD)).expect(rt, "a row");
+    trace.push(insn_of(rt, sum)).expect(rt, "memory");
+    let lists = trace.lists(insn_of(rt, store)).expect(rt, "room");
+    assert!(rt; lists.value.len() <= 8);
+    trace.number_row().expect(rt, "a row");
+}
+
+#[test]
+fn eighteen_sums_in_turn_take_two_carriers_each(rt: HostRuntime) {
+    let mut trace = HartTrace::new(rt.alloc());
+    for _ in 0..20 {
+        for register in 14..32 {
+            add_to(&rt, &mut trace, register);
+        }
+    }
+    assert_eq!(rt; trace.carriers().len(), 36);
+}
+
 #[test]
 fn a_branch_lists_an_event_once(rt: HostRuntime) {
     let mut trace = HartTrace::new(rt.alloc());
