@@ -66,10 +66,12 @@ module _ (set copy empty first rest items : List ℕ) (none : (j : ℕ) → has_
   all-events k all list so n = (
     λ has. elim ((so n).0 has) [
       | inl covered ↦ in-both n (inl covered)
-      | inr listed ↦ in-both n (inr ((numbers n).1 (subst (λ (l : List ℕ). Contains l n) (take_all k items all) listed)))
+      | inr listed ↦ in-both n (inr ((numbers n).1
+          (subst (λ (l : List ℕ). Contains l n) (take_all k items all) listed)))
     ],
     λ has. elim (from-set n has) [
       | inl covered ↦ (so n).1 (inl covered)
-      | inr left ↦ (so n).1 (inr (subst (λ (l : List ℕ). Contains l n) (sym (take_all k items all)) ((numbers n).0 left)))
+      | inr left ↦ (so n).1 (inr (subst (λ (l : List ℕ). Contains l n) (sym (take_all k items all))
+          ((numbers n).0 left)))
     ],
   )

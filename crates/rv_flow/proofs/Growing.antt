@@ -5,7 +5,8 @@ use Rattle.std.proofs.lemmas.List.{append-nil, append_assoc, length_push}
 use Rattle.std.proofs.lemmas.List.Elements.{Contains-append_cases, Contains-append_left, Contains-push}
 use Rattle.std.proofs.lemmas.List.Elements.{Contains-push_cases}
 use Rattle.rv_rows.specs.Bits.{Has}
-use Rattle.rv_flow.specs.Carriers.{AreCarriers, AreEvents, AreParts, Behind, IsBehind, IsCarrier, IsEvent, IsGrown, IsList}
+use Rattle.rv_flow.specs.Carriers.{AreCarriers, AreEvents, AreParts, Behind, IsBehind, IsCarrier, IsEvent, IsGrown}
+use Rattle.rv_flow.specs.Carriers.{IsList}
 use Rattle.rv_flow.specs.Carriers.{itself, through}
 use Rattle.rv_flow.specs.declared.carrier.Carrier.{Carrier}
 use Rattle.rv_flow.specs.declared.carrier.PartList.{PartList}
@@ -182,7 +183,9 @@ module _ (all : List Carrier) (next : ℕ) (are : AreCarriers all next) (few : n
     few = omega (few, arith);
     before = λ d has. elim (Contains-push_cases all c d has) [
       | inl old ↦ (let low = are.before d old in omega (low, arith))
-      | inr new ↦ (let equal : d.number ≡ next = ap (λ (x : Carrier). x.number) (sym new) ∙ number in omega (equal, arith))
+      | inr new ↦ (
+          let equal : d.number ≡ next = ap (λ (x : Carrier). x.number) (sym new) ∙ number in
+          omega (equal, arith))
     ];
     each = λ d has. elim (Contains-push_cases all c d has) [
       | inl old ↦ old-carrier d old
@@ -196,7 +199,9 @@ module _ (all : List Carrier) (next : ℕ) (are : AreCarriers all next) (few : n
     kept = is;
     later = λ d has. elim (Contains-push_cases [] c d has) [
       | inl none ↦ (let low = none.1 in absurd (omega (low, arith)))
-      | inr new ↦ (let equal : d.number ≡ next = ap (λ (x : Carrier). x.number) (sym new) ∙ number in omega (equal, arith))
+      | inr new ↦ (
+          let equal : d.number ≡ next = ap (λ (x : Carrier). x.number) (sym new) ∙ number in
+          omega (equal, arith))
     ];
     next = omega arith;
     are = subst (λ (l : List Carrier). AreCarriers l (next + 1)) (sym is) are-more;
@@ -247,7 +252,8 @@ one-part all next list list' p More is room low behind parts events = record {
 
 -- the list that has the new carrier alone
 pub folded : (all : List Carrier) (next : ℕ) → AreCarriers all next → next < 4096 → (c : Carrier) → c.number ≡ next →
-    IsList all next c.list → 0 < length c.list.parts.items → (new : List Carrier) → new ≡ all ++ c ∷ [] → (one : PartList) →
+    IsList all next c.list → 0 < length c.list.parts.items → (new : List Carrier) → new ≡ all ++ c ∷ [] →
+    (one : PartList) →
     one.parts.items ≡ next ∷ [] → ((n : ℕ) → Has one.events n ↔ Has c.list.events n) → IsList new (next + 1) one
 folded all next are few c number list some new is one parts events = record {
   parts = record {

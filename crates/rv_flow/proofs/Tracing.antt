@@ -1,6 +1,7 @@
 -- A hart's rows, as rows and instructions come.
 use Rattle.std.proofs.Common.{◌≡◌, ℕ, ◌<◌, ◌≤◌, true, not, ◌&&◌, List, length, Contains}
-use Rattle.std.proofs.Common.{Option, Some, None, Result, Ok, Err, IfOk, OnErr, OnOk, IsTrue, ◌⊎◌, ◌↔◌, inl, inr, sym, ap, refl, subst, ◌∙◌, arith}
+use Rattle.std.proofs.Common.{Option, Some, None, Result, Ok, Err, IfOk, OnErr, OnOk, IsTrue, ◌⊎◌, ◌↔◌, inl, inr}
+use Rattle.std.proofs.Common.{sym, ap, refl, subst, ◌∙◌, arith}
 use Rattle.std.proofs.lemmas.Bool.{and_from, and_parts, cases_Bool, cases_eq, false≢true}
 use Rattle.std.proofs.lemmas.List.{length_push}
 use Rattle.std.proofs.lemmas.Option.{same_Some, slice_get_within}
@@ -44,7 +45,10 @@ rows-more steps old new same grown of = record {
       let known = of.events i n at in
       let low = known.1 in
       let more = grown.next in
-      (event-still old.carriers new.carriers old.rows new.rows of.carriers grown n low known.0, omega (low, more, arith));
+      (
+        event-still old.carriers new.carriers old.rows new.rows of.carriers grown n low known.0,
+        omega (low, more, arith),
+      );
 }
 
 -- the next instruction comes, with an event of the next row or none
@@ -67,7 +71,8 @@ trace-pushed steps x old new of flow carriers are more next = record {
     event : (i n : ℕ) → EventAt (with_next steps x) i n → IsEvent new.carriers n × (n < new.rows)
     event i n (z, at, made) = elim (cases_eq i (length steps)) [
       | inl last ↦ (
-          let is : z ≡ x = same_Some z x (sym (subst (λ (k : ℕ). IsAt (with_next steps x) k z) last at) ∙ at-end steps x) in
+          let is : z ≡ x =
+          same_Some z x (sym (subst (λ (k : ℕ). IsAt (with_next steps x) k z) last at) ∙ at-end steps x) in
           let now = next n (ap (λ (y : Step). y.event) (sym is) ∙ made) in
           let number = now.0 in
           let low = now.1 in
@@ -139,12 +144,16 @@ next-lists (Ok l) old new carriers flow insn address value same all rows address
       address_parts = subst (λ (k : ℕ). AreParts k l.address.items) (sym rows) lists.address_parts;
       value_parts = subst (λ (k : ℕ). AreParts k l.value.items) (sym rows) lists.value_parts;
       address = λ n. (
-        λ h. (addresses steps x so is n).0 ((lists.address n).1 (subst (λ (c : List Carrier). IsBehind c l.address.items n) all h)),
-        λ h. subst (λ (c : List Carrier). IsBehind c l.address.items n) (sym all) ((lists.address n).0 ((addresses steps x so is n).1 h)),
+        λ h. (addresses steps x so is n).0 ((lists.address n).1
+            (subst (λ (c : List Carrier). IsBehind c l.address.items n) all h)),
+        λ h. subst (λ (c : List Carrier). IsBehind c l.address.items n) (sym all)
+            ((lists.address n).0 ((addresses steps x so is n).1 h)),
       );
       value = λ n. (
-        λ h. (values steps x so is n).0 ((lists.value n).1 (subst (λ (c : List Carrier). IsBehind c l.value.items n) all h)),
-        λ h. subst (λ (c : List Carrier). IsBehind c l.value.items n) (sym all) ((lists.value n).0 ((values steps x so is n).1 h)),
+        λ h. (values steps x so is n).0 ((lists.value n).1
+            (subst (λ (c : List Carrier). IsBehind c l.value.items n) all h)),
+        λ h. subst (λ (c : List Carrier). IsBehind c l.value.items n) (sym all)
+            ((lists.value n).0 ((values steps x so is n).1 h)),
       );
     }
 

@@ -6,7 +6,8 @@ use Rattle.rv_flow.proofs.Sets.{has-copied}
 use Rattle.rv_flow.proofs.carriers.Carriers.collect.Goals as goal
 
 -- the event is one of the set
-next-in-set : (c : goal.After-row_known-1) → Has c.args.set.now (get_or c.deref-event-items.result.now c.events.event-index 0)
+next-in-set : (c : goal.After-row_known-1) →
+    Has c.args.set.now (get_or c.deref-event-items.result.now c.events.event-index 0)
 next-in-set c =
     in-set c.args.set.now c.join.new.self c.new-2.result c.cover.new.list.events c.cover.new.rest
     c.deref-event-items.result.now c.new-2.ensures

@@ -16,13 +16,15 @@ module _ (c : goal.After-self-1) where
 pub returns-clause-grown : goal.returns-clause-grown
 returns-clause-grown c =
     one-more c.args.self.now.all.items c.args.self.now.next c.requires.carriers
-    (let few = c.if-self-ge-MOST_ROWS.false in omega (few, arith)) (carrier c) refl c.requires.list c.requires.some _ (pushed c)
+    (let few = c.if-self-ge-MOST_ROWS.false in omega (few, arith)) (carrier c) refl c.requires.list
+    c.requires.some _ (pushed c)
 
 -- src/carriers.rt:224:5
 pub returns-clause-list : goal.returns-clause-list
 returns-clause-list c =
     folded c.args.self.now.all.items c.args.self.now.next c.requires.carriers
-    (let few = c.if-self-ge-MOST_ROWS.false in omega (few, arith)) (carrier c) refl c.requires.list c.requires.some _ (pushed c)
+    (let few = c.if-self-ge-MOST_ROWS.false in omega (few, arith)) (carrier c) refl c.requires.list
+    c.requires.some _ (pushed c)
     (record { parts = c.push.new.self; events = c.join.new.self }) first
     (has-copied c.new-2.result c.args.list.events c.join.new.self c.new-2.ensures c.join.ensures)
   where
