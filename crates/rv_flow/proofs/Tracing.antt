@@ -44,8 +44,7 @@ rows-more steps old new same grown of = record {
   events = λ i n at.
       let known = of.events i n at in
       let low = known.1 in
-      let more = grown.next in
-      (
+      let more = grown.next in (
         event-still old.carriers new.carriers old.rows new.rows of.carriers grown n low known.0,
         omega (low, more, arith),
       );

@@ -43,4 +43,5 @@ invariant_of-self-in-Err c = (
 
 -- src/trace.rt:144:5
 pub returns-in-Ok-clause-taken : goal.returns-in-Ok-clause-taken
-returns-in-Ok-clause-taken c steps of = pushed c steps (subst (λ (t : Traced). IsTraceOf steps t) (sym c.self.view_is) of)
+returns-in-Ok-clause-taken c steps of =
+    pushed c steps (subst (λ (t : Traced). IsTraceOf steps t) (sym c.self.view_is) of)
