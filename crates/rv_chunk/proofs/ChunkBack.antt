@@ -7,7 +7,8 @@ use Rattle.std.proofs.lemmas.List.Elements.{All-head, All-tail}
 use Rattle.std.proofs.lemmas.Grind.{common_steps}
 use Rattle.rv_event.specs.declared.event.Event.{Event}
 use Rattle.rv_event.specs.declared.event.Op.{Op}
-use Rattle.rv_event.specs.declared.event.Op.TheVariants.{Load, Store, Lr, Sc, ScFailed, Amo, Fence, FenceTso, Branch}
+use Rattle.rv_event.specs.declared.event.Op.TheVariants.{Load, Store, Lr, Sc, ScFailed, Amo, Branch, Carrier}
+use Rattle.rv_event.specs.declared.event.Op.TheVariants.{Fence, FenceTso}
 use Rattle.rv_event.specs.declared.event.Set.{Set}
 use Rattle.rv_event.specs.declared.event.Dep.{Dep}
 use Rattle.rv_event.specs.declared.event.DepKind.{DepKind}
@@ -139,6 +140,7 @@ op_back Amo = refl
 op_back (Fence p q) = let a = set_back p in let b = set_back q in cc
 op_back FenceTso = refl
 op_back Branch = refl
+op_back Carrier = refl
 
 flag_back : (b : Bool) → (flag_code b == 1) ≡ b
 flag_back true = refl

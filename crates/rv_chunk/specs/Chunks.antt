@@ -8,7 +8,8 @@ use Rattle.std.specs.Cmp.Lexicographic.{pointwise}
 use Rattle.std.specs.Prelude.{nat_eq}
 use Rattle.rv_event.specs.declared.event.Event.{Event}
 use Rattle.rv_event.specs.declared.event.Op.{Op}
-use Rattle.rv_event.specs.declared.event.Op.TheVariants.{Load, Store, Lr, Sc, ScFailed, Amo, Fence, FenceTso, Branch}
+use Rattle.rv_event.specs.declared.event.Op.TheVariants.{Load, Store, Lr, Sc, ScFailed, Amo, Branch, Carrier}
+use Rattle.rv_event.specs.declared.event.Op.TheVariants.{Fence, FenceTso}
 use Rattle.rv_event.specs.declared.event.Set.{Set}
 use Rattle.rv_event.specs.declared.event.Set.TheVariants.{R, W, Rw}
 use Rattle.rv_event.specs.declared.event.Dep.{Dep}
@@ -31,6 +32,7 @@ op_code Amo = 6
 op_code (Fence pred succ) = 7
 op_code FenceTso = 8
 op_code Branch = 9
+op_code Carrier = 10
 
 -- the sets of a fence; other operations have none
 abbrev pub pred_code : Op → ℕ
@@ -129,7 +131,7 @@ abbrev pub op_of : ℕ → Set → Set → Op
 op_of n pred succ =
     if n == 1 then Load else (if n == 2 then Store else (if n == 3 then Lr else (if n == 4 then Sc else (
     if n == 5 then ScFailed else (if n == 6 then Amo else (if n == 7 then Fence pred succ else (
-    if n == 8 then FenceTso else Branch)))))))
+    if n == 8 then FenceTso else (if n == 9 then Branch else Carrier))))))))
 
 abbrev pub kind_of : ℕ → DepKind
 kind_of n = if n == 1 then Addr else (if n == 2 then DataOf else Ctrl)

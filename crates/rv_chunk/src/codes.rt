@@ -34,6 +34,7 @@ fn op_code(op: Op) -> u64
         Op::Fence { pred: _, succ: _ } => 7,
         Op::FenceTso => 8,
         Op::Branch => 9,
+        Op::Carrier => 10,
     }
 }
 
@@ -169,7 +170,8 @@ fn op_of(n: u64, pred: Set, succ: Set) -> Op
         6 => Op::Amo,
         7 => Op::Fence { pred, succ },
         8 => Op::FenceTso,
-        _ => Op::Branch,
+        9 => Op::Branch,
+        _ => Op::Carrier,
     }
 }
 

@@ -1,10 +1,10 @@
 -- A log is indexed where an indexed log continues it whose harts' events stand at their numbers.
-use Rattle.rv_event.proofs.Common.{common_steps, rules, ◌≡◌, ℕ, ◌+◌, ◌<◌, ◌≤◌, Bool, true, false, ◌&&◌, ◌==◌, cond}
-use Rattle.rv_event.proofs.Common.{List, [], ◌∷◌, ◌++◌, length, get_or, Contains, filter, find, Option, Some, None}
+use Rattle.rv_event.proofs.Common.{common_steps, ◌≡◌, ℕ, ◌<◌, Bool, true, false, ◌&&◌, ◌==◌, cond}
+use Rattle.rv_event.proofs.Common.{List, [], ◌∷◌, ◌++◌, length, get_or, Contains, filter, find, Some}
 use Rattle.rv_event.proofs.Common.{◌⊎◌, inl, inr, refl, sym, ap, ◌∙◌, subst, arith, append_assoc, append-nil}
-use Rattle.rv_event.proofs.Common.{cases_eq, none-some, same_Some, is_store, IsStore, same_id, named, of_hart}
-use Rattle.rv_event.proofs.Common.{writer, events, expected, WellFormed, Id, Event, Entry}
-use Rattle.rv_event.proofs.Names.{Contains-cons, Contains-here, Contains-there, find-found, named-is, same_id-refl}
+use Rattle.rv_event.proofs.Common.{none-some, same_Some, is_store, IsStore, same_id, named, of_hart}
+use Rattle.rv_event.proofs.Common.{writer, events, WellFormed, Id, Event, Entry}
+use Rattle.rv_event.proofs.Names.{Contains-cons, Contains-here, Contains-there, named-is, same_id-refl}
 use Rattle.rv_event.proofs.Names.{writer-is}
 use Rattle.rv_event.proofs.Growing.{Grows, named-of_hart, All-from_contains}
 use Rattle.std.proofs.Common.{length-append, eq-eqb}

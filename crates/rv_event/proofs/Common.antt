@@ -13,7 +13,8 @@ pub use Rattle.rv_event.specs.Preserved.{IsPreserved, OverlappingStore, ReadsAto
 pub use Rattle.rv_event.specs.Preserved.{address, after_acquire, after_dependent_address, before_release, both_rcsc}
 pub use Rattle.rv_event.specs.Preserved.{control, data_of, different_reads, fenced, overlapping_store, paired}
 pub use Rattle.rv_event.specs.Preserved.{reads_atomic_write, reads_dependent_write}
-pub use Rattle.rv_event.specs.Relations.{ControlDependsOn, DependsOn, Fenced, Paired, fence_orders}
+pub use Rattle.rv_event.specs.Relations.{Behind, ControlDependsOn, DependsOn, Fenced, IsCarrier, Lists, Paired}
+pub use Rattle.rv_event.specs.Relations.{fence_orders}
 pub use Rattle.rv_event.specs.WellFormed.{Continues, WellFormed, entries_of}
 pub use Rattle.rv_event.specs.declared.context.Context.{Context}
 pub use Rattle.rv_event.specs.declared.event.Dep.{Dep}

@@ -99,22 +99,22 @@ paired_at model log a b k r e test = at_number model log a b 8 k r e paired (pai
 
 -- what the condition of rule 9 says
 pub address_out : (model : MemoryModel) (log : List Event) (a b : Event) → Condition model log a b 9 →
-    DependsOn Addr b a
+    DependsOn log Addr b a
 address_out model log a b (address h) = h
 
 -- so it is of rule 9
 pub address_at : (model : MemoryModel) (log : List Event) (a b : Event) (k : ℕ) (r : Bool) → k ≡ 9 → IsTrue r ↔
-    DependsOn Addr b a → IsTrue r ↔ Condition model log a b k
+    DependsOn log Addr b a → IsTrue r ↔ Condition model log a b k
 address_at model log a b k r e test = at_number model log a b 9 k r e address (address_out model log a b) test
 
 -- what the condition of rule 10 says
 pub data_of_out : (model : MemoryModel) (log : List Event) (a b : Event) → Condition model log a b 10 →
-    DependsOn DataOf b a
+    DependsOn log DataOf b a
 data_of_out model log a b (data_of h) = h
 
 -- so it is of rule 10
 pub data_of_at : (model : MemoryModel) (log : List Event) (a b : Event) (k : ℕ) (r : Bool) → k ≡ 10 → IsTrue r ↔
-    DependsOn DataOf b a → IsTrue r ↔ Condition model log a b k
+    DependsOn log DataOf b a → IsTrue r ↔ Condition model log a b k
 data_of_at model log a b k r e test = at_number model log a b 10 k r e data_of (data_of_out model log a b) test
 
 -- what the condition of rule 11 says

@@ -9,6 +9,9 @@ use Rattle.rv_event.proofs.Common.{reads_atomic_write, fenced, after_acquire, be
 use Rattle.rv_event.proofs.Common.{address, data_of, control, reads_dependent_write, after_dependent_address}
 use Rattle.rv_event.proofs.Common.{Rule, HasReason, IsEdge, IsStale, entries_of, Continues, Id, Event, Entry}
 use Rattle.rv_event.proofs.Common.{Reason, Preserved, Coherence, ReadsFrom, FromRead, AtomicIn, AtomicOut}
+use Rattle.rv_event.proofs.Common.{inl, inr, Addr, Behind, Ctrl, DataOf, DependsOn, IsDependentWrite, Lists}
+use Rattle.rv_event.specs.Relations.{listed, through}
+use Rattle.rv_event.specs.declared.event.DepKind.{DepKind}
 use Rattle.rv_event.proofs.Names.{named-is, writer-is}
 use Rattle.rv_event.proofs.Indexed.{Indexed, find-append_some}
 
@@ -104,6 +107,32 @@ module _ (model : MemoryModel) (old new : List Event) (grows : Grows old new) (k
   Any-grows : (P : Event → Type 0) → Any P old → Any P new
   Any-grows P any = let a = Any-contains P old any in Any-from_contains P new a.0 (Contains-grows a.0 a.1) a.2
 
+  -- what is behind a carrier stays behind it, and dependencies stay
+  Behind-grows : (c a : Event) → Behind old c a → Behind new c a
+  Behind-grows c a (listed is l) = listed is l
+  Behind-grows c a (through {m = m} is cm l rest) = through is (Contains-grows m cm) l (Behind-grows m a rest)
+
+  Any-grows-by : (P Q : Event → Type 0) → ((m : Event) → P m → Q m) → Any P old → Any Q new
+  Any-grows-by P Q map any =
+      let f = Any-contains P old any in Any-from_contains Q new f.0 (Contains-grows f.0 f.1) (map f.0 f.2)
+
+  DependsOn-grows : (kind : DepKind) (e a : Event) → DependsOn old kind e a → DependsOn new kind e a
+  DependsOn-grows kind e a (inl l) = inl l
+  DependsOn-grows kind e a (inr any) =
+      inr (Any-grows-by (λ m. Lists kind e m × Behind old m a) (λ m. Lists kind e m × Behind new m a)
+      (λ m p. (p.0, Behind-grows m a p.1)) any)
+
+  IsDependentWrite-grows : (a b m : Event) → IsDependentWrite old a b m → IsDependentWrite new a b m
+  IsDependentWrite-grows a b m h = record {
+    between = h.between;
+    store = h.store;
+    returns = h.returns;
+    depends = elim h.depends [
+      | inl addr ↦ inl (DependsOn-grows Addr m a addr)
+      | inr value ↦ inr (DependsOn-grows DataOf m a value)
+    ];
+  }
+
   -- what holds of each old event between two old ones holds of each new one
   All-grows : (a b : Event) → Contains old b → (P : Event → Type 0) → All (λ m. Between a m b → P m) old →
       All (λ m. Between a m b → P m) new
@@ -136,13 +165,18 @@ module _ (model : MemoryModel) (old new : List Event) (grows : Grows old new) (k
   Condition-grows a b cb k (before_release h) = before_release h
   Condition-grows a b cb k (both_rcsc h g) = both_rcsc h g
   Condition-grows a b cb k (paired h) = paired (Paired-grows a b cb h)
-  Condition-grows a b cb k (address h) = address h
-  Condition-grows a b cb k (data_of h) = data_of h
-  Condition-grows a b cb k (control s h) = control s (Any-grows _ h)
-  Condition-grows a b cb k (reads_dependent_write h) =
-      reads_dependent_write (record { load = h.load; through = Any-grows _ h.through })
-  Condition-grows a b cb k (after_dependent_address h) =
-      after_dependent_address (record { store = h.store; through = Any-grows _ h.through })
+  Condition-grows a b cb k (address h) = address (DependsOn-grows Addr b a h)
+  Condition-grows a b cb k (data_of h) = data_of (DependsOn-grows DataOf b a h)
+  Condition-grows a b cb k (control s h) =
+      control s (Any-grows-by _ _ (λ m p. (p.0, p.1, DependsOn-grows Ctrl m a p.2)) h)
+  Condition-grows a b cb k (reads_dependent_write h) = reads_dependent_write (record {
+    load = h.load;
+    through = Any-grows-by _ _ (IsDependentWrite-grows a b) h.through;
+  })
+  Condition-grows a b cb k (after_dependent_address h) = after_dependent_address (record {
+    store = h.store;
+    through = Any-grows-by _ _ (λ m p. (p.0, DependsOn-grows Addr m a p.1)) h.through;
+  })
 
   -- a rule that holds stays
   pub Rule-grows : (k : ℕ) (a b : Event) → Rule model old k a b → Rule model new k a b

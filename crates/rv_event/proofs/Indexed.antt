@@ -1,6 +1,6 @@
 -- In a well formed log each event is the one that its id names, a hart's numbers have no gap, and
 -- each store is the writer of its version.
-use Rattle.rv_event.proofs.Common.{common_steps, rules, ◌≡◌, ℕ, ◌+◌, ◌<◌, ◌≤◌, Bool, true, false, ◌&&◌, ◌==◌, cond}
+use Rattle.rv_event.proofs.Common.{common_steps, rules, ◌≡◌, ℕ, ◌<◌, ◌≤◌, Bool, true, false, ◌&&◌, ◌==◌, cond}
 use Rattle.rv_event.proofs.Common.{List, [], ◌∷◌, ◌++◌, length, Contains, find, Option, Some, None, ◌⊎◌, inl, inr}
 use Rattle.rv_event.proofs.Common.{refl, sym, ◌∙◌, arith, eq-eqb, append_assoc, append-nil, subst, and_from}
 use Rattle.rv_event.proofs.Common.{cases_eq, none-some, Contains-push_cases, find-append, is_store, IsStore}

@@ -1,5 +1,6 @@
 pub mod Common
 pub mod Bounded
+pub mod Carrying
 pub mod Checked
 pub mod Conditions
 pub mod Contexts

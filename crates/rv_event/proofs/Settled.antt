@@ -7,8 +7,11 @@ use Rattle.rv_event.proofs.Common.{of_hart, writer, Earlier, Between, Paired, De
 use Rattle.rv_event.proofs.Common.{overlapping_store, different_reads, reads_atomic_write, fenced, after_acquire}
 use Rattle.rv_event.proofs.Common.{before_release, both_rcsc, paired, address, data_of, control}
 use Rattle.rv_event.proofs.Common.{reads_dependent_write, after_dependent_address, IsDependentWrite, HasReason}
-use Rattle.rv_event.proofs.Common.{IsEdge, Branch, Addr, Ctrl, Id, Event, Reason, Preserved, Coherence, ReadsFrom}
+use Rattle.rv_event.proofs.Common.{IsEdge, Addr, Ctrl, Id, Event, Reason, Preserved, Coherence, ReadsFrom}
 use Rattle.rv_event.proofs.Common.{FromRead, AtomicIn, AtomicOut}
+use Rattle.rv_event.proofs.Common.{Behind, DataOf, Lists}
+use Rattle.rv_event.specs.Relations.{listed, through}
+use Rattle.rv_event.specs.declared.event.DepKind.{DepKind}
 use Rattle.rv_event.proofs.Names.{named-is, writer-is}
 use Rattle.rv_event.proofs.Indexed.{Indexed, Sound, indexed-push}
 use Rattle.rv_event.proofs.Growing.{Grows, Any-contains, Any-from_contains, All-from_contains, Contains-grows}
@@ -38,6 +41,39 @@ module _ (model : MemoryModel) (old new : List Event) (grows : Grows old new) (k
     none_between = All-settled (λ m. Between lr m sc → IsFalse (is_exclusive m.op)) p.none_between;
   }
 
+  -- so it is with what is behind an old carrier, and with the dependencies of an old event
+  Behind-settled : (c a : Event) → Contains old c → Behind new c a → Behind old c a
+  Behind-settled c a cc (listed is l) = listed is l
+  Behind-settled c a cc (through {m = m} is cm l rest) =
+      let old_m = earlier_old model old new grows known known' m c cc cm l.0 in
+      through is old_m l (Behind-settled m a old_m rest)
+
+  Any-settled-by : (b : Event) → Contains old b → (P Q : Event → Type 0) → ((m : Event) → P m → Earlier m b) →
+      ((m : Event) → Contains old m → P m → Q m) → Any P new → Any Q old
+  Any-settled-by b cb P Q early map any =
+      let f = Any-contains P new any in
+      let old_m = earlier_old model old new grows known known' f.0 b cb f.1 (early f.0 f.2) in
+      Any-from_contains Q old f.0 old_m (map f.0 old_m f.2)
+
+  DependsOn-settled : (kind : DepKind) (e a : Event) → Contains old e → DependsOn new kind e a →
+      DependsOn old kind e a
+  DependsOn-settled kind e a ce (inl l) = inl l
+  DependsOn-settled kind e a ce (inr any) =
+      inr (Any-settled-by e ce (λ m. Lists kind e m × Behind new m a) (λ m. Lists kind e m × Behind old m a)
+      (λ m p. p.0.0) (λ m cm p. (p.0, Behind-settled m a cm p.1)) any)
+
+  IsDependentWrite-settled : (a b m : Event) → Contains old m → IsDependentWrite new a b m →
+      IsDependentWrite old a b m
+  IsDependentWrite-settled a b m cm h = record {
+    between = h.between;
+    store = h.store;
+    returns = h.returns;
+    depends = elim h.depends [
+      | inl addr ↦ inl (DependsOn-settled Addr m a cm addr)
+      | inr value ↦ inr (DependsOn-settled DataOf m a cm value)
+    ];
+  }
+
   Condition-settled : (a b : Event) → Contains old b → (k : ℕ) → Condition model new a b k → Condition model old a b k
   Condition-settled a b cb k (overlapping_store h) = overlapping_store h
   Condition-settled a b cb k (different_reads h) =
@@ -55,20 +91,21 @@ module _ (model : MemoryModel) (old new : List Event) (grows : Grows old new) (k
   Condition-settled a b cb k (before_release h) = before_release h
   Condition-settled a b cb k (both_rcsc h g) = both_rcsc h g
   Condition-settled a b cb k (paired h) = paired (Paired-settled a b h)
-  Condition-settled a b cb k (address h) = address h
-  Condition-settled a b cb k (data_of h) = data_of h
+  Condition-settled a b cb k (address h) = address (DependsOn-settled Addr b a cb h)
+  Condition-settled a b cb k (data_of h) = data_of (DependsOn-settled DataOf b a cb h)
   Condition-settled a b cb k (control s h) =
-      control s (Any-settled b cb (λ m. Between a m b × (m.op ≡ Branch) × DependsOn Ctrl m a) (λ m p. p.0.before) h)
+      control s (Any-settled-by b cb _ _ (λ m p. p.0.before)
+      (λ m cm p. (p.0, p.1, DependsOn-settled Ctrl m a cm p.2)) h)
   Condition-settled a b cb k (reads_dependent_write h) =
       reads_dependent_write (record {
         load = h.load;
-        through = Any-settled b cb (IsDependentWrite a b)
-            (λ m p. p.between.before) h.through;
+        through = Any-settled-by b cb _ _ (λ m p. p.between.before) (IsDependentWrite-settled a b) h.through;
       })
   Condition-settled a b cb k (after_dependent_address h) =
       after_dependent_address (record {
         store = h.store;
-        through = Any-settled b cb (λ m. Between a m b × DependsOn Addr m a) (λ m p. p.0.before) h.through;
+        through = Any-settled-by b cb _ _ (λ m p. p.0.before)
+            (λ m cm p. (p.0, DependsOn-settled Addr m a cm p.1)) h.through;
       })
 
   -- a reason between old events was one before

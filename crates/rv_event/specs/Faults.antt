@@ -11,7 +11,7 @@ use Rattle.rv_event.specs.declared.event.DepKind.TheVariants.{Addr, DataOf, Ctrl
 use Rattle.rv_event.specs.declared.event.Event.{Event}
 use Rattle.rv_event.specs.declared.event.Entry.{Entry}
 use Rattle.rv_event.specs.declared.event.Op.{Op}
-use Rattle.rv_event.specs.declared.event.Op.TheVariants.{Load, Store, Lr, Sc, ScFailed, Amo, Branch}
+use Rattle.rv_event.specs.declared.event.Op.TheVariants.{Load, Store, Lr, Sc, ScFailed, Amo, Branch, Carrier}
 use Rattle.rv_event.specs.declared.fault.Fault.{Fault}
 use Rattle.rv_event.specs.declared.fault.Fault.TheVariants.{Hart, Sequence, Dependency, VersionZero}
 use Rattle.rv_event.specs.declared.fault.Fault.TheVariants.{VersionTaken, NoReservation, Full, OtherSource}
@@ -25,13 +25,14 @@ fault_if test fault = if test then Some fault else None
 abbrev pub expected : List Event → Event → ℕ
 expected log e = length (of_hart e.id.hart log)
 
--- what another event may depend on: what returns a value
+-- what another event may depend on: what returns a value, or stands for such
 abbrev pub can_be_named : Op → Bool
 can_be_named Load = true
 can_be_named Lr = true
 can_be_named Sc = true
 can_be_named ScFailed = true
 can_be_named Amo = true
+can_be_named Carrier = true
 can_be_named _ = false
 
 -- the kinds of dependency that an operation may have
@@ -46,6 +47,7 @@ admits Store DataOf = true
 admits Sc DataOf = true
 admits ScFailed DataOf = true
 admits Amo DataOf = true
+admits Carrier DataOf = true
 admits Branch Ctrl = true
 admits _ _ = false
 

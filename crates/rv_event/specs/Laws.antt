@@ -1,11 +1,15 @@
 -- What the definitions say of one another.
-use Rattle.std.specs.Prelude.{◌≡◌, ◌≤◌, ◌⊎◌, ◌++◌, List, [], ◌∷◌, length}
+use Rattle.std.specs.Prelude.{◌≡◌, ◌≢◌, ◌≤◌, ◌⊎◌, ◌↔◌, ◌++◌, List, [], ◌∷◌, length, All}
 use Rattle.rv_event.specs.Log.{events}
 use Rattle.rv_event.specs.Orders.{Lawful}
 use Rattle.rv_event.specs.Edges.{IsEdge}
 use Rattle.rv_event.specs.WellFormed.{WellFormed, Continues}
 use Rattle.rv_event.specs.Merges.{SameSources}
+use Rattle.rv_event.specs.Relations.{DependsOn, Lists}
+use Rattle.rv_event.specs.declared.event.DepKind.{DepKind}
+use Rattle.rv_event.specs.declared.event.Event.{Event}
 use Rattle.rv_event.specs.declared.event.Id.{Id}
+use Rattle.rv_event.specs.declared.event.Op.TheVariants.{Carrier}
 use Rattle.rv_event.specs.declared.event.Entry.{Entry}
 use Rattle.rv_event.specs.declared.memory_model.MemoryModel.{MemoryModel}
 use Rattle.rv_event.specs.declared.reason.Reason.{Reason}
@@ -37,3 +41,9 @@ NewEdgesEndAtTheNewEvent =
     (model : MemoryModel) (log : List Entry) (x : Entry) (i j : Id) (reason : Reason) →
     WellFormed (log ++ x ∷ []) → IsEdge model (events (log ++ x ∷ [])) i reason j →
     IsEdge model (events log) i reason j ⊎ ((i ≡ x.event.id) ⊎ (j ≡ x.event.id))
+
+-- in a log without carriers a dependency is one that an event lists
+abbrev pub WithoutCarriersDependenciesAreListed : Type 0
+WithoutCarriersDependenciesAreListed =
+    (log : List Event) (kind : DepKind) (e a : Event) → All (λ m. m.op ≢ Carrier) log →
+    DependsOn log kind e a ↔ Lists kind e a

@@ -1,4 +1,5 @@
 pub mod Annotations
+pub mod Carried
 pub mod Contexts
 pub mod Edges
 pub mod Faults

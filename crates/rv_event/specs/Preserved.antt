@@ -31,21 +31,21 @@ pub record ReadsAtomicWrite (a b : Event) : Type 0 where
   pub returns : Returns b a
 
 -- m is a store between them whose address or data depends on a, and b returns what m wrote
-pub record IsDependentWrite (a b m : Event) : Type 0 where
+pub record IsDependentWrite (log : List Event) (a b m : Event) : Type 0 where
   pub between : Between a m b
   pub store : IsStore m
   pub returns : Returns b m
-  pub depends : DependsOn Addr m a ⊎ DependsOn DataOf m a
+  pub depends : DependsOn log Addr m a ⊎ DependsOn log DataOf m a
 
 -- 12: b is a load that returns what such a store wrote
 pub record ReadsDependentWrite (log : List Event) (a b : Event) : Type 0 where
   pub load : IsLoad b
-  pub through : Any (IsDependentWrite a b) log
+  pub through : Any (IsDependentWrite log a b) log
 
 -- 13: b is a store, and the address of an event between them depends on a
 pub record AfterDependentAddress (log : List Event) (a b : Event) : Type 0 where
   pub store : IsStore b
-  pub through : Any (λ m. Between a m b × DependsOn Addr m a) log
+  pub through : Any (λ m. Between a m b × DependsOn log Addr m a) log
 
 -- The condition of each rule, by its number. 4: a fence orders a before b. 5: a has an acquire
 -- annotation. 6: b has a release annotation. 7: both have RCsc annotations. 8: a is paired with b.
@@ -60,8 +60,8 @@ pub data Condition (model : MemoryModel) (log : List Event) (a b : Event) : ℕ 
   before_release : IsRelease model b → Condition model log a b 6
   both_rcsc : IsRcsc model a → IsRcsc model b → Condition model log a b 7
   paired : Paired log a b → Condition model log a b 8
-  address : DependsOn Addr b a → Condition model log a b 9
-  data_of : DependsOn DataOf b a → Condition model log a b 10
+  address : DependsOn log Addr b a → Condition model log a b 9
+  data_of : DependsOn log DataOf b a → Condition model log a b 10
   control : IsStore b → ControlDependsOn log b a → Condition model log a b 11
   reads_dependent_write : ReadsDependentWrite log a b → Condition model log a b 12
   after_dependent_address : AfterDependentAddress log a b → Condition model log a b 13

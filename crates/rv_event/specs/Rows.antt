@@ -6,7 +6,8 @@ use Rattle.rv_event.specs.declared.event.DepKind.{DepKind}
 use Rattle.rv_event.specs.declared.event.DepKind.TheVariants.{Addr, DataOf, Ctrl}
 use Rattle.rv_event.specs.declared.event.Event.{Event}
 use Rattle.rv_event.specs.declared.event.Op.{Op}
-use Rattle.rv_event.specs.declared.event.Op.TheVariants.{Load, Store, Lr, Sc, ScFailed, Amo, Fence, FenceTso, Branch}
+use Rattle.rv_event.specs.declared.event.Op.TheVariants.{Load, Store, Lr, Sc, ScFailed, Amo, Branch, Carrier}
+use Rattle.rv_event.specs.declared.event.Op.TheVariants.{Fence, FenceTso}
 use Rattle.rv_event.specs.declared.event.Set.{Set}
 use Rattle.rv_event.specs.declared.event.Set.TheVariants.{R, W, Rw}
 use Rattle.rv_event.specs.Operations.{is_load, is_store, has_word}
@@ -26,6 +27,7 @@ op_text Amo = codes "AMO"
 op_text (Fence pred succ) = codes "F"
 op_text FenceTso = codes "FT"
 op_text Branch = codes "BR"
+op_text Carrier = codes "I"
 
 -- a number where the operation has it, and else nothing
 abbrev pub number_text : Bool → ℕ → List ℕ
@@ -49,6 +51,7 @@ marks_text ScFailed acquire release = bits_text acquire release
 marks_text Amo acquire release = bits_text acquire release
 marks_text FenceTso acquire release = bits_text acquire release
 marks_text Branch acquire release = bits_text acquire release
+marks_text Carrier acquire release = bits_text acquire release
 
 abbrev pub kind_text : DepKind → List ℕ
 kind_text Addr = codes "a"

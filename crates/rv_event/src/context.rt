@@ -32,7 +32,10 @@ pub struct Context {
 fn is_nameable(op: Op) -> bool
     ensures { result ≡ can_be_named op }
 {
-    matches!(op, Op::Load | Op::Lr | Op::Sc | Op::ScFailed | Op::Amo)
+    matches!(
+        op,
+        Op::Load | Op::Lr | Op::Sc | Op::ScFailed | Op::Amo | Op::Carrier
+    )
 }
 
 /// Whether the operation may have a dependency of this kind.
@@ -44,7 +47,10 @@ fn does_admit(op: Op, kind: DepKind) -> bool
             op,
             Op::Load | Op::Lr | Op::Store | Op::Sc | Op::ScFailed | Op::Amo
         ),
-        DepKind::DataOf => matches!(op, Op::Store | Op::Sc | Op::ScFailed | Op::Amo),
+        DepKind::DataOf => matches!(
+            op,
+            Op::Store | Op::Sc | Op::ScFailed | Op::Amo | Op::Carrier
+        ),
         DepKind::Ctrl => matches!(op, Op::Branch),
     }
 }

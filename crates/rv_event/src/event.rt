@@ -66,6 +66,8 @@ pub enum Op {
     FenceTso,
     /// A conditional branch or an indirect jump.
     Branch,
+    /// A row that lists others, so that a later one names it for all of them. It orders nothing.
+    Carrier,
 }
 
 impl Op {

@@ -1,6 +1,6 @@
 //! Laws over the definitions alone. Each function does nothing: its contract is the law.
 ghost use Rattle.rv_event.specs.Laws.{MergesAreWellFormed, MergesShareOrders, LogsAreBounded, EdgesStay};
-ghost use Rattle.rv_event.specs.Laws.{NewEdgesEndAtTheNewEvent};
+ghost use Rattle.rv_event.specs.Laws.{NewEdgesEndAtTheNewEvent, WithoutCarriersDependenciesAreListed};
 
 /// Whether sources are well formed does not depend on how they are merged.
 pub fn merges_are_well_formed()
@@ -20,6 +20,11 @@ pub fn logs_are_bounded()
 /// Edges stay when a log goes on.
 pub fn edges_stay()
     ensures { EdgesStay }
+{}
+
+/// Where no event is a carrier, a dependency is one that an event lists.
+pub fn without_carriers_dependencies_are_listed()
+    ensures { WithoutCarriersDependenciesAreListed }
 {}
 
 /// A new edge has the new event at an end.

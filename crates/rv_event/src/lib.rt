@@ -6,17 +6,18 @@
 //! - `specs/`: the definitions, one file a topic, each with the section of the RISC-V manual that
 //!   it restates. They are relations over lists of events, and take the memory model as a
 //!   parameter.
-//! - [`search`], [`relations`], [`rules`], [`preserved`], [`edges`], [`faults`]: the reference
-//!   implementation. It takes no memory, and each function is exact against its definition.
+//! - [`search`], [`relations`], [`carriers`], [`rules`], [`preserved`], [`edges`], [`faults`]: the
+//!   reference implementation. It takes no memory, and each function is exact against its definition.
 //!   [`context`] has the faults of an event by what a log tells of it, for the reference
 //!   implementation's scans and for whoever keeps an index.
 //! - [`laws`]: what the definitions say of one another.
 //! - `text`: the row of a trace that an event is printed as.
 //!
-//! It stands on std alone. Its one contract to all others: what the reference implementation
-//! answers is what the definition says.
+//! It stands on std and on the sets of `rv_rows`. Its one contract to all others: what the reference
+//! implementation answers is what the definition says.
 #![tactic(auto)]
 
+mod carriers;
 mod context;
 mod edges;
 mod event;
@@ -32,6 +33,7 @@ mod rules;
 mod search;
 mod text;
 
+pub use carriers::{depends_through, is_carrier};
 pub use context::{Context, find_deps_fault, first_fault, is_bad_dependency};
 pub use edges::{find_reason, is_edge, is_stale};
 pub use event::{Dep, DepKind, Deps, Entry, Event, Id, Op, Set, is_same};
@@ -39,7 +41,7 @@ pub use fault::Fault;
 pub use faults::{find_event_fault, find_fault, find_first_fault, is_well_formed};
 pub use laws::{
     edges_stay, logs_are_bounded, merges_are_well_formed, merges_share_orders,
-    new_edges_end_at_the_new_event,
+    new_edges_end_at_the_new_event, without_carriers_dependencies_are_listed,
 };
 pub use memory_model::MemoryModel;
 pub use no_memory::NoMemory;

@@ -1,13 +1,18 @@
 //! Annotations, pairs, fences and dependencies, by scans of the log.
-ghost use Rattle.std.specs.Prelude.{◌≡◌, ◌↔◌, IsTrue, IsFalse, All};
+ghost use Rattle.std.specs.Prelude.{◌≡◌, ◌↔◌, IsTrue, IsFalse, All, Any};
+ghost use Rattle.rv_event.specs.Carried.{DependsBy};
+ghost use Rattle.rv_event.specs.declared.event.DepKind.TheVariants.{Ctrl};
+ghost use Rattle.rv_event.specs.declared.event.Op.TheVariants.{Branch};
 ghost use Rattle.rv_event.specs.Log.{events, Between};
 ghost use Rattle.rv_event.specs.Operations.{is_exclusive};
 ghost use Rattle.rv_event.specs.Annotations.{is_annotated, IsAcquire, IsRelease, IsRcsc};
-ghost use Rattle.rv_event.specs.Relations.{Paired, in_set, fence_orders, Fenced, DependsOn, ControlDependsOn};
+ghost use Rattle.rv_event.specs.Relations.{Paired, in_set, fence_orders, Fenced, Lists, ControlDependsOn};
 
+use crate::carriers::{carriers_of, depends_by};
 use crate::event::{Dep, DepKind, Entry, Event, Op, Set};
 use crate::memory_model::MemoryModel;
 use crate::search::{is_between, is_earlier};
+use rv_rows::Row;
 
 /// Whether the operation's aq and rl bits count.
 fn is_annotated(op: Op) -> bool
@@ -95,10 +100,10 @@ pub fn is_fenced(log: &[Entry], a: &Event, b: &Event) -> bool
     log.iter().any(|x| is_between(a, &x.event, b) && does_order(x.event.op, a.op, b.op))
 }
 
-/// Whether the event lists a dependency of this kind on the earlier one (manual, section 14.1,
-/// "Syntactic Dependencies").
+/// Whether the event itself lists a dependency of this kind on the earlier one (manual, section
+/// 14.1, "Syntactic Dependencies").
 pub fn depends_on(kind: DepKind, event: &Event, on: &Event) -> bool
-    ensures { IsTrue result ↔ DependsOn kind event.now on.now }
+    ensures { IsTrue result ↔ Lists kind event.now on.now }
 {
     is_earlier(on, event)
         && event.deps.as_slice().contains(&Dep {
@@ -107,13 +112,22 @@ pub fn depends_on(kind: DepKind, event: &Event, on: &Event) -> bool
         })
 }
 
-/// Whether a branch between them depends on a: whether b has a control dependency on a.
+/// Whether a branch between them depends on a, itself or through carriers: whether b has a control
+/// dependency on a.
 pub fn control_depends_on(log: &[Entry], b: &Event, a: &Event) -> bool
     ensures { IsTrue result ↔ ControlDependsOn (events log.now) b.now a.now }
+{
+    has_dependent_branch(log, b, a, &carriers_of(log, a))
+}
+
+/// Whether a branch between them depends on a, which is behind these carriers.
+fn has_dependent_branch(log: &[Entry], b: &Event, a: &Event, carriers: &Row) -> bool
+    ensures { IsTrue result ↔ Any (λ m. Between a.now m b.now × (m.op ≡ Branch) ×
+        DependsBy Ctrl m a.now carriers.now) (events log.now) }
 {
     log.iter().any(|x| {
         is_between(a, &x.event, b)
             && x.event.op == Op::Branch
-            && depends_on(DepKind::Ctrl, &x.event, a)
+            && depends_by(DepKind::Ctrl, &x.event, a, carriers)
     })
 }

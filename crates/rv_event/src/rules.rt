@@ -3,18 +3,18 @@
 ghost use Rattle.std.specs.Prelude.{◌≡◌, ◌≢◌, ◌↔◌, IsTrue, All, Any, Contains};
 ghost use Rattle.rv_event.specs.Log.{events, Between};
 ghost use Rattle.rv_event.specs.Operations.{IsStore, Returns};
-ghost use Rattle.rv_event.specs.Relations.{DependsOn};
+ghost use Rattle.rv_event.specs.Carried.{DependsBy, IsDependentWriteBy};
 ghost use Rattle.rv_event.specs.declared.event.DepKind.TheVariants.{Addr};
 ghost use Rattle.rv_event.specs.Preserved.{OverlappingStore, DifferentReads, ReadsAtomicWrite};
-ghost use Rattle.rv_event.specs.Preserved.{IsDependentWrite, ReadsDependentWrite, AfterDependentAddress};
+ghost use Rattle.rv_event.specs.Preserved.{ReadsDependentWrite, AfterDependentAddress};
 ghost use Rattle.rv_event.specs.Preserved.{Condition, Rule};
 
+use crate::carriers::{carriers_of, depends_by, depends_through};
 use crate::event::{DepKind, Entry, Event, Op};
 use crate::memory_model::MemoryModel;
-use crate::relations::{
-    control_depends_on, depends_on, is_acquire, is_fenced, is_paired, is_rcsc, is_release,
-};
+use crate::relations::{control_depends_on, is_acquire, is_fenced, is_paired, is_rcsc, is_release};
 use crate::search::{is_between, is_earlier};
+use rv_rows::Row;
 
 /// Whether the load returns what the store wrote.
 fn does_return(load: &Event, store: &Event) -> bool
@@ -59,42 +59,48 @@ pub fn reads_atomic_write(a: &Event, b: &Event) -> bool
     (a.op == Op::Amo || a.op == Op::Sc) && b.is_load() && does_return(b, a)
 }
 
-/// Whether m is a store between them that depends on a, and b returns what it wrote.
-fn is_dependent_write(a: &Event, m: &Event, b: &Event) -> bool
-    ensures { IsTrue result ↔ IsDependentWrite a.now b.now m.now }
+/// Whether m is a store between them that depends on a, which is behind these carriers, and b
+/// returns what it wrote.
+fn is_dependent_write(a: &Event, m: &Event, b: &Event, carriers: &Row) -> bool
+    ensures { IsTrue result ↔ IsDependentWriteBy a.now b.now carriers.now m.now }
 {
     is_between(a, m, b)
         && m.is_store()
         && does_return(b, m)
-        && (depends_on(DepKind::Addr, m, a) || depends_on(DepKind::DataOf, m, a))
+        && (depends_by(DepKind::Addr, m, a, carriers)
+            || depends_by(DepKind::DataOf, m, a, carriers))
 }
 
 /// Whether b is a load that returns what such a store wrote.
 fn reads_dependent_write(log: &[Entry], a: &Event, b: &Event) -> bool
     ensures { IsTrue result ↔ ReadsDependentWrite (events log.now) a.now b.now }
 {
-    b.is_load() && has_dependent_write(log, a, b)
+    b.is_load() && has_dependent_write(log, a, b, &carriers_of(log, a))
 }
 
-/// Whether b returns what some store between them wrote that depends on a.
-fn has_dependent_write(log: &[Entry], a: &Event, b: &Event) -> bool
-    ensures { IsTrue result ↔ Any (IsDependentWrite a.now b.now) (events log.now) }
+/// Whether b returns what some store between them wrote that depends on a, which is behind these
+/// carriers.
+fn has_dependent_write(log: &[Entry], a: &Event, b: &Event, carriers: &Row) -> bool
+    ensures { IsTrue result ↔ Any (IsDependentWriteBy a.now b.now carriers.now) (events log.now) }
 {
-    log.iter().any(|x| is_dependent_write(a, &x.event, b))
+    log.iter()
+        .any(|x| is_dependent_write(a, &x.event, b, carriers))
 }
 
-/// Whether the address of some event between them depends on a.
-fn has_dependent_address(log: &[Entry], a: &Event, b: &Event) -> bool
-    ensures { IsTrue result ↔ Any (λ m. Between a.now m b.now × DependsOn Addr m a.now) (events log.now) }
+/// Whether the address of some event between them depends on a, which is behind these carriers.
+fn has_dependent_address(log: &[Entry], a: &Event, b: &Event, carriers: &Row) -> bool
+    ensures { IsTrue result ↔ Any (λ m. Between a.now m b.now × DependsBy Addr m a.now carriers.now)
+        (events log.now) }
 {
-    log.iter().any(|x| is_between(a, &x.event, b) && depends_on(DepKind::Addr, &x.event, a))
+    log.iter().any(|x| is_between(a, &x.event, b)
+        && depends_by(DepKind::Addr, &x.event, a, carriers))
 }
 
 /// Whether b is a store, and the address of an event between them depends on a.
 fn is_after_dependent_address(log: &[Entry], a: &Event, b: &Event) -> bool
     ensures { IsTrue result ↔ AfterDependentAddress (events log.now) a.now b.now }
 {
-    b.is_store() && has_dependent_address(log, a, b)
+    b.is_store() && has_dependent_address(log, a, b, &carriers_of(log, a))
 }
 
 /// Whether the condition of the rule with this number holds. No rule has a number outside 1 to 13.
@@ -110,8 +116,8 @@ fn is_condition(model: MemoryModel, log: &[Entry], a: &Event, b: &Event, k: u8) 
         6 => is_release(model, b),
         7 => is_rcsc(model, a) && is_rcsc(model, b),
         8 => is_paired(log, a, b),
-        9 => depends_on(DepKind::Addr, b, a),
-        10 => depends_on(DepKind::DataOf, b, a),
+        9 => depends_through(log, DepKind::Addr, b, a),
+        10 => depends_through(log, DepKind::DataOf, b, a),
         11 => b.is_store() && control_depends_on(log, b, a),
         12 => reads_dependent_write(log, a, b),
         13 => is_after_dependent_address(log, a, b),

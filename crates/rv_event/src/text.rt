@@ -33,7 +33,8 @@ impl fmt::Display for Set {
     }
 }
 
-/// It is printed as the mnemonic of a trace: `L`, `S`, `LR`, `SC`, `SF`, `AMO`, `F`, `FT` or `BR`.
+/// It is printed as the mnemonic of a trace: `L`, `S`, `LR`, `SC`, `SF`, `AMO`, `F`, `FT`, `BR` or
+/// `I`.
 impl fmt::Display for Op {
     ghost output = { λ o. Some (op_text o) };
 
@@ -48,6 +49,7 @@ impl fmt::Display for Op {
             Op::Fence { .. } => write!(f, "F"),
             Op::FenceTso => write!(f, "FT"),
             Op::Branch => write!(f, "BR"),
+            Op::Carrier => write!(f, "I"),
         }
     }
 }

@@ -31,7 +31,8 @@ pub record AreDependencies (steps : List Step) (x : Step) (trace : Traced) (list
   pub few : length lists.address.items + length lists.value.items ≤ 8
   pub address_parts : AreParts trace.rows lists.address.items
   pub value_parts : AreParts trace.rows lists.value.items
-  pub address : (n : ℕ) → IsBehind trace.carriers lists.address.items n ↔ HasAddress (with_next steps x) (length steps) n
+  pub address : (n : ℕ) →
+      IsBehind trace.carriers lists.address.items n ↔ HasAddress (with_next steps x) (length steps) n
   pub value : (n : ℕ) → IsBehind trace.carriers lists.value.items n ↔ HasData (with_next steps x) (length steps) n
 
 abbrev pub ListsNext : Traced → Insn → Traced → Lists → Type 0

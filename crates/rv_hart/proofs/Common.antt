@@ -23,7 +23,7 @@ pub use Rattle.rv_event.specs.Preserved.{Condition, DifferentReads, IsDependentW
 pub use Rattle.rv_event.specs.Preserved.{after_acquire, after_dependent_address, before_release, both_rcsc, control}
 pub use Rattle.rv_event.specs.Preserved.{data_of, different_reads, fenced, overlapping_store, paired}
 pub use Rattle.rv_event.specs.Preserved.{reads_atomic_write, reads_dependent_write}
-pub use Rattle.rv_event.specs.Relations.{DependsOn, Fenced, Paired, fence_orders}
+pub use Rattle.rv_event.specs.Relations.{Behind, DependsOn, Fenced, IsCarrier, Lists, Paired, fence_orders}
 pub use Rattle.rv_event.specs.declared.event.Dep.{Dep}
 pub use Rattle.rv_event.specs.declared.event.DepKind.{DepKind}
 pub use Rattle.rv_event.specs.declared.event.DepKind.TheVariants.{Addr, Ctrl, DataOf}
@@ -48,7 +48,7 @@ pub use Rattle.rv_hart.specs.RuleLinks.{AreEnoughLinks, AreRuleLinks}
 pub use Rattle.rv_hart.specs.RuleRows.{Adds, ConditionOf, IsApart, IsLastOther, IsLeadingRow, IsLowestRule}
 pub use Rattle.rv_hart.specs.RuleRows.{IsOperationOf}
 pub use Rattle.rv_hart.specs.Sets.{AreSets, HasEvent, IsAddressing, IsControlling, IsFencedFor, IsReservation}
-pub use Rattle.rv_hart.specs.Sets.{IsReserving, NamesMemory, RowIs}
+pub use Rattle.rv_hart.specs.Sets.{AreCarriedRows, IsCarried, IsNaming, IsReserving, NamesMemory, RowIs}
 pub use Rattle.rv_hart.specs.Words.{AreNumbered, AreWords, IsAbove, IsBeforeRun, IsHighestStore, IsLastBelow}
 pub use Rattle.rv_hart.specs.Words.{IsOfWord, IsWordLink, NamesOfWord, link_at}
 pub use Rattle.rv_hart.specs.declared.hart.HartOrder.{HartOrder}

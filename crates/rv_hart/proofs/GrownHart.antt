@@ -6,35 +6,61 @@ use Rattle.rv_hart.proofs.Common.{common_steps, Event, MemoryModel, Has, has_bit
 use Rattle.rv_hart.proofs.Common.{hart_with, hart_of, IsKept, IsBefore, RowsMean, AreSets, AreWords, Kept}
 use Rattle.rv_hart.proofs.HartFacts.{Known, known_with, fits_of, Fits, hart-push, hart-front, hart-last, deps-few}
 use Rattle.rv_hart.proofs.HartFacts.{number-few}
+use Rattle.rv_hart.proofs.Common.{AreCarriedRows, IsCarried}
+use Rattle.rv_hart.proofs.CarriedRows.{carried-pop, carried-push}
 use Rattle.rv_hart.proofs.RowMeanings.{rows-push, rows-front}
+
+-- the rows of carriers are those of the events
+abbrev pub CarriedOf : List Event → List (List ℕ) → Type 0
+CarriedOf events rows = AreCarriedRows events rows × (length rows ≡ length events)
 
 -- what is kept of a hart, put together
 pub kept_from : (events : List Event) (k : Kept) (h : Hart) → hart_of events k ≡ h → IsHart h → RowsMean h k.rows →
-    length k.rows ≡ length events → AreSets h k.sets → AreWords events k.words → IsKept events k
-kept_from events k h is hart rows count sets words = grind (arith, common_steps)
+    length k.rows ≡ length events → CarriedOf events k.carried → AreSets h k.sets → AreWords events k.words →
+    IsKept events k
+kept_from events k h is hart rows count carried sets words = record {
+  hart = subst IsHart (sym is) hart;
+  rows = subst (λ (x : Hart). RowsMean x k.rows) (sym is) rows;
+  count = count;
+  carried = carried.0;
+  carried_count = carried.1;
+  sets = subst (λ (x : Hart). AreSets x k.sets) (sym is) sets;
+  words = words;
+}
 
 -- the same events and rows
 pub kept-same : (events : List Event) (k k' : Kept) → IsKept events k → hart_of events k' ≡ hart_of events k →
-    k'.rows ≡ k.rows → k'.sets ≡ k.sets → AreWords events k'.words → IsKept events k'
-kept-same events k k' kept is rows sets words =
+    k'.rows ≡ k.rows → k'.carried ≡ k.carried → k'.sets ≡ k.sets → AreWords events k'.words → IsKept events k'
+kept-same events k k' kept is rows carried sets words =
     kept_from events k' (hart_of events k) is kept.hart (subst (RowsMean (hart_of events k)) (sym rows) kept.rows)
     (ap (λ (rs : List (List ℕ)). length rs) rows ∙ kept.count)
+    (subst (CarriedOf events) (sym carried) (kept.carried, kept.carried_count))
     (subst (AreSets (hart_of events k)) (sym sets) kept.sets) words
 
 -- one event more
-pub kept-pushed : (events : List Event) (k k' : Kept) (e : Event) (row : List ℕ) → IsKept events k →
+pub kept-pushed : (events : List Event) (k k' : Kept) (e : Event) (row behind : List ℕ) → IsKept events k →
     Follows (hart_of events k) e → hart_of (events ++ e ∷ []) k' ≡ hart_with (hart_of events k) e →
     k'.rows ≡ k.rows ++ row ∷ [] → ((s : ℕ) → Has row s ↔ IsBefore (hart_with (hart_of events k) e) s e.id.seq) →
+    k'.carried ≡ k.carried ++ behind ∷ [] → ((s : ℕ) → Has behind s ↔ IsCarried (events ++ e ∷ []) s e.id.seq) →
     AreSets (hart_with (hart_of events k) e) k'.sets → AreWords (events ++ e ∷ []) k'.words →
     IsKept (events ++ e ∷ []) k'
-kept-pushed events k k' e row kept follows is rows mean sets words =
+kept-pushed events k k' e row behind kept follows is rows mean carried means sets words =
     kept_from (events ++ e ∷ []) k' (hart_with (hart_of events k) e) is
     (hart-push (hart_of events k) e kept.hart follows)
     (subst (RowsMean (hart_with (hart_of events k) e)) (sym rows)
     (rows-push (fits_of (hart_of events k) e kept.hart follows) k.rows row kept.count kept.rows
     mean))
-    (ap (λ (rs : List (List ℕ)). length rs) rows ∙ length_push k.rows row ∙ ap (λ (n : ℕ). n + 1) kept.count ∙
-    sym (length_push events e)) sets words
+    (ap (λ (rs : List (List ℕ)). length rs) rows ∙ longer k.rows row kept.count)
+    (subst (CarriedOf (events ++ e ∷ [])) (sym carried) (
+      carried-push (fits_of (hart_of events k) e kept.hart follows) k.carried behind kept.carried kept.carried_count
+          means,
+      longer k.carried behind kept.carried_count,
+    ))
+    sets words
+  where
+    longer : (rs : List (List ℕ)) (r : List ℕ) → length rs ≡ length events →
+        length (rs ++ r ∷ []) ≡ length (events ++ e ∷ [])
+    longer rs r count = length_push rs r ∙ ap (λ (n : ℕ). n + 1) count ∙ sym (length_push events e)
 
 -- the numbers of the new event's row are at most its own
 pub row-low : {h : Hart} {e : Event} (f : Fits h e) (rows : List (List ℕ)) (row : List ℕ) →
@@ -51,15 +77,37 @@ pub means-same : (h : Hart) (j : ℕ) (row last : List ℕ) → ((s : ℕ) → h
     ((s : ℕ) → Has row s ↔ IsBefore h s j) → (s : ℕ) → Has last s ↔ IsBefore h s j
 means-same h j row last same mean s = (λ x. (mean s).0 (sym (same s) ∙ x), λ b. same s ∙ (mean s).1 b)
 
+-- the rows of carriers without the last
+pub carried-front : (front : List Event) (k : Kept) (e : Event) (behind : List (List ℕ)) (last : List ℕ) →
+    IsKept (front ++ e ∷ []) k → k.carried ≡ behind ++ last ∷ [] → CarriedOf front behind
+carried-front front k e behind last kept carried = (
+  carried-pop fits behind last (subst (AreCarriedRows (front ++ e ∷ [])) carried kept.carried) count,
+  count,
+)
+  where
+    fits : Fits (hart_of front k) e
+    fits = fits_of (hart_of front k) e (hart-front (hart_of (front ++ e ∷ []) k) front e kept.hart refl)
+        (hart-last (hart_of (front ++ e ∷ []) k) front e kept.hart refl)
+
+    count : length behind ≡ length front
+    count =
+        let more = length_push behind last in
+        let longer = length_push front e in
+        let all = kept.carried_count in
+        let is = ap (λ (rs : List (List ℕ)). length rs) carried in
+        omega (more, longer, all, is, arith)
+
 -- one event less
-pub kept-popped : (front : List Event) (k k' : Kept) (e : Event) (before : List (List ℕ)) (row : List ℕ) →
-    IsKept (front ++ e ∷ []) k → k.rows ≡ before ++ row ∷ [] → hart_of front k' ≡ hart_of front k →
-    k'.rows ≡ before → AreSets (hart_of front k) k'.sets → AreWords front k'.words → IsKept front k'
-kept-popped front k k' e before row kept rows is rows' sets words =
+pub kept-popped : (front : List Event) (k k' : Kept) (e : Event) (before : List (List ℕ)) (row : List ℕ)
+    (behind : List (List ℕ)) (last : List ℕ) → IsKept (front ++ e ∷ []) k → k.rows ≡ before ++ row ∷ [] →
+    k.carried ≡ behind ++ last ∷ [] → hart_of front k' ≡ hart_of front k → k'.rows ≡ before → k'.carried ≡ behind →
+    AreSets (hart_of front k) k'.sets → AreWords front k'.words → IsKept front k'
+kept-popped front k k' e before row behind last kept rows carried is rows' carried' sets words =
     kept_from front k' h is (hart-front (hart_of (front ++ e ∷ []) k) front e kept.hart refl)
     (subst (RowsMean h) (sym rows')
     (rows-front fits before row count (subst (RowsMean (hart_with h e)) rows kept.rows)))
-    (ap (λ (rs : List (List ℕ)). length rs) rows' ∙ count) sets words
+    (ap (λ (rs : List (List ℕ)). length rs) rows' ∙ count)
+    (subst (CarriedOf front) (sym carried') (carried-front front k e behind last kept carried)) sets words
   where
     h : Hart
     h = hart_of front k
@@ -108,3 +156,9 @@ hart-none model number before after e is =
 pub rows-none : (model : MemoryModel) (number : ℕ) (rows : List (List ℕ)) → rows ≡ [] →
     RowsMean (record { model = model; number = number; events = [] }) rows
 rows-none model number rows nil j s = grind (arith, common_steps)
+
+pub carried-none : (rows : List (List ℕ)) → rows ≡ [] → CarriedOf [] rows
+carried-none rows nil = (
+  record { long = omega arith; says = λ j s low. absurd (omega (low, arith)) },
+  ap (λ (rs : List (List ℕ)). length rs) nil,
+)

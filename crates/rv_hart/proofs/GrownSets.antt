@@ -8,7 +8,11 @@ use Rattle.rv_hart.proofs.Common.{IsStore, IsMemory, Earlier, fence_orders, Depe
 use Rattle.rv_hart.proofs.Common.{Op, Load, Store, Lr, Branch, Has, has_bit, Hart, followed, HasEvent, RowIs}
 use Rattle.rv_hart.proofs.Common.{NamesMemory, IsFencedFor, IsControlling, IsAddressing, IsReserving}
 use Rattle.rv_hart.proofs.Common.{IsReservation}
-use Rattle.rv_hart.proofs.HartFacts.{Known, Fits, follows_all, old_new}
+use Rattle.rv_hart.proofs.HartFacts.{Known, Fits, follows_all, known_with, old_new, same_event}
+use Rattle.rv_hart.proofs.Common.{◌≤◌, [], ◌∷◌, length, Any, AreCarriedRows, Behind, Dep, IsNaming, Lists, RowHas}
+use Rattle.rv_hart.proofs.Common.{DataOf, IsCarried, IsCarrier}
+use Rattle.rv_hart.proofs.CarriedRows.{behind-depends, behind-earlier, depends-behind, depends-earlier, depends-front}
+use Rattle.rv_hart.proofs.CarriedRows.{depends-whole, number-front}
 use Rattle.rv_hart.proofs.DependencyRows.{AddsNamed}
 
 -- what is true of an event of the list may be changed at it
@@ -183,46 +187,165 @@ module _ (events : List Event) (loads stores : List ℕ) (loads_are : RowIs load
           ]
 
 -- what a dependency names is a memory operation on which the event depends
-pub depended : {h : Hart} → Known h → (x : Event) → x.id.hart ≡ h.number →
-    ((d : _) → Contains x.deps d → d.seq < x.id.seq) → (kind : DepKind) (loads stores : List ℕ) →
-    RowIs loads IsLoad h.events → RowIs stores IsStore h.events → (s : ℕ) →
-    NamesMemory kind x.deps loads stores s ↔ HasEvent (λ a. IsMemory a × DependsOn kind x a) h.events s
-depended {h} known x hart below kind loads stores loads_are stores_are s = (to, from)
+pub depended : {h : Hart} → Known h → (x : Event) → x.id.hart ≡ h.number → x.id.seq ≤ length h.events →
+    ((d : _) → Contains x.deps d → d.seq < x.id.seq) → (kind : DepKind) (loads stores : List ℕ)
+    (carried : List (List ℕ)) → RowIs loads IsLoad h.events → RowIs stores IsStore h.events →
+    AreCarriedRows h.events carried → (s : ℕ) →
+    NamesMemory kind x.deps loads stores carried s ↔ HasEvent (λ a. IsMemory a × DependsOn h.events kind x a) h.events s
+depended {h} known x hart low below kind loads stores carried loads_are stores_are carried_are s = (to, from)
   where
-    to : NamesMemory kind x.deps loads stores s → HasEvent (λ a. IsMemory a × DependsOn kind x a) h.events s
-    to n =
-        let m = (memory-row h.events loads stores loads_are stores_are s).0 n.1 in
-        let low : s < x.id.seq = below (record { kind = kind; seq = s }) n.0 in
-        let at : m.a.id.seq ≡ s = m.at in
-        record {
-          a = m.a;
-          of_list = m.of_list;
-          at = m.at;
-          holds = (
-            m.holds,
-            (
-              record { hart = known.own m.a m.of_list ∙ sym hart; seq = omega arith },
-              subst (λ (k : ℕ). Contains x.deps (record { kind = kind; seq = k })) (sym m.at) n.0,
-            ),
-          );
-        }
-
-    from : HasEvent (λ a. IsMemory a × DependsOn kind x a) h.events s → NamesMemory kind x.deps loads stores s
-    from y = (
-      subst (λ (k : ℕ). Contains x.deps (record { kind = kind; seq = k })) y.at y.holds.1.1,
-      (memory-row h.events loads stores loads_are stores_are s).1
-          (record { a = y.a; of_list = y.of_list; at = y.at; holds = y.holds.0 }),
+    -- x lists the event that it names
+    lists : (a : Event) (d : Dep) → Contains h.events a → Contains x.deps d → d.kind ≡ kind → d.seq ≡ a.id.seq →
+        Lists kind x a
+    lists a d ca cd is at = (
+      record {
+        hart = known.own a ca ∙ sym hart;
+        seq = let earlier = below d cd in omega (earlier, at, arith);
+      },
+      subst (λ (y : Dep). Contains x.deps y) (λ i. record { kind = is i; seq = at i }) cd,
     )
 
+    to : NamesMemory kind x.deps loads stores carried s →
+        HasEvent (λ a. IsMemory a × DependsOn h.events kind x a) h.events s
+    to n =
+        let found = Any-contains (IsNaming kind loads stores carried s) x.deps n in
+        let d : Dep = found.0 in
+        elim found.2.1 [
+          | inl own ↦ (
+              let m = (memory-row h.events loads stores loads_are stores_are s).0 own.1 in
+              record {
+                a = m.a;
+                of_list = m.of_list;
+                at = m.at;
+                holds = (m.holds, inl (lists m.a d m.of_list found.1 found.2.0 (own.0 ∙ sym m.at)));
+              })
+          | inr behind ↦ (
+              let earlier = below d found.1 in
+              let y = (carried_are.says d.seq s (omega (earlier, low, arith))).0 behind in
+              record {
+                a = y.a;
+                of_list = y.a_of_list;
+                at = y.a_at;
+                holds = (
+                  y.memory,
+                  inr (Any-from_contains (λ m. Lists kind x m × Behind h.events m y.a) h.events y.c y.c_of_list
+                      (lists y.c d y.c_of_list found.1 found.2.0 (sym y.c_at), y.behind)),
+                );
+              })
+        ]
+
+    from : HasEvent (λ a. IsMemory a × DependsOn h.events kind x a) h.events s →
+        NamesMemory kind x.deps loads stores carried s
+    from y = elim y.holds.1 [
+      | inl l ↦ Any-from_contains (IsNaming kind loads stores carried s) x.deps
+          (record { kind = kind; seq = y.a.id.seq }) l.1 (
+            refl,
+            inl (
+              y.at,
+              (memory-row h.events loads stores loads_are stores_are s).1
+                  (record { a = y.a; of_list = y.of_list; at = y.at; holds = y.holds.0 }),
+            ),
+          )
+      | inr any ↦ (
+          let found = Any-contains (λ m. Lists kind x m × Behind h.events m y.a) h.events any in
+          let c : Event = found.0 in
+          Any-from_contains (IsNaming kind loads stores carried s) x.deps
+          (record { kind = kind; seq = c.id.seq }) found.2.0.1 (
+            refl,
+            inr ((carried_are.says c.id.seq s (known.below c found.1)).1 (record {
+              a = y.a;
+              c = c;
+              a_of_list = y.of_list;
+              c_of_list = found.1;
+              a_at = y.at;
+              c_at = refl;
+              memory = y.holds.0;
+              behind = found.2.1;
+            })),
+          ))
+    ]
+
+-- what tells whether it depends on a memory operation
+pub depended-on : {h : Hart} → Known h → (x : Event) → x.id.hart ≡ h.number → x.id.seq ≤ length h.events →
+    ((d : _) → Contains x.deps d → d.seq < x.id.seq) → (kind : DepKind) (carried : List (List ℕ)) →
+    AreCarriedRows h.events carried → (met : Event) → Contains h.events met → IsMemory met →
+    (Lists kind x met ⊎ Any (λ d. (d.kind ≡ kind) × RowHas carried d.seq met.id.seq) x.deps) ↔
+    DependsOn h.events kind x met
+depended-on {h} known x hart low below kind carried are met cm memory = (to, from)
+  where
+    to : Lists kind x met ⊎ Any (λ d. (d.kind ≡ kind) × RowHas carried d.seq met.id.seq) x.deps →
+        DependsOn h.events kind x met
+    to (inl l) = inl l
+    to (inr any) =
+        let found = Any-contains (λ d. (d.kind ≡ kind) × RowHas carried d.seq met.id.seq) x.deps any in
+        let d : Dep = found.0 in
+        let is = found.2.0 in
+        let earlier = below d found.1 in
+        let y = (are.says d.seq met.id.seq (omega (earlier, low, arith))).0 found.2.1 in
+        let at = y.c_at in
+        let same : y.a ≡ met = same_event known y.a met y.a_of_list cm y.a_at in
+        inr (Any-from_contains (λ m. Lists kind x m × Behind h.events m met) h.events y.c y.c_of_list (
+          (
+            record { hart = known.own y.c y.c_of_list ∙ sym hart; seq = omega (earlier, at, arith) },
+            subst (λ (z : Dep). Contains x.deps z) (λ i. record { kind = is i; seq = sym at i }) found.1,
+          ),
+          subst (λ (z : Event). Behind h.events y.c z) same y.behind,
+        ))
+
+    from : DependsOn h.events kind x met →
+        Lists kind x met ⊎ Any (λ d. (d.kind ≡ kind) × RowHas carried d.seq met.id.seq) x.deps
+    from (inl l) = inl l
+    from (inr any) =
+        let found = Any-contains (λ m. Lists kind x m × Behind h.events m met) h.events any in
+        let c : Event = found.0 in
+        inr (Any-from_contains (λ d. (d.kind ≡ kind) × RowHas carried d.seq met.id.seq) x.deps
+        (record { kind = kind; seq = c.id.seq }) found.2.0.1 (
+          refl,
+          (are.says c.id.seq met.id.seq (known.below c found.1)).1 (record {
+            a = met;
+            c = c;
+            a_of_list = cm;
+            c_of_list = found.1;
+            a_at = refl;
+            c_at = refl;
+            memory = memory;
+            behind = found.2.1;
+          }),
+        ))
+
 -- the event is a branch that depends on a memory operation
-abbrev BranchDepends : Event → Event → Type 0
-BranchDepends e a = IsMemory a × (e.op ≡ Branch) × DependsOn Ctrl e a
+abbrev BranchDepends : List Event → Event → Event → Type 0
+BranchDepends events e a = IsMemory a × (e.op ≡ Branch) × DependsOn events Ctrl e a
 
 -- the event's address depends on a memory operation
-abbrev AddressDepends : Event → Event → Type 0
-AddressDepends e a = IsMemory a × DependsOn Addr e a
+abbrev AddressDepends : List Event → Event → Event → Type 0
+AddressDepends events e a = IsMemory a × DependsOn events Addr e a
 
 module _ {h : Hart} {e : Event} (f : Fits h e) where
+  -- dependencies of an event of the hart, and of the new one, are on what was before
+  pub depends-old : (kind : DepKind) (x a : Event) → x.id.seq ≤ length h.events → DependsOn (followed h e) kind x a →
+      DependsOn h.events kind x a
+  depends-old kind x a = depends-front (known_with f) h.events (e ∷ []) refl kind x a
+
+  pub depends-new : (kind : DepKind) (x a : Event) → DependsOn h.events kind x a → DependsOn (followed h e) kind x a
+  depends-new kind x a = depends-whole (known_with f) h.events (e ∷ []) refl kind x a
+
+  pub low-old : (m : Event) → Contains h.events m → m.id.seq ≤ length h.events
+  low-old m cm = let low = f.known.below m cm in omega (low, arith)
+
+  pub low-new : e.id.seq ≤ length h.events
+  low-new = let at = f.seq in omega (at, arith)
+
+  -- nothing depends on the new event
+  none-depends : (kind : DepKind) (m : Event) → Contains (followed h e) m → DependsOn (followed h e) kind m e → ⊥
+  none-depends kind m cm d =
+      let low = depends-earlier (known_with f) h.events (e ∷ []) refl kind m e d in
+      let at = f.seq in
+      elim (Contains-push_cases h.events e m cm) [
+        | inl old ↦ (let below = f.known.below m old in absurd (omega (low, at, below, arith)))
+        | inr is ↦ absurd (omega (low, ap (λ (y : Event). y.id.seq) is, arith))
+      ]
+
   reserving-settled : (a : Event) → IsReserving (followed h e) a → IsReserving h.events a
   reserving-settled a r = (
     r.0,
@@ -274,106 +397,182 @@ module _ {h : Hart} {e : Event} (f : Fits h e) where
       (fence-joins h.events loads stores loads_are stores_are e op row row' both) (fenced-more f op) (fenced-never f op)
 
   -- what a new branch depends on
-  pub controls-absorbed : (loads stores row row' : List ℕ) → RowIs loads IsLoad h.events →
-      RowIs stores IsStore h.events → RowIs row (IsControlling h.events) h.events →
-      ((s : ℕ) → Has row' s ↔ (Has row s ⊎ ((e.op ≡ Branch) × NamesMemory Ctrl e.deps loads stores s))) →
+  pub controls-absorbed : (loads stores row row' : List ℕ) (carried : List (List ℕ)) → RowIs loads IsLoad h.events →
+      RowIs stores IsStore h.events → AreCarriedRows h.events carried → RowIs row (IsControlling h.events) h.events →
+      ((s : ℕ) → Has row' s ↔ (Has row s ⊎ ((e.op ≡ Branch) × NamesMemory Ctrl e.deps loads stores carried s))) →
       RowIs row' (IsControlling (followed h e)) (followed h e)
-  controls-absorbed loads stores row row' loads_are stores_are is more =
+  controls-absorbed loads stores row row' carried loads_are stores_are carried_are is more =
       row-join f (IsControlling h.events) (IsControlling (followed h e))
-      (BranchDepends e) row row' is joined says never
+      (BranchDepends h.events e) row row' is joined says never
     where
-      named : (s : ℕ) → NamesMemory Ctrl e.deps loads stores s ↔ HasEvent (λ a. IsMemory a × DependsOn Ctrl e a)
-          h.events s
-      named = depended f.known e f.hart f.deps Ctrl loads stores loads_are stores_are
+      named : (s : ℕ) → NamesMemory Ctrl e.deps loads stores carried s ↔
+          HasEvent (λ a. IsMemory a × DependsOn h.events Ctrl e a) h.events s
+      named = depended f.known e f.hart low-new f.deps Ctrl loads stores carried loads_are stores_are carried_are
 
-      joined : (s : ℕ) → Has row' s ↔ (Has row s ⊎ HasEvent (BranchDepends e) h.events s)
+      joined : (s : ℕ) → Has row' s ↔ (Has row s ⊎ HasEvent (BranchDepends h.events e) h.events s)
       joined s = (to, from)
         where
-          to : Has row' s → Has row s ⊎ HasEvent (BranchDepends e) h.events s
+          to : Has row' s → Has row s ⊎ HasEvent (BranchDepends h.events e) h.events s
           to x = elim ((more s).0 x) [
             | inl old ↦ inl old
-            | inr new ↦ inr (has-map (λ a. IsMemory a × DependsOn Ctrl e a) (BranchDepends e) h.events h.events s
+            | inr new ↦ inr (has-map (λ a. IsMemory a × DependsOn h.events Ctrl e a)
+                (BranchDepends h.events e) h.events h.events s
                 (λ a c d. (c, (d.0, new.0, d.1))) ((named s).0 new.1))
           ]
 
-          from : Has row s ⊎ HasEvent (BranchDepends e) h.events s → Has row' s
+          from : Has row s ⊎ HasEvent (BranchDepends h.events e) h.events s → Has row' s
           from (inl old) = (more s).1 (inl old)
           from (inr new) = (more s).1 (inr (
             new.holds.1,
             (named s).1
-                (has-map (BranchDepends e) (λ a. IsMemory a × DependsOn Ctrl e a) h.events h.events s
+                (has-map (BranchDepends h.events e) (λ a. IsMemory a × DependsOn h.events Ctrl e a) h.events h.events s
                 (λ a c d. (c, (d.0, d.2))) new),
           ))
 
       says : (a : Event) → Contains h.events a → IsControlling (followed h e) a ↔
-          (IsControlling h.events a ⊎ BranchDepends e a)
+          (IsControlling h.events a ⊎ BranchDepends h.events e a)
       says a ca = (to, from)
         where
-          to : IsControlling (followed h e) a → IsControlling h.events a ⊎ BranchDepends e a
+          to : IsControlling (followed h e) a → IsControlling h.events a ⊎ BranchDepends h.events e a
           to x =
-              let y = Any-contains (λ m. (m.op ≡ Branch) × DependsOn Ctrl m a) (followed h e) x.1 in
+              let y = Any-contains (λ m. (m.op ≡ Branch) × DependsOn (followed h e) Ctrl m a) (followed h e) x.1 in
               elim (Contains-push_cases h.events e y.0 y.1) [
                 | inl old ↦ inl (
                   x.0,
-                  Any-from_contains (λ m. (m.op ≡ Branch) × DependsOn Ctrl m a)
-                      h.events y.0 old y.2,
+                  Any-from_contains (λ m. (m.op ≡ Branch) × DependsOn h.events Ctrl m a)
+                      h.events y.0 old (y.2.0, depends-old Ctrl y.0 a (low-old y.0 old) y.2.1),
                 )
-                | inr new ↦ inr (let z = subst (λ (m : Event). (m.op ≡ Branch) × DependsOn Ctrl m a) (sym new) y.2 in
-                    (x.0, z.0, z.1))
+                | inr new ↦ inr (
+                    let z = subst (λ (m : Event). (m.op ≡ Branch) × DependsOn (followed h e) Ctrl m a) (sym new) y.2 in
+                    (x.0, z.0, depends-old Ctrl e a low-new z.1))
               ]
 
-          from : IsControlling h.events a ⊎ BranchDepends e a → IsControlling (followed h e) a
-          from (inl x) = let y = Any-contains (λ m. (m.op ≡ Branch) × DependsOn Ctrl m a) h.events x.1 in (
+          from : IsControlling h.events a ⊎ BranchDepends h.events e a → IsControlling (followed h e) a
+          from (inl x) = let y = Any-contains (λ m. (m.op ≡ Branch) × DependsOn h.events Ctrl m a) h.events x.1 in (
             x.0,
-            Any-from_contains (λ m. (m.op ≡ Branch) × DependsOn Ctrl m a) (followed h e) y.0
-                (old_new h e y.0 y.1) y.2,
+            Any-from_contains (λ m. (m.op ≡ Branch) × DependsOn (followed h e) Ctrl m a) (followed h e) y.0
+                (old_new h e y.0 y.1) (y.2.0, depends-new Ctrl y.0 a y.2.1),
           )
           from (inr x) = (
             x.0,
-            Any-from_contains (λ m. (m.op ≡ Branch) × DependsOn Ctrl m a) (followed h e) e
-                (Contains-push h.events e) (x.1, x.2),
+            Any-from_contains (λ m. (m.op ≡ Branch) × DependsOn (followed h e) Ctrl m a) (followed h e) e
+                (Contains-push h.events e) (x.1, depends-new Ctrl e a x.2),
           )
 
       never : IsControlling (followed h e) e → ⊥
-      never x = search (Any-contains, none_after)
+      never x =
+          let y = Any-contains (λ m. (m.op ≡ Branch) × DependsOn (followed h e) Ctrl m e) (followed h e) x.1 in
+          none-depends Ctrl y.0 y.1 y.2.1
 
   -- what a new address depends on
-  pub addresses-absorbed : (loads stores row row' : List ℕ) → RowIs loads IsLoad h.events →
-      RowIs stores IsStore h.events → RowIs row (IsAddressing h.events) h.events →
-      AddsNamed Addr loads stores e.deps row row' →
+  pub addresses-absorbed : (loads stores row row' : List ℕ) (carried : List (List ℕ)) → RowIs loads IsLoad h.events →
+      RowIs stores IsStore h.events → AreCarriedRows h.events carried → RowIs row (IsAddressing h.events) h.events →
+      AddsNamed Addr loads stores carried e.deps row row' →
       RowIs row' (IsAddressing (followed h e)) (followed h e)
-  addresses-absorbed loads stores row row' loads_are stores_are is more =
-      row-join f (IsAddressing h.events) (IsAddressing (followed h e)) (AddressDepends e) row row' is
+  addresses-absorbed loads stores row row' carried loads_are stores_are carried_are is more =
+      row-join f (IsAddressing h.events) (IsAddressing (followed h e)) (AddressDepends h.events e) row row' is
       joined says never
     where
-      named : (s : ℕ) → NamesMemory Addr e.deps loads stores s ↔ HasEvent (AddressDepends e) h.events s
-      named = depended f.known e f.hart f.deps Addr loads stores loads_are stores_are
+      named : (s : ℕ) → NamesMemory Addr e.deps loads stores carried s ↔ HasEvent (AddressDepends h.events e) h.events s
+      named = depended f.known e f.hart low-new f.deps Addr loads stores carried loads_are stores_are carried_are
 
-      joined : (s : ℕ) → Has row' s ↔ (Has row s ⊎ HasEvent (AddressDepends e) h.events s)
+      joined : (s : ℕ) → Has row' s ↔ (Has row s ⊎ HasEvent (AddressDepends h.events e) h.events s)
       joined s = (to, from)
         where
-          to : Has row' s → Has row s ⊎ HasEvent (AddressDepends e) h.events s
+          to : Has row' s → Has row s ⊎ HasEvent (AddressDepends h.events e) h.events s
           to x = elim ((more s).0 x) [ inl old ↦ inl old | inr new ↦ inr ((named s).0 new) ]
 
-          from : Has row s ⊎ HasEvent (AddressDepends e) h.events s → Has row' s
+          from : Has row s ⊎ HasEvent (AddressDepends h.events e) h.events s → Has row' s
           from (inl old) = (more s).1 (inl old)
           from (inr new) = (more s).1 (inr ((named s).1 new))
 
       says : (a : Event) → Contains h.events a → IsAddressing (followed h e) a ↔
-          (IsAddressing h.events a ⊎ AddressDepends e a)
+          (IsAddressing h.events a ⊎ AddressDepends h.events e a)
       says a ca = (to, from)
         where
-          to : IsAddressing (followed h e) a → IsAddressing h.events a ⊎ AddressDepends e a
+          to : IsAddressing (followed h e) a → IsAddressing h.events a ⊎ AddressDepends h.events e a
           to x =
-              let y = Any-contains (λ m. DependsOn Addr m a) (followed h e) x.1 in
+              let y = Any-contains (λ m. DependsOn (followed h e) Addr m a) (followed h e) x.1 in
               elim (Contains-push_cases h.events e y.0 y.1) [
-                | inl old ↦ inl (x.0, Any-from_contains (λ m. DependsOn Addr m a) h.events y.0 old y.2)
-                | inr new ↦ inr (x.0, subst (λ (m : Event). DependsOn Addr m a) (sym new) y.2)
+                | inl old ↦ inl (
+                  x.0,
+                  Any-from_contains (λ m. DependsOn h.events Addr m a) h.events y.0 old
+                      (depends-old Addr y.0 a (low-old y.0 old) y.2),
+                )
+                | inr new ↦ inr (
+                  x.0,
+                  depends-old Addr e a low-new
+                      (subst (λ (m : Event). DependsOn (followed h e) Addr m a) (sym new) y.2),
+                )
               ]
 
-          from : IsAddressing h.events a ⊎ AddressDepends e a → IsAddressing (followed h e) a
-          from (inl x) = search (Any-contains, Any-from_contains, old_new)
-          from (inr x) = search (Any-from_contains, Contains-push)
+          from : IsAddressing h.events a ⊎ AddressDepends h.events e a → IsAddressing (followed h e) a
+          from (inl x) = let y = Any-contains (λ m. DependsOn h.events Addr m a) h.events x.1 in (
+            x.0,
+            Any-from_contains (λ m. DependsOn (followed h e) Addr m a) (followed h e) y.0 (old_new h e y.0 y.1)
+                (depends-new Addr y.0 a y.2),
+          )
+          from (inr x) = (
+            x.0,
+            Any-from_contains (λ m. DependsOn (followed h e) Addr m a) (followed h e) e (Contains-push h.events e)
+                (depends-new Addr e a x.1),
+          )
 
       never : IsAddressing (followed h e) e → ⊥
-      never x = let y = Any-contains (λ m. DependsOn Addr m e) (followed h e) x.1 in none_after f y.0 y.1 y.2.0
+      never x =
+          let y = Any-contains (λ m. DependsOn (followed h e) Addr m e) (followed h e) x.1 in
+          none-depends Addr y.0 y.1 y.2
+
+  -- what is behind a new carrier
+  the-new : (s : ℕ) (x : IsCarried (followed h e) s e.id.seq) → x.c ≡ e
+  the-new s x = same_event (known_with f) x.c e x.c_of_list (Contains-push h.events e) x.c_at
+
+  pub carrier-absorbed : (loads stores empty row : List ℕ) (carried : List (List ℕ)) → RowIs loads IsLoad h.events →
+      RowIs stores IsStore h.events → AreCarriedRows h.events carried → IsCarrier e →
+      ((s : ℕ) → has_bit empty s ≡ false) →
+      ((s : ℕ) → Has row s ↔ (Has empty s ⊎ NamesMemory DataOf e.deps loads stores carried s)) →
+      (s : ℕ) → Has row s ↔ IsCarried (followed h e) s e.id.seq
+  carrier-absorbed loads stores empty row carried loads_are stores_are carried_are carrier none says s = (to, from)
+    where
+      named : NamesMemory DataOf e.deps loads stores carried s ↔
+          HasEvent (λ a. IsMemory a × DependsOn h.events DataOf e a) h.events s
+      named = depended f.known e f.hart low-new f.deps DataOf loads stores carried loads_are stores_are carried_are s
+
+      to : Has row s → IsCarried (followed h e) s e.id.seq
+      to has = elim ((says s).0 has) [
+        | inl nothing ↦ absurd (false≢true (sym (none s) ∙ nothing))
+        | inr names ↦ (
+            let y = named.0 names in
+            record {
+              a = y.a;
+              c = e;
+              a_of_list = old_new h e y.a y.of_list;
+              c_of_list = Contains-push h.events e;
+              a_at = y.at;
+              c_at = refl;
+              memory = y.holds.0;
+              behind = depends-behind (followed h e) e y.a carrier (depends-new DataOf e y.a y.holds.1);
+            })
+      ]
+
+      from : IsCarried (followed h e) s e.id.seq → Has row s
+      from x =
+          let behind : Behind (followed h e) e x.a =
+          subst (λ (c : Event). Behind (followed h e) c x.a) (the-new s x) x.behind in
+          let earlier = behind-earlier (known_with f) h.events (e ∷ []) refl e x.a behind in
+          let at = f.seq in
+          (says s).1 (inr (named.1 (record {
+            a = x.a;
+            of_list = number-front (known_with f) h.events (e ∷ []) refl x.a x.a_of_list (omega (earlier, at, arith));
+            at = x.a_at;
+            holds = (x.memory, depends-old DataOf e x.a low-new (behind-depends (followed h e) e x.a behind).1);
+          })))
+
+  -- another event carries nothing
+  pub none-carried : (IsCarrier e → ⊥) → (empty : List ℕ) → ((s : ℕ) → has_bit empty s ≡ false) → (s : ℕ) →
+      Has empty s ↔ IsCarried (followed h e) s e.id.seq
+  none-carried apart empty none s = (
+    λ has. absurd (false≢true (sym (none s) ∙ has)),
+    λ x. absurd (apart (subst (λ (c : Event). IsCarrier c) (the-new s x)
+        (behind-depends (followed h e) x.c x.a x.behind).0)),
+  )

@@ -1,4 +1,5 @@
 pub mod Common
+pub mod CarriedRows
 pub mod GrownSets
 pub mod DependencyRows
 pub mod Candidates

@@ -1,4 +1,7 @@
 -- What the rules say of two events of one hart, they say over the hart's events alone.
+use Rattle.rv_event.proofs.Carrying.{behind-hart}
+use Rattle.rv_event.specs.Relations.{listed, through}
+use Rattle.rv_hart.proofs.Common.{inl, inr, Addr, Behind, Ctrl, DataOf, DepKind, Lists}
 use Rattle.rv_hart.proofs.Common.{◌≡◌, ◌≢◌, ℕ, Bool, true, false, ◌==◌, cond, List, [], ◌∷◌, ◌++◌, filter, find}
 use Rattle.rv_hart.proofs.Common.{Contains, All, Any, Some, None, refl, sym, ap, ◌∙◌, subst, eqb-true, IsFalse}
 use Rattle.rv_hart.proofs.Common.{IsTrue, list_any, none-some, All-contains, All-filter, filter_passes, arith}
@@ -9,7 +12,7 @@ use Rattle.rv_hart.proofs.Common.{fence_orders, Condition, overlapping_store, di
 use Rattle.rv_hart.proofs.Common.{fenced, after_acquire, before_release, both_rcsc, paired, address, data_of}
 use Rattle.rv_hart.proofs.Common.{control, reads_dependent_write, after_dependent_address, IsDependentWrite, Rule}
 use Rattle.rv_hart.proofs.Common.{IsPreserved, IsLowest, IsStale, event_fault, taken_fault, is_reserved, Id, Addr}
-use Rattle.rv_hart.proofs.Common.{Ctrl, Event, Branch, MemoryModel, Preserved, AnyRule, Reaches, path-map}
+use Rattle.rv_hart.proofs.Common.{Ctrl, Event, MemoryModel, Preserved, AnyRule, Reaches, path-map}
 use Rattle.rv_event.specs.Log.{named}
 
 -- what a hart's events are
@@ -74,6 +77,70 @@ module _ (model : MemoryModel) (log : List Event) (h : ℕ) (known : Indexed log
   Any-from : (P : Event → Type 0) → Any P own → Any P log
   Any-from P any = let x = Any-contains P own any in Any-from_contains P log x.0 (own_contains log h x.0 x.1).0 x.2
 
+  Any-to-by : (P Q : Event → Type 0) → ((m : Event) → P m → m.id.hart ≡ h) →
+      ((m : Event) → m.id.hart ≡ h → P m → Q m) → Any P log → Any Q own
+  Any-to-by P Q at map any =
+      let x = Any-contains P log any in
+      let there = at x.0 x.2 in
+      Any-from_contains Q own x.0 (contains_own log h x.0 known x.1 there) (map x.0 there x.2)
+
+  Any-from-by : (P Q : Event → Type 0) → ((m : Event) → P m → Q m) → Any P own → Any Q log
+  Any-from-by P Q map any = let x = Any-contains P own any in
+      Any-from_contains Q log x.0 (own_contains log h x.0 x.1).0 (map x.0 x.2)
+
+  -- what is behind a carrier of the hart is so among the hart's events
+  behind_to : (c a : Event) → c.id.hart ≡ h → Behind log c a → Behind own c a
+  behind_to c a at (listed carrier l) = listed carrier l
+  behind_to c a at (through {m = m} carrier cm l rest) =
+      let at' : m.id.hart ≡ h = l.0.hart ∙ at in
+      through carrier (contains_own log h m known cm at') l (behind_to m a at' rest)
+
+  behind_from : (c a : Event) → Behind own c a → Behind log c a
+  behind_from c a (listed carrier l) = listed carrier l
+  behind_from c a (through {m = m} carrier cm l rest) =
+      through carrier (own_contains log h m cm).0 l (behind_from m a rest)
+
+  depends_to : (kind : DepKind) (x a : Event) → x.id.hart ≡ h → DependsOn log kind x a → DependsOn own kind x a
+  depends_to kind x a at (inl l) = inl l
+  depends_to kind x a at (inr any) =
+      inr (Any-to-by (λ m. Lists kind x m × Behind log m a) (λ m. Lists kind x m × Behind own m a)
+      (λ m p. p.0.0.hart ∙ at) (λ m there p. (p.0, behind_to m a there p.1)) any)
+
+  depends_from : (kind : DepKind) (x a : Event) → DependsOn own kind x a → DependsOn log kind x a
+  depends_from kind x a (inl l) = inl l
+  depends_from kind x a (inr any) =
+      inr (Any-from-by (λ m. Lists kind x m × Behind own m a) (λ m. Lists kind x m × Behind log m a)
+      (λ m p. (p.0, behind_from m a p.1)) any)
+
+  -- a dependency is on an event of the same hart
+  depends_hart : (kind : DepKind) (x a : Event) → DependsOn log kind x a → x.id.hart ≡ a.id.hart
+  depends_hart kind x a (inl l) = sym l.0.hart
+  depends_hart kind x a (inr any) =
+      let y = Any-contains (λ m. Lists kind x m × Behind log m a) log any in
+      sym y.2.0.0.hart ∙ behind-hart log a y.0 y.2.1
+
+  writes_to : (a b m : Event) → m.id.hart ≡ h → IsDependentWrite log a b m → IsDependentWrite own a b m
+  writes_to a b m at p = record {
+    between = p.between;
+    store = p.store;
+    returns = p.returns;
+    depends = elim p.depends [
+      | inl addr ↦ inl (depends_to Addr m a at addr)
+      | inr value ↦ inr (depends_to DataOf m a at value)
+    ];
+  }
+
+  writes_from : (a b m : Event) → IsDependentWrite own a b m → IsDependentWrite log a b m
+  writes_from a b m p = record {
+    between = p.between;
+    store = p.store;
+    returns = p.returns;
+    depends = elim p.depends [
+      | inl addr ↦ inl (depends_from Addr m a addr)
+      | inr value ↦ inr (depends_from DataOf m a value)
+    ];
+  }
+
   -- a pair of the log is one of the hart
   pub paired_to : (lr sc : Event) → Paired log lr sc → Paired own lr sc
   paired_to lr sc p = record {
@@ -109,21 +176,20 @@ module _ (model : MemoryModel) (log : List Event) (h : ℕ) (known : Indexed log
   condition_to a b at k (before_release p) = before_release p
   condition_to a b at k (both_rcsc p q) = both_rcsc p q
   condition_to a b at k (paired p) = paired (paired_to a b p)
-  condition_to a b at k (address p) = address p
-  condition_to a b at k (data_of p) = data_of p
-  condition_to a b at k (control s p) = control s (Any-to (λ m. Between a m b × (m.op ≡ Branch) × DependsOn Ctrl m a)
-      (λ m q. sym q.0.after.hart ∙ at) p)
+  condition_to a b at k (address p) = address (depends_to Addr b a (depends_hart Addr b a p ∙ at) p)
+  condition_to a b at k (data_of p) = data_of (depends_to DataOf b a (depends_hart DataOf b a p ∙ at) p)
+  condition_to a b at k (control s p) = control s (Any-to-by _ _ (λ m q. sym q.0.after.hart ∙ at)
+      (λ m there q. (q.0, q.1, depends_to Ctrl m a there q.2)) p)
   condition_to a b at k (reads_dependent_write p) =
       reads_dependent_write (record {
         load = p.load;
-        through = Any-to (IsDependentWrite a b)
-            (λ m q. sym q.between.after.hart ∙ at) p.through;
+        through = Any-to-by _ _ (λ m q. sym q.between.after.hart ∙ at) (writes_to a b) p.through;
       })
   condition_to a b at k (after_dependent_address p) =
       after_dependent_address (record {
         store = p.store;
-        through = Any-to (λ m. Between a m b × DependsOn Addr m a)
-            (λ m q. sym q.0.after.hart ∙ at) p.through;
+        through = Any-to-by _ _ (λ m q. sym q.0.after.hart ∙ at)
+            (λ m there q. (q.0, depends_to Addr m a there q.1)) p.through;
       })
 
   condition_from : (a b : Event) → a.id.hart ≡ h → (k : ℕ) → Condition model own a b k → Condition model log a b k
@@ -142,16 +208,16 @@ module _ (model : MemoryModel) (log : List Event) (h : ℕ) (known : Indexed log
   condition_from a b at k (before_release p) = before_release p
   condition_from a b at k (both_rcsc p q) = both_rcsc p q
   condition_from a b at k (paired p) = paired (paired_from a b at p)
-  condition_from a b at k (address p) = address p
-  condition_from a b at k (data_of p) = data_of p
+  condition_from a b at k (address p) = address (depends_from Addr b a p)
+  condition_from a b at k (data_of p) = data_of (depends_from DataOf b a p)
   condition_from a b at k (control s p) =
-      control s (Any-from (λ m. Between a m b × (m.op ≡ Branch) × DependsOn Ctrl m a) p)
+      control s (Any-from-by _ _ (λ m q. (q.0, q.1, depends_from Ctrl m a q.2)) p)
   condition_from a b at k (reads_dependent_write p) =
-      reads_dependent_write (record { load = p.load; through = Any-from (IsDependentWrite a b) p.through })
+      reads_dependent_write (record { load = p.load; through = Any-from-by _ _ (writes_from a b) p.through })
   condition_from a b at k (after_dependent_address p) =
       after_dependent_address (record {
         store = p.store;
-        through = Any-from (λ m. Between a m b × DependsOn Addr m a) p.through;
+        through = Any-from-by _ _ (λ m q. (q.0, depends_from Addr m a q.1)) p.through;
       })
 
   -- a rule of the log is one of the hart

@@ -7,6 +7,7 @@ use Rattle.rv_hart.proofs.Common.{is_exclusive, is_lr, is_reserved, named-is, Ev
 use Rattle.rv_hart.proofs.Common.{ScFailed, Amo, Fence, FenceTso, Branch, Hart, Follows, IsHart, followed}
 use Rattle.rv_hart.proofs.Common.{IsReservation}
 use Rattle.rv_event.specs.Log.{named}
+use Rattle.rv_event.specs.declared.event.Op.TheVariants.{Carrier}
 use Rattle.rv_hart.proofs.HartFacts.{Known, Fits, known_of, fits_of, hart-front, hart-last}
 use Rattle.rv_hart.proofs.GrownSets.{reservation-kept, reservation-new, reservation-ended}
 
@@ -35,6 +36,7 @@ turn Amo = frees refl
 turn (Fence pred succ) = frees refl
 turn FenceTso = frees refl
 turn Branch = frees refl
+turn Carrier = frees refl
 
 tells_more : (h : Hart) (e : Event) → Fits h e → Tells h → Tells (record h { events = followed h e })
 tells_more h e f t = go (turn e.op)

@@ -15,7 +15,10 @@ use Rattle.rv_hart.proofs.Common.{Op, Load, Store, Lr, Sc, ScFailed, Amo, Fence,
 use Rattle.rv_hart.proofs.Common.{Rvwmo, Ztso, Has, has_bit, Hart, followed, IsOwnStore, IsOrderedBy, Adds}
 use Rattle.rv_hart.proofs.Common.{HasEvent, RowIs, IsFencedFor, IsControlling, IsAddressing, IsReserving}
 use Rattle.rv_hart.proofs.HartFacts.{Known, Fits, same_event, follows_all, earlier_old, old_new}
-use Rattle.rv_hart.proofs.GrownSets.{has-map, depended}
+use Rattle.rv_hart.proofs.Common.{◌≤◌, [], length, append-nil, AreCarriedRows}
+use Rattle.rv_event.specs.declared.event.Op.TheVariants.{Carrier}
+use Rattle.rv_hart.proofs.CarriedRows.{depends-earlier}
+use Rattle.rv_hart.proofs.GrownSets.{depended, depends-new, depends-old, has-map, low-new, low-old}
 use Rattle.rv_hart.proofs.DependencyRows.{AddsNamed}
 
 -- ---- rows with more
@@ -54,12 +57,13 @@ more-both P Q events row row' row'' first second s = (to, from)
     ]
 
 -- what dependencies name
-pub more-named : {h : Hart} → Known h → (x : Event) → x.id.hart ≡ h.number →
-    ((d : _) → Contains x.deps d → d.seq < x.id.seq) → (kind : DepKind) (loads stores row row' : List ℕ) →
-    RowIs loads IsLoad h.events → RowIs stores IsStore h.events →
-    AddsNamed kind loads stores x.deps row row' → HasMore (λ a. IsMemory a × DependsOn kind x a) h.events row row'
-more-named {h} known x hart below kind loads stores row row' loads_are stores_are more s =
-    let named = depended known x hart below kind loads stores loads_are stores_are s in (
+pub more-named : {h : Hart} → Known h → (x : Event) → x.id.hart ≡ h.number → x.id.seq ≤ length h.events →
+    ((d : _) → Contains x.deps d → d.seq < x.id.seq) → (kind : DepKind) (loads stores row row' : List ℕ)
+    (carried : List (List ℕ)) → RowIs loads IsLoad h.events → RowIs stores IsStore h.events →
+    AreCarriedRows h.events carried → AddsNamed kind loads stores carried x.deps row row' →
+    HasMore (λ a. IsMemory a × DependsOn h.events kind x a) h.events row row'
+more-named {h} known x hart low below kind loads stores row row' carried loads_are stores_are carried_are more s =
+    let named = depended known x hart low below kind loads stores carried loads_are stores_are carried_are s in (
       λ y. elim ((more s).0 y) [ inl old ↦ inl old | inr new ↦ inr (named.0 new) ],
       λ y. elim y [ inl old ↦ (more s).1 (inl old) | inr new ↦ (more s).1 (inr (named.1 new)) ],
     )
@@ -78,6 +82,7 @@ annotated-memory Amo b t = refl
 annotated-memory Load b t = absurd (false≢true t)
 annotated-memory Store b t = absurd (false≢true t)
 annotated-memory ScFailed b t = absurd (false≢true t)
+annotated-memory Carrier b t = absurd (false≢true t)
 annotated-memory (Fence p q) b t = absurd (false≢true t)
 annotated-memory FenceTso b t = absurd (false≢true t)
 annotated-memory Branch b t = absurd (false≢true t)
@@ -204,12 +209,26 @@ module _ {h : Hart} {e : Event} (f : Fits h e) (memory : IsMemory e) where
   )
 
   -- ---- rules 9 and 10
-  pub address-is : (a : Event) → Contains h.events a → (IsMemory a × DependsOn Addr e a) ↔ IsUnder 9 a
-  address-is a ca = (λ x. (x.0, address x.1), λ x. (x.0, address_out h.model new a e x.1))
+  pub address-is : (a : Event) → Contains h.events a → (IsMemory a × DependsOn h.events Addr e a) ↔ IsUnder 9 a
+  address-is a ca = (
+    λ x. (x.0, address (depends-new f Addr e a x.1)),
+    λ x. (x.0, depends-old f Addr e a (low-new f) (address_out h.model new a e x.1)),
+  )
 
   -- rule 10
-  pub data-is : (a : Event) → Contains h.events a → (IsMemory a × DependsOn DataOf e a) ↔ IsUnder 10 a
-  data-is a ca = (λ x. (x.0, data_of x.1), λ x. (x.0, data_of_out h.model new a e x.1))
+  pub data-is : (a : Event) → Contains h.events a → (IsMemory a × DependsOn h.events DataOf e a) ↔ IsUnder 10 a
+  data-is a ca = (
+    λ x. (x.0, data_of (depends-new f DataOf e a x.1)),
+    λ x. (x.0, depends-old f DataOf e a (low-new f) (data_of_out h.model new a e x.1)),
+  )
+
+  -- what an event depends on is earlier
+  depended-earlier : (kind : DepKind) (m a : Event) → Contains h.events m → Contains h.events a →
+      DependsOn h.events kind m a → Earlier a m
+  depended-earlier kind m a cm ca d = record {
+    hart = f.known.own a ca ∙ sym (f.known.own m cm);
+    seq = depends-earlier f.known h.events [] (sym (append-nil h.events)) kind m a d;
+  }
 
   -- ---- rule 11
   pub control-is : (a : Event) → Contains h.events a → (IsStore e × IsControlling h.events a) ↔ IsUnder 11 a
@@ -217,21 +236,26 @@ module _ {h : Hart} {e : Event} (f : Fits h e) (memory : IsMemory e) where
     where
       to : IsStore e × IsControlling h.events a → IsUnder 11 a
       to x =
-          let y = Any-contains (λ m. (m.op ≡ Branch) × DependsOn Ctrl m a) h.events x.1.1 in (
+          let y = Any-contains (λ m. (m.op ≡ Branch) × DependsOn h.events Ctrl m a) h.events x.1.1 in (
             x.1.0,
-            control x.0 (Any-from_contains (λ m. Between a m e × (m.op ≡ Branch) × DependsOn Ctrl m a) new y.0
-                (old_new h e y.0 y.1) (between a y.0 y.1 y.2.1.0, y.2.0, y.2.1)),
+            control x.0 (Any-from_contains (λ m. Between a m e × (m.op ≡ Branch) × DependsOn new Ctrl m a) new y.0
+                (old_new h e y.0 y.1) (
+                  between a y.0 y.1 (depended-earlier Ctrl y.0 a y.1 ca y.2.1),
+                  y.2.0,
+                  depends-new f Ctrl y.0 a y.2.1,
+                )),
           )
 
       from : IsUnder 11 a → IsStore e × IsControlling h.events a
       from x =
           let r = control_out h.model new a e x.1 in
-          let y = Any-contains (λ m. Between a m e × (m.op ≡ Branch) × DependsOn Ctrl m a) new r.1 in (
+          let y = Any-contains (λ m. Between a m e × (m.op ≡ Branch) × DependsOn new Ctrl m a) new r.1 in
+          let there : Contains h.events y.0 = old y.0 y.1 y.2.0.before in (
             r.0,
             (
               x.0,
-              Any-from_contains (λ m. (m.op ≡ Branch) × DependsOn Ctrl m a) h.events y.0
-                  (old y.0 y.1 y.2.0.before) (y.2.1, y.2.2),
+              Any-from_contains (λ m. (m.op ≡ Branch) × DependsOn h.events Ctrl m a) h.events y.0 there
+                  (y.2.1, depends-old f Ctrl y.0 a (low-old f y.0 there) y.2.2),
             ),
           )
 
@@ -241,21 +265,31 @@ module _ {h : Hart} {e : Event} (f : Fits h e) (memory : IsMemory e) where
     where
       to : IsStore e × IsAddressing h.events a → IsUnder 13 a
       to x =
-          let y = Any-contains (λ m. DependsOn Addr m a) h.events x.1.1 in (
+          let y = Any-contains (λ m. DependsOn h.events Addr m a) h.events x.1.1 in (
             x.1.0,
             after_dependent_address
                 (record {
                   store = x.0;
-                  through = Any-from_contains (λ m. Between a m e × DependsOn Addr m a) new y.0
-                      (old_new h e y.0 y.1) (between a y.0 y.1 y.2.0, y.2);
+                  through = Any-from_contains (λ m. Between a m e × DependsOn new Addr m a) new y.0
+                      (old_new h e y.0 y.1) (
+                        between a y.0 y.1 (depended-earlier Addr y.0 a y.1 ca y.2),
+                        depends-new f Addr y.0 a y.2,
+                      );
                 }),
           )
 
       from : IsUnder 13 a → IsStore e × IsAddressing h.events a
       from x =
           let r = after_dependent_address_out h.model new a e x.1 in
-          let y = Any-contains (λ m. Between a m e × DependsOn Addr m a) new r.through in
-          (r.store, (x.0, Any-from_contains (λ m. DependsOn Addr m a) h.events y.0 (old y.0 y.1 y.2.0.before) y.2.1))
+          let y = Any-contains (λ m. Between a m e × DependsOn new Addr m a) new r.through in
+          let there : Contains h.events y.0 = old y.0 y.1 y.2.0.before in (
+            r.store,
+            (
+              x.0,
+              Any-from_contains (λ m. DependsOn h.events Addr m a) h.events y.0 there
+                  (depends-old f Addr y.0 a (low-old f y.0 there) y.2.1),
+            ),
+          )
 
   -- ---- rules 3 and 12
   -- a version has one store
@@ -295,16 +329,16 @@ module _ {h : Hart} {e : Event} (f : Fits h e) (memory : IsMemory e) where
 
   -- rule 12, where the event returns an own store
   pub dependent-is : (w : Event) → IsOwnStore h e w → (a : Event) → Contains h.events a →
-      ((IsMemory a × DependsOn Addr w a) ⊎ (IsMemory a × DependsOn DataOf w a)) ↔ IsUnder 12 a
+      ((IsMemory a × DependsOn h.events Addr w a) ⊎ (IsMemory a × DependsOn h.events DataOf w a)) ↔ IsUnder 12 a
   dependent-is w own a ca = (to, from)
     where
-      found : IsMemory a → DependsOn Addr w a ⊎ DependsOn DataOf w a → Earlier a w → IsUnder 12 a
+      found : IsMemory a → DependsOn new Addr w a ⊎ DependsOn new DataOf w a → Earlier a w → IsUnder 12 a
       found m d earlier = (
         m,
         reads_dependent_write
             (record {
               load = own.load;
-              through = Any-from_contains (IsDependentWrite a e) new w
+              through = Any-from_contains (IsDependentWrite new a e) new w
                   (old_new h e w own.of_hart) (record {
                     between = between a w own.of_hart earlier;
                     store = own.store;
@@ -314,17 +348,27 @@ module _ {h : Hart} {e : Event} (f : Fits h e) (memory : IsMemory e) where
             }),
       )
 
-      to : (IsMemory a × DependsOn Addr w a) ⊎ (IsMemory a × DependsOn DataOf w a) → IsUnder 12 a
-      to (inl x) = found x.0 (inl x.1) x.1.0
-      to (inr x) = found x.0 (inr x.1) x.1.0
+      to : (IsMemory a × DependsOn h.events Addr w a) ⊎ (IsMemory a × DependsOn h.events DataOf w a) → IsUnder 12 a
+      to (inl x) =
+          found x.0 (inl (depends-new f Addr w a x.1)) (depended-earlier Addr w a own.of_hart ca x.1)
+      to (inr x) =
+          found x.0 (inr (depends-new f DataOf w a x.1)) (depended-earlier DataOf w a own.of_hart ca x.1)
 
-      from : IsUnder 12 a → (IsMemory a × DependsOn Addr w a) ⊎ (IsMemory a × DependsOn DataOf w a)
+      from : IsUnder 12 a → (IsMemory a × DependsOn h.events Addr w a) ⊎ (IsMemory a × DependsOn h.events DataOf w a)
       from x =
-          let y = Any-contains (IsDependentWrite a e) new (reads_dependent_write_out h.model new a e x.1).through in
+          let y = Any-contains (IsDependentWrite new a e) new (reads_dependent_write_out h.model new a e x.1).through in
           let same : y.0 ≡ w = search (one_store, old, between) in
           elim y.2.depends [
-            | inl d ↦ inl (x.0, subst (λ (z : Event). DependsOn Addr z a) same d)
-            | inr d ↦ inr (x.0, subst (λ (z : Event). DependsOn DataOf z a) same d)
+            | inl d ↦ inl (
+              x.0,
+              depends-old f Addr w a (low-old f w own.of_hart)
+                  (subst (λ (z : Event). DependsOn new Addr z a) same d),
+            )
+            | inr d ↦ inr (
+              x.0,
+              depends-old f DataOf w a (low-old f w own.of_hart)
+                  (subst (λ (z : Event). DependsOn new DataOf z a) same d),
+            )
           ]
 
   -- and where it does not

@@ -9,7 +9,7 @@ use Rattle.rv_event.specs.declared.event.Event.{Event}
 use Rattle.rv_hart.specs.Harts.{Hart, Follows, IsHart, IsReturned, followed}
 use Rattle.rv_hart.specs.Places.{places_of}
 use Rattle.rv_hart.specs.Rows.{RowsMean}
-use Rattle.rv_hart.specs.Sets.{AreSets}
+use Rattle.rv_hart.specs.Sets.{AreCarriedRows, AreSets}
 use Rattle.rv_hart.specs.Words.{AreWords}
 use Rattle.rv_hart.specs.declared.hart.HartOrder.{HartOrder}
 use Rattle.rv_hart.specs.declared.kept.Kept.{Kept}
@@ -24,6 +24,8 @@ pub record IsKept (events : List Event) (k : Kept) : Type 0 where
   pub hart : IsHart (hart_of events k)
   pub rows : RowsMean (hart_of events k) k.rows
   pub count : length k.rows ≡ length events
+  pub carried : AreCarriedRows events k.carried
+  pub carried_count : length k.carried ≡ length events
   pub sets : AreSets (hart_of events k) k.sets
   pub words : AreWords events k.words
 

@@ -34,9 +34,9 @@ abbrev pub IsOfPart : Hart → Event → Part → Event → Type 0
 IsOfPart h e Nothing a = ⊥
 IsOfPart h e (In name) a = IsIn h name a
 IsOfPart h e (One s) a = a.id.seq ≡ s
-IsOfPart h e (Named kind) a = IsMemory a × DependsOn kind e a
+IsOfPart h e (Named kind) a = IsMemory a × DependsOn h.events kind e a
 IsOfPart h e (NamedBy s kind) a =
-    (w : Event) × Contains h.events w × (w.id.seq ≡ s) × IsMemory a × DependsOn kind w a
+    (w : Event) × Contains h.events w × (w.id.seq ≡ s) × IsMemory a × DependsOn h.events kind w a
 
 -- a number in the part is that of an event
 abbrev pub NamesEvents : Hart → Part → Type 0

@@ -1,9 +1,10 @@
 -- What a hart keeps of its events in rows that grow with them.
-use Rattle.std.specs.Prelude.{ℕ, ◌≡◌, ◌↔◌, ◌||◌, List, Contains, All, Any, IsTrue, IsFalse, Option, Some, None}
+use Rattle.std.specs.Prelude.{ℕ, ◌≡◌, ◌<◌, ◌≤◌, ◌↔◌, ◌⊎◌, ◌||◌, List, length, Contains, All, Any, IsTrue, IsFalse}
+use Rattle.std.specs.Prelude.{Option, Some, None}
 use Rattle.rv_event.specs.Operations.{is_exclusive, IsLoad, IsStore, IsMemory}
 use Rattle.rv_event.specs.Annotations.{IsAcquire, IsRcsc}
 use Rattle.rv_event.specs.Log.{Earlier}
-use Rattle.rv_event.specs.Relations.{fence_orders, DependsOn}
+use Rattle.rv_event.specs.Relations.{Behind, DependsOn, fence_orders}
 use Rattle.rv_event.specs.declared.event.Dep.{Dep}
 use Rattle.rv_event.specs.declared.event.DepKind.{DepKind}
 use Rattle.rv_event.specs.declared.event.DepKind.TheVariants.{Addr, Ctrl}
@@ -11,6 +12,7 @@ use Rattle.rv_event.specs.declared.event.Event.{Event}
 use Rattle.rv_event.specs.declared.event.Op.{Op}
 use Rattle.rv_event.specs.declared.event.Op.TheVariants.{Load, Store, Lr, Branch}
 use Rattle.rv_rows.specs.Bits.{Has, has_bit}
+use Rattle.rv_rows.specs.Closure.{RowHas}
 use Rattle.rv_hart.specs.Harts.{Hart}
 use Rattle.rv_hart.specs.declared.sets.Sets.{Sets}
 
@@ -25,11 +27,31 @@ pub record HasEvent (P : Event → Type 0) (events : List Event) (s : ℕ) : Typ
 abbrev pub RowIs : List ℕ → (Event → Type 0) → List Event → Type 0
 RowIs row P events = (s : ℕ) → Has row s ↔ HasEvent P events s
 
--- a dependency of this kind names a memory operation by this number, where these are the loads and
--- the stores
-abbrev pub NamesMemory : DepKind → List Dep → List ℕ → List ℕ → ℕ → Type 0
-NamesMemory kind deps loads stores s =
-    Contains deps (record { kind = kind; seq = s }) × IsTrue (has_bit loads s || has_bit stores s)
+-- the dependency is of this kind, and names a memory operation by this number, where these are the
+-- loads and the stores; or it names a carrier whose row has the number
+abbrev pub IsNaming : DepKind → List ℕ → List ℕ → List (List ℕ) → ℕ → Dep → Type 0
+IsNaming kind loads stores carried s d =
+    (d.kind ≡ kind) × (((d.seq ≡ s) × IsTrue (has_bit loads s || has_bit stores s)) ⊎ RowHas carried d.seq s)
+
+-- one of the dependencies does
+abbrev pub NamesMemory : DepKind → List Dep → List ℕ → List ℕ → List (List ℕ) → ℕ → Type 0
+NamesMemory kind deps loads stores carried s = Any (IsNaming kind loads stores carried s) deps
+
+-- event j is a carrier, and event s a memory operation behind it
+pub record IsCarried (events : List Event) (s j : ℕ) : Type 0 where
+  pub a : Event
+  pub c : Event
+  pub a_of_list : Contains events a
+  pub c_of_list : Contains events c
+  pub a_at : a.id.seq ≡ s
+  pub c_at : c.id.seq ≡ j
+  pub memory : IsMemory a
+  pub behind : Behind events c a
+
+-- the row of each event has the memory operations behind it
+pub record AreCarriedRows (events : List Event) (rows : List (List ℕ)) : Type 0 where
+  pub long : length events ≤ length rows
+  pub says : (j s : ℕ) → j < length events → RowHas rows j s ↔ IsCarried events s j
 
 -- a fence after the event orders it before a later operation of this kind
 abbrev pub IsFencedFor : Op → List Event → Event → Type 0
@@ -37,11 +59,11 @@ IsFencedFor op events a = Any (λ f. Earlier a f × IsTrue (fence_orders f.op a.
 
 -- the event is a memory operation on which a branch depends
 abbrev pub IsControlling : List Event → Event → Type 0
-IsControlling events a = IsMemory a × Any (λ m. (m.op ≡ Branch) × DependsOn Ctrl m a) events
+IsControlling events a = IsMemory a × Any (λ m. (m.op ≡ Branch) × DependsOn events Ctrl m a) events
 
 -- the event is a memory operation on which an address depends
 abbrev pub IsAddressing : List Event → Event → Type 0
-IsAddressing events a = IsMemory a × Any (λ m. DependsOn Addr m a) events
+IsAddressing events a = IsMemory a × Any (λ m. DependsOn events Addr m a) events
 
 -- the event is an LR after which no LR, SC or failed SC came
 abbrev pub IsReserving : List Event → Event → Type 0

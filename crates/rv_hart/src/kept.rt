@@ -7,7 +7,7 @@ ghost use Rattle.rv_hart.specs.Kept.{hart_of, IsKept, IsPartner, IsStaleBy};
 ghost use Rattle.rv_hart.specs.Rows.{IsBefore};
 
 use crate::own_events::OwnEvents;
-use crate::sets::{Sets, sets_of};
+use crate::sets::{Sets, carried_by, sets_of};
 use crate::words::Words;
 use rv_event::{Event, Id, MemoryModel, NoMemory, Op};
 use rv_rows::{Row, Rows};
@@ -25,6 +25,8 @@ pub struct Kept {
     /// For each event that is a memory operation itself and the events from which rules lead to it,
     /// else nothing.
     pub rows: Rows,
+    /// For each event that is a carrier the memory operations behind it, else nothing.
+    pub carried: Rows,
     /// What a later event asks of the events so far.
     pub sets: Sets,
     /// The memory operations of each word.
@@ -39,6 +41,7 @@ impl Kept {
         ensures kept { IsKept [] result }
     {
         let rows = Rows::new(alloc);
+        let carried = Rows::new(alloc);
         let sets = Sets::new();
         let words = Words::new(alloc);
         Kept {
@@ -46,6 +49,7 @@ impl Kept {
             model,
             number,
             rows,
+            carried,
             sets,
             words,
         }
@@ -65,12 +69,18 @@ impl Kept {
         ensures pushed { OnOk result (IsKept (events.now ++ event.now ∷ []) self.new) }
         ensures unchanged { OnErr result (IsKept events.now self.new) }
     {
+        let carried = carried_by(event, &self.sets, &self.carried);
         self.rows.push(row)?;
+        if let Err(error) = self.carried.push(&carried) {
+            self.rows.pop();
+            return Err(NoMemory::from(error));
+        }
         if let Err(error) = self.words.add(events, event) {
+            self.carried.pop();
             self.rows.pop();
             return Err(error);
         }
-        self.sets.absorb(self.model, event);
+        self.sets.absorb(self.model, event, &self.carried);
         Ok(())
     }
 
@@ -84,7 +94,8 @@ impl Kept {
     {
         self.words.drop_last(events, event);
         self.rows.pop();
-        self.sets = sets_of(self.model, events);
+        self.carried.pop();
+        self.sets = sets_of(self.model, events, &self.carried);
     }
 
     /// The LR with which the event is paired.

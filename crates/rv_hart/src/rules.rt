@@ -15,8 +15,8 @@ ghost use Rattle.rv_hart.specs.Sets.{RowIs};
 
 use crate::next::Next;
 use crate::parts::{Part, SetName, part_if};
-use crate::sets::add_dependencies;
-use rv_event::{DepKind, Event, Op, depends_on, is_overlapping_store, is_rcsc, is_release};
+use crate::sets::{add_dependencies, does_depend};
+use rv_event::{DepKind, Event, Op, is_overlapping_store, is_rcsc, is_release};
 use rv_rows::Row;
 
 impl Next<'_> {
@@ -131,14 +131,15 @@ impl Next<'_> {
     {
         let loads = &self.kept.sets.loads;
         let stores = &self.kept.sets.stores;
+        let carried = &self.kept.carried;
         match part {
             Part::Nothing => {}
             Part::In(name) => row.join(self.set(name)),
             Part::One(number) => row.insert(number as usize),
-            Part::Named(kind) => add_dependencies(row, self.event, kind, loads, stores),
+            Part::Named(kind) => add_dependencies(row, self.event, kind, loads, stores, carried),
             Part::NamedBy(number, kind) => {
                 let store = self.events.at(number as usize);
-                add_dependencies(row, store, kind, loads, stores);
+                add_dependencies(row, store, kind, loads, stores, carried);
             }
         }
     }
@@ -156,10 +157,10 @@ impl Next<'_> {
             Part::Nothing => false,
             Part::In(name) => self.set(name).has(at as usize),
             Part::One(number) => number == at,
-            Part::Named(kind) => depends_on(kind, self.event, met),
+            Part::Named(kind) => does_depend(kind, self.event, met, &self.kept.carried),
             Part::NamedBy(number, kind) => {
                 let store = self.events.at(number as usize);
-                depends_on(kind, store, met)
+                does_depend(kind, store, met, &self.kept.carried)
             }
         }
     }

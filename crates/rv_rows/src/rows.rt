@@ -2,7 +2,7 @@
 ghost use Rattle.std.specs.Prelude.{ℕ, ◌≡◌, ◌<◌, ◌≤◌, ◌++◌, ◌∷◌, ◌&&◌, ◌||◌, not, [], List, length};
 ghost use Rattle.std.specs.Prelude.{slice_index_or, OnOk, OnErr};
 ghost use Rattle.rv_rows.specs.Bits.{Has, has_bit};
-ghost use Rattle.rv_rows.specs.Flat.{IsWithin, part_at, IsPushed};
+ghost use Rattle.rv_rows.specs.Flat.{IsWithin, part_at, shifted, IsPushed};
 
 use crate::row::Row;
 use std::alloc::{AllocError, Global};
@@ -90,6 +90,19 @@ impl Rows {
         }
     }
 
+    /// Whether the row has the number.
+    pub fn has(&self, number: usize, i: usize) -> bool
+        requires { number < length self.now }
+        ensures { result ≡ has_bit (slice_index_or self.now number []) i }
+    {
+        let place = self.places[number];
+        has_bit(
+            place.first as usize,
+            words_at(self.words.as_slice(), place),
+            i,
+        )
+    }
+
     /// Puts into the set what the row has.
     pub fn join_into(&self, number: usize, row: &mut Row)
         requires { number < length self.now }
@@ -108,6 +121,21 @@ impl Rows {
         let place = self.places[number];
         row.subtract_words(place.first as usize, words_at(self.words.as_slice(), place));
     }
+}
+
+/// Whether the words have the number, where the first of them stands at the given place.
+fn has_bit(first: usize, words: &[u64], i: usize) -> bool
+    requires { first ≤ 64 }
+    ensures { result ≡ has_bit (shifted first words.now) i }
+{
+    if i / 64 < first {
+        return false;
+    }
+    let k = i / 64 - first;
+    if k >= words.len() {
+        return false;
+    }
+    (words[k] >> (i % 64)) & 1 == 1
 }
 
 /// The words of the row that lies at the place.

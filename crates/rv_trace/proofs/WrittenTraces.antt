@@ -62,6 +62,7 @@ op_plain op.Amo = All-cons IsPlain 65 (77 ∷ 79 ∷ []) refl (two 77 79 refl re
 op_plain (op.Fence a b) = one 70 refl
 op_plain op.FenceTso = two 70 84 refl refl
 op_plain op.Branch = two 66 82 refl refl
+op_plain op.Carrier = one 73 refl
 
 set_plain : (s : Set) → All IsPlain (set_text s)
 set_plain R = one 114 refl
@@ -86,6 +87,7 @@ marks_plain op.ScFailed a r = bits_plain a r
 marks_plain op.Amo a r = bits_plain a r
 marks_plain op.FenceTso a r = bits_plain a r
 marks_plain op.Branch a r = bits_plain a r
+marks_plain op.Carrier a r = bits_plain a r
 
 number_plain : (has : Bool) (n : ℕ) → n ≤ 4294967295 → All IsPlain (number_text has n)
 number_plain true n low = all_decimal IsPlain digit_plain n (omega arith)

@@ -1,12 +1,12 @@
-use Rattle.rv_event.proofs.Common.{◌≡◌, rules, tests, cases_from_any, YieldsList-from_slice, Between, DependsOn}
-use Rattle.rv_event.proofs.Common.{Ctrl, Branch, Event}
-use Rattle.rv_event.proofs.Scans.{any_event}
+use Rattle.rv_event.proofs.Common.{events}
+use Rattle.rv_event.proofs.Carrying.{control-carrying}
 use Rattle.rv_event.proofs.relations.control_depends_on.Goals as goal
 
 pub returns : goal.returns
-returns c =
-    let P : Event → Type 0 = λ m. Between c.args.a.now m c.args.b.now × (m.op ≡ Branch) ×
-    DependsOn Ctrl m c.args.a.now in
-    any_event P c.args.log.now c.any.result
-    (cases_from_any _ _ _ (λ x. P x.event) (λ x. P x.event → ⊥) c.any.ensures.ran
-    (YieldsList-from_slice c.args.log.now cc) (λ x q k. search (rules, tests)) (λ x q k. search (rules, tests)))
+returns c = (
+  λ yes. (control-carrying (events c.args.log.now) c.args.a.now c.args.b.now c.carriers_of.result
+      c.carriers_of.ensures).0 (c.has_dependent_branch.ensures.0 yes),
+  λ depends. c.has_dependent_branch.ensures.1
+      ((control-carrying (events c.args.log.now) c.args.a.now c.args.b.now c.carriers_of.result c.carriers_of.ensures).1
+      depends),
+)

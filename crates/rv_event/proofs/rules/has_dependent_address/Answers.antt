@@ -1,11 +1,12 @@
-use Rattle.rv_event.proofs.Common.{rules, tests, cases_from_any, YieldsList-from_slice, Between, DependsOn, Addr}
-use Rattle.rv_event.proofs.Common.{Event}
+use Rattle.rv_event.proofs.Common.{rules, tests, cases_from_any, YieldsList-from_slice, Between, Addr, Event}
+use Rattle.rv_event.specs.Carried.{DependsBy}
 use Rattle.rv_event.proofs.Scans.{any_event}
 use Rattle.rv_event.proofs.rules.has_dependent_address.Goals as goal
 
 pub returns : goal.returns
 returns c =
-    let P : Event → Type 0 = λ m. Between c.args.a.now m c.args.b.now × DependsOn Addr m c.args.a.now in
+    let P : Event → Type 0 = λ m.
+    Between c.args.a.now m c.args.b.now × DependsBy Addr m c.args.a.now c.args.carriers.now in
     any_event P c.args.log.now c.any.result
     (cases_from_any _ _ _ (λ x. P x.event) (λ x. P x.event → ⊥) c.any.ensures.ran
     (YieldsList-from_slice c.args.log.now cc) (λ x q k. search (rules, tests)) (λ x q k. search (rules, tests)))

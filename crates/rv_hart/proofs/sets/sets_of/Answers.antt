@@ -1,6 +1,9 @@
 use Rattle.rv_hart.proofs.Common.{◌≡◌, ◌<◌, ◌+◌, ◌∷◌, ◌++◌, [], List, ℕ, length, take, get_or, refl, sym, ap, ◌∙◌}
 use Rattle.rv_hart.proofs.Common.{subst, take_all, arith, common_steps, Event, IsHart, Follows, AreSets}
+use Rattle.rv_hart.proofs.Common.{AreCarriedRows, drop, take-append-drop}
+use Rattle.rv_hart.proofs.CarriedRows.{rows-front}
 use Rattle.rv_hart.proofs.GrownHart.{hart-take, hart-first}
+use Rattle.rv_hart.proofs.HartFacts.{known_of}
 use Rattle.rv_hart.proofs.sets.sets_of.Goals as goal
 
 pub loop-number-init : goal.loop-number-init
@@ -20,7 +23,11 @@ loop-number-preserved c = λ h ok model is.
     let follows : Follows (record h { events = take i es }) e =
     subst (λ (xs : List Event). Follows (record h { events = xs }) e) taken (hart-take h ok i e low read) in
     let more : take (i + 1) es ≡ take i es ++ e ∷ [] = grind (arith, common_steps) in
-    let sets = c.absorb.ensures (record h { events = take i es }) first follows model
+    let whole : h.events ≡ take i es ++ drop i es = is ∙ sym (take-append-drop i es) in
+    let carried : AreCarriedRows (take i es) c.args.carried.now =
+    rows-front (known_of h ok) (take i es) (drop i es) whole c.args.carried.now
+    (subst (λ (xs : List Event). AreCarriedRows xs c.args.carried.now) (sym is) c.requires.carried) in
+    let sets = c.absorb.ensures (record h { events = take i es }) first follows model carried
     (c.loop-number.invariant h ok model is) in
     subst (λ (xs : List Event). AreSets (record h { events = xs }) c.absorb.new.self) (sym more) sets
 

@@ -1,12 +1,17 @@
 use Rattle.rv_hart.proofs.Common.{◌≡◌, ◌++◌, ◌∷◌, List, ℕ, [], arith, refl, common_steps, length_push, Event}
-use Rattle.rv_hart.proofs.Common.{Hart, IsHart, hart_of, Kept}
+use Rattle.rv_hart.proofs.Common.{sym, subst, Hart, IsHart, hart_of, Kept}
 use Rattle.rv_hart.proofs.HartFacts.{known_of, hart-front}
-use Rattle.rv_hart.proofs.GrownHart.{kept-popped, split_last, small-events}
+use Rattle.rv_hart.proofs.CarriedRows.{kept-events}
+use Rattle.rv_hart.proofs.GrownHart.{CarriedOf, carried-front, kept-popped, split_last, small-events}
 use Rattle.rv_hart.proofs.kept.Kept.drop_last.Goals as goal
 
 -- the rows of the others, and that of the last event
 abbrev rows_of : Kept → Type 0
 rows_of k = (before : List (List ℕ)) × (row : List ℕ) × (k.rows ≡ before ++ row ∷ [])
+
+-- so with those of carriers
+abbrev carried_of : Kept → Type 0
+carried_of k = (before : List (List ℕ)) × (row : List ℕ) × (k.carried ≡ before ++ row ∷ [])
 
 pub drop_last-requires-clause-numbered : goal.drop_last-requires-clause-numbered
 drop_last-requires-clause-numbered c =
@@ -15,11 +20,38 @@ drop_last-requires-clause-numbered c =
 pub pop-requires : goal.pop-requires
 pop-requires c = grind (arith, common_steps, length_push)
 
-pub sets_of-self-requires : goal.sets_of-self-requires
-sets_of-self-requires c =
-    let h : Hart = hart_of c.args.events.now c.args.self.now in
-    small-events (known_of h (hart-front (hart_of (c.args.events.now ++ c.args.event.now ∷ []) c.args.self.now)
-    c.args.events.now c.args.event.now c.requires.kept.hart refl))
+pub pop-requires-2 : goal.pop-requires-2
+pop-requires-2 c =
+    let more = length_push c.args.events.now c.args.event.now in
+    let count = c.requires.kept.carried_count in
+    omega (more, count, arith)
+
+-- the hart without its last event
+front-hart : (c : goal.After-sets_of-arg-2-1) → IsHart (hart_of c.args.events.now c.args.self.now)
+front-hart c = hart-front (hart_of (c.args.events.now ++ c.args.event.now ∷ []) c.args.self.now) c.args.events.now
+    c.args.event.now c.requires.kept.hart refl
+
+-- the rows of the carriers that are left
+front-carried : (c : goal.After-sets_of-arg-2-1) → CarriedOf c.args.events.now c.pop-2.new.self
+front-carried c =
+    let k : Kept = c.args.self.now in
+    let more = length_push c.args.events.now c.args.event.now in
+    let count = c.requires.kept.carried_count in
+    let rows : carried_of k = split_last k.carried (omega (arith, count, more)) in
+    subst (CarriedOf c.args.events.now) (sym (c.pop-2.ensures rows.0 rows.1 rows.2))
+    (carried-front c.args.events.now k c.args.event.now rows.0 rows.1 c.requires.kept rows.2)
+
+pub sets_of-self-requires-clause-carried : goal.sets_of-self-requires-clause-carried
+sets_of-self-requires-clause-carried c = (front-carried c).0
+
+pub sets_of-self-requires-clause-kept : goal.sets_of-self-requires-clause-kept
+sets_of-self-requires-clause-kept c =
+    kept-events (known_of (hart_of c.args.events.now c.args.self.now) (front-hart c)) c.pop-2.new.self
+    (front-carried c).0.long
+
+pub sets_of-self-requires-clause-numbers : goal.sets_of-self-requires-clause-numbers
+sets_of-self-requires-clause-numbers c =
+    small-events (known_of (hart_of c.args.events.now c.args.self.now) (front-hart c))
 
 pub returns-clause-popped : goal.returns-clause-popped
 returns-clause-popped c =
@@ -27,7 +59,11 @@ returns-clause-popped c =
     let front : List Event = c.args.events.now in
     let e : Event = c.args.event.now in
     let h : Hart = hart_of front k in
-    let rows : rows_of k = split_last k.rows (omega (arith, c.requires.kept.count, length_push front e)) in
+    let more = length_push front e in
+    let count = c.requires.kept.carried_count in
+    let rows : rows_of k = split_last k.rows (omega (arith, c.requires.kept.count, more)) in
+    let carried : carried_of k = split_last k.carried (omega (arith, count, more)) in
     let hart : IsHart h = hart-front (hart_of (front ++ e ∷ []) k) front e c.requires.kept.hart refl in
-    kept-popped front k _ e rows.0 rows.1 c.requires.kept rows.2 refl (c.pop.ensures rows.0 rows.1 rows.2)
+    kept-popped front k _ e rows.0 rows.1 carried.0 carried.1 c.requires.kept rows.2 carried.2 refl
+    (c.pop.ensures rows.0 rows.1 rows.2) (c.pop-2.ensures carried.0 carried.1 carried.2)
     (c.sets_of-self.ensures h hart refl refl) c.drop_last.ensures

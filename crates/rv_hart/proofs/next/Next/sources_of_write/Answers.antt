@@ -19,8 +19,8 @@ returns-in-Some c =
     record {
       says = λ a ca. let is = dependent-is f c.requires.asked.memory w own.1 a ca in (
         λ x. is.0 (elim x [
-          | inl y ↦ inl (y.3, subst (λ (z : Event). DependsOn Addr z a) (one y.0 y.1 y.2) y.4)
-          | inr y ↦ inr (y.3, subst (λ (z : Event). DependsOn DataOf z a) (one y.0 y.1 y.2) y.4)
+          | inl y ↦ inl (y.3, subst (λ (z : Event). DependsOn h.events Addr z a) (one y.0 y.1 y.2) y.4)
+          | inr y ↦ inr (y.3, subst (λ (z : Event). DependsOn h.events DataOf z a) (one y.0 y.1 y.2) y.4)
         ]),
         λ u. elim (is.1 u) [
           | inl d ↦ inl (w, own.1.of_hart, own.2, d.0, d.1)

@@ -4,7 +4,7 @@ use Rattle.rv_hart.proofs.GrownSets.{row-insert, fences-absorbed, controls-absor
 use Rattle.rv_hart.proofs.sets.Sets.absorb.Goals as goal
 
 pub returns : goal.returns
-returns c = λ h ok follows same sets.
+returns c = λ h ok follows same carried sets.
     let e : Event = c.args.event.now in
     let f : Fits h e = fits_of h e ok follows in
     let old = c.args.self.now in
