@@ -21,6 +21,7 @@ OPERATIONS = {
     "F": ((), FENCE_SETS, ""),
     "FT": ((), [""], ""),
     "BR": ((), [""], "c"),
+    "I": ((), [""], "d"),
 }
 
 
@@ -44,7 +45,7 @@ class Event:
         self.is_load = self.operation in ("L", "LR", "AMO")
         self.is_store = self.operation in ("S", "SC", "AMO")
         self.is_memory = self.is_load or self.is_store
-        self.returns_value = self.operation in ("L", "LR", "SC", "SF", "AMO")
+        self.can_be_listed = self.operation in ("L", "LR", "SC", "SF", "AMO", "I")
 
     @property
     def name(self):
@@ -157,9 +158,19 @@ def is_in_set(event, letters):
     return ("r" in letters and event.is_load) or ("w" in letters and event.is_store)
 
 
-def depends(b, a, letters):
+def lists(b, a, letters):
     """b lists a dependency on a of one of these kinds: a address, d data, c control."""
     return is_earlier(a, b) and any(letter in letters and seq == a.seq for letter, seq in b.dependencies)
+
+
+def is_behind(log, a, carrier):
+    """The carrier lists a, or a carrier that a is behind."""
+    return carrier.operation == "I" and depends(log, carrier, a, "d")
+
+
+def depends(log, b, a, letters):
+    """b lists a dependency of one of these kinds on a, or on a carrier that a is behind."""
+    return lists(b, a, letters) or any(lists(b, m, letters) and is_behind(log, a, m) for m in log.of_hart(b.hart))
 
 
 # Preserved program order: what each rule asks of two memory operations, a earlier than b
@@ -209,27 +220,27 @@ def rule_8(log, a, b):
 
 def rule_9(log, a, b):
     """b has an address dependency on a."""
-    return depends(b, a, "a")
+    return depends(log, b, a, "a")
 
 
 def rule_10(log, a, b):
     """b has a data dependency on a."""
-    return depends(b, a, "d")
+    return depends(log, b, a, "d")
 
 
 def rule_11(log, a, b):
-    """b is a store with a control dependency on a: a branch between them lists a."""
-    return b.is_store and any(m.operation == "BR" and depends(m, a, "c") for m in log.between(a, b))
+    """b is a store with a control dependency on a: a branch between them depends on a."""
+    return b.is_store and any(m.operation == "BR" and depends(log, m, a, "c") for m in log.between(a, b))
 
 
 def rule_12(log, a, b):
     """b is a load that returns what a store between them wrote, whose address or data depends on a."""
-    return any(returns(b, m) and depends(m, a, "ad") for m in log.between(a, b))
+    return any(returns(b, m) and depends(log, m, a, "ad") for m in log.between(a, b))
 
 
 def rule_13(log, a, b):
     """b is a store, and the address of an event between them depends on a."""
-    return b.is_store and any(depends(m, a, "a") for m in log.between(a, b))
+    return b.is_store and any(depends(log, m, a, "a") for m in log.between(a, b))
 
 
 RULES = {
@@ -375,10 +386,10 @@ def fault_2(log, source, event):
 
 
 def fault_3(log, source, event):
-    """A dependency is not on an earlier number, or on an event that returns no value, or of a wrong kind."""
-    values = {earlier.seq for earlier in log.of_hart(event.hart) if earlier.returns_value}
+    """A dependency is not on an earlier number, or on an event that none may list, or of a wrong kind."""
+    listed = {earlier.seq for earlier in log.of_hart(event.hart) if earlier.can_be_listed}
     letters = OPERATIONS[event.operation][2]
-    good = all(letter in letters and seq < event.seq and seq in values for letter, seq in event.dependencies)
+    good = all(letter in letters and seq < event.seq and seq in listed for letter, seq in event.dependencies)
     return None if good else "dependency"
 
 

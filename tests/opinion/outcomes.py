@@ -16,13 +16,13 @@ def allowed_line(log):
     return f"allowed: {len(log.events)} events, {len(operations)} operations, {len(waiting)} waiting loads"
 
 
-def possible_outcomes(sources, model):
+def possible_outcomes(sources, model, has_carriers):
     """Each outcome that some order of arrival leads to, with the logs that are the evidence of each refusal.
 
     The events of a source arrive in their order, those of several sources in any. What has arrived is told by how many
     events each source gave, as the merges of these have the same faults and the same lawful orders.
     """
-    given, faults = zip(*(read_source(text) for text in sources))
+    given, faults = zip(*(read_source(text, has_carriers) for text in sources))
     outcomes, ordered_before = {}, {}
     whole = tuple(len(events) for events in given)
     accepted = [(0,) * len(given)]
@@ -38,8 +38,7 @@ def possible_outcomes(sources, model):
                 outcomes.setdefault(refusal, []).append(log.extended(source, event))
             elif following not in accepted:
                 accepted.append(following)
-    if any(faults):
-        outcomes[trace_fault_line(faults)] = []
+    outcomes.update((line, []) for line in trace_fault_lines(faults))
     return outcomes
 
 
@@ -48,10 +47,9 @@ def next_entries(given, arrived):
     return [(s, events[arrived[s]]) for s, events in enumerate(given) if arrived[s] < len(events)]
 
 
-def trace_fault_line(faults):
-    """What is said of the lowest source that has a fault, or None."""
-    lines = [f"rvmon: source {s} row {fault[0]}: trace fault {fault[1]}" for s, fault in enumerate(faults) if fault]
-    return lines[0] if lines else None
+def trace_fault_lines(faults):
+    """What is said of each source that has a fault: the first that is met ends a run."""
+    return [f"rvmon: source {s} row {fault[0]}: trace fault {fault[1]}" for s, fault in enumerate(faults) if fault]
 
 
 def refusal_line(log, source, event):

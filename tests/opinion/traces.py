@@ -33,15 +33,15 @@ def dependencies_fault(text, letters):
     return None
 
 
-def row_fault(fields):
-    """The first fault of a data row, or None."""
+def row_fault(fields, has_carriers):
+    """The first fault of a data row, or None. A row `I` is one only where the trace may have carriers."""
     if len(fields) != 8:
         return 2
     hart, seq, operation, *numbers, annotation, dependencies = fields
     fault = number_fault(hart, 255) or number_fault(seq)
     if fault:
         return fault
-    if operation not in OPERATIONS:
+    if operation not in OPERATIONS or (operation == "I" and not has_carriers):
         return 4
     needed, annotations, letters = OPERATIONS[operation]
     for column, text in zip(("word", "read", "wrote"), numbers):
@@ -58,7 +58,7 @@ def event_of(fields):
     return Event(int(hart), int(seq), operation, int(word or 0), int(read or 0), int(wrote or 0), annotation, parts)
 
 
-def read_source(text):
+def read_source(text, has_carriers):
     """The events that a source gives, and its fault as (row, number) or None. A faulty chunk of eight gives none."""
     lines = text.splitlines()
     if not lines or lines[0] != HEADER:
@@ -66,7 +66,7 @@ def read_source(text):
     events = []
     for row, line in enumerate(lines[1:], start=1):
         fields = line.split(",")
-        fault = row_fault(fields)
+        fault = row_fault(fields, has_carriers)
         if fault:
             return events[: len(events) // 8 * 8], (row, fault)
         events.append(event_of(fields))
@@ -92,6 +92,17 @@ SHAPES = [
     "L x; L z a0; S y",
 ]
 
+# The same with carriers.
+CARRIER_SHAPES = [
+    "L x; I - d0; L y a1",
+    "L x; I - d0; S y d1",
+    "L x; I - d0; BR - c1; S y",
+    "L x; I - d0; I - d1; S y d2",
+    "L x; I - d0; S z d1; L z; S y d3",
+    "L x; I - d0; S z d1; L z; L y a3",
+    "L x; I - d0; L z a1; S y",
+]
+
 
 @dataclass
 class Trace:
@@ -101,6 +112,7 @@ class Trace:
     model: str
     words: list
     with_json: bool
+    has_carriers: bool
 
 
 def chance(dice, probability):
@@ -108,8 +120,10 @@ def chance(dice, probability):
     return dice.random() < probability
 
 
-def random_operation(dice, earlier):
+def random_operation(dice, earlier, has_carriers):
     """An operation for a hart that has these events. An SC mostly follows an LR."""
+    if has_carriers and any(event.can_be_listed for event in earlier) and chance(dice, 0.2):
+        return "I"
     ends = [event.operation for event in earlier if event.operation in ("LR", "SC", "SF")]
     if ends and ends[-1] == "LR" and chance(dice, 0.5):
         return "SC"
@@ -117,15 +131,15 @@ def random_operation(dice, earlier):
 
 
 def random_dependencies(dice, operation, earlier):
-    """Dependencies of an operation on events of its hart that return values."""
-    values = [event.seq for event in earlier if event.returns_value]
+    """Dependencies of an operation on events of its hart that may be listed."""
+    listed = [event.seq for event in earlier if event.can_be_listed]
     letters = OPERATIONS[operation][2]
-    if not values or not letters or not chance(dice, 0.75):
+    if not listed or not letters or not chance(dice, 0.75):
         return ()
-    return tuple((dice.choice(letters), dice.choice(values)) for _ in range(dice.choice([1, 1, 1, 2, 3])))
+    return tuple((dice.choice(letters), dice.choice(listed)) for _ in range(dice.choice([1, 1, 1, 2, 3])))
 
 
-def random_events(dice, crossed, count):
+def random_events(dice, crossed, count, has_carriers):
     """So many events of some harts, each behind those of its hart, without versions.
 
     Where they are crossed, each of two harts begins with the word that the other mostly takes afterwards, so that what
@@ -137,7 +151,7 @@ def random_events(dice, crossed, count):
     for _ in range(count):
         hart = dice.choice(harts)
         earlier = [event for event in events if event.hart == hart]
-        operation = random_operation(dice, earlier)
+        operation = random_operation(dice, earlier, has_carriers)
         word = dice.choice(words)
         if operation == "SC" and chance(dice, 0.7):
             word = [event.word for event in earlier if event.operation == "LR"][-1]
@@ -150,10 +164,10 @@ def random_events(dice, crossed, count):
     return events
 
 
-def shaped_events(dice):
+def shaped_events(dice, has_carriers):
     """Events of two harts, each of a shape in which some rule orders accesses to two words, which are crossed."""
     words = dice.sample(range(LARGEST_NUMBER + 1), 3)
-    shapes = [dice.choice(SHAPES), dice.choice(SHAPES)]
+    shapes = [dice.choice(SHAPES), dice.choice(CARRIER_SHAPES if has_carriers else SHAPES)]
     events = []
     for hart, shape, (x, y) in zip(dice.sample(range(16), 2), shapes, [words[:2], words[1::-1]]):
         number = {"x": x, "y": y, "z": words[2], "-": 0}
@@ -227,7 +241,7 @@ def spoil_row(dice, fields):
     """Changes the text of a row, mostly to one that is not in the format."""
     numbers = ["", "x", "-1", " 0", "0 ", "256", "4294967295", "4294967296", "0000000001", "00000000001"]
     texts = {
-        2: ["", "X", "l", "LRSC", "SF", "L", "F"],
+        2: ["", "X", "l", "LRSC", "SF", "L", "F", "I"],
         6: ["", "A", "R", "AR", "RA", "rw-", "r-w", "w-wr"],
         7: ["", "a", "b0", "c0", "a0 ", "a0  a0", "d0 a", "a1073741824", " ".join(["a0"] * 9)],
     }
@@ -246,30 +260,31 @@ def source_of_each(dice, events, count):
     return sources
 
 
-def small_events(dice):
+def small_events(dice, has_carriers):
     """Two to nine events with versions, one of them odd at times."""
     crossed = chance(dice, 0.6)
     if crossed and chance(dice, 0.5):
-        events = shaped_events(dice)
+        events = shaped_events(dice, has_carriers)
     else:
-        events = random_events(dice, crossed, dice.choice([2, 3, 4, 5, 6, 6, 7, 7, 8, 8, 9, 9]))
+        events = random_events(dice, crossed, dice.choice([2, 3, 4, 5, 6, 6, 7, 7, 8, 8, 9, 9]), has_carriers)
     give_versions(dice, random_order(dice, events, crossed), 0.12)
     if chance(dice, 0.12):
         make_odd(dice, events)
     return events
 
 
-def many_events(dice):
+def many_events(dice, has_carriers):
     """Twenty to forty events with versions. Few loads get another one, so that some traces are allowed whole."""
-    events = random_events(dice, False, dice.randint(20, 40))
+    events = random_events(dice, False, dice.randint(20, 40), has_carriers)
     give_versions(dice, random_order(dice, events, False), dice.choice([0, 0.01, 0.05]))
     return events
 
 
-def full_hart(dice):
+def full_hart(dice, has_carriers):
     """Events of a hart that has one too many: branches and fences, and another hart's store."""
     hart = dice.randrange(16)
-    events = [Event(hart, seq, dice.choice(["BR", "FT"])) for seq in range(dice.choice([FULL, FULL + 1]))]
+    kinds = ["BR", "FT", "I"] if has_carriers else ["BR", "FT"]
+    events = [Event(hart, seq, dice.choice(kinds)) for seq in range(dice.choice([FULL, FULL + 1]))]
     events.insert(dice.randrange(len(events)), Event((hart + 1) % 16, 0, "S", 0, 0, 1))
     return events
 
@@ -278,7 +293,8 @@ def random_trace(seed):
     """The trace that has this seed."""
     dice = random.Random(seed)
     size = dice.choices([small_events, many_events, full_hart], [0.95, 0.0497, 0.0003])[0]
-    events = size(dice)
+    has_carriers = chance(dice, 0.25)
+    events = size(dice, has_carriers)
     if chance(dice, 0.3):
         events.sort(key=lambda event: event.hart)
     count = dice.choice([1, 1, 2, 3]) if size is small_events else 1
@@ -292,4 +308,5 @@ def random_trace(seed):
     texts = ["".join(line + "\n" for line in source) for source in lines]
     model = dice.choice(["rvwmo", "rvwmo", "tso"])
     words = ["--workers", str(dice.randint(1, 24)), "--slots", str(dice.randint(2, 16)), "--model", model]
-    return Trace(texts, model, words, chance(dice, 0.5))
+    words += ["--carriers"] if has_carriers else []
+    return Trace(texts, model, words, chance(dice, 0.5), has_carriers)

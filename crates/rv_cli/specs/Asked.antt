@@ -31,6 +31,7 @@ pub record SaysAsked (rows : List Row) (asked : Asked) : Type 0 where
   pub slots : SaysNumber (one_of (codes "slots") rows) asked.slots
   pub model : SaysModel (first_of (codes "model") rows) asked.model
   pub json : asked.json ≡ is_true (first_of (codes "json") rows)
+  pub carriers : asked.carriers ≡ is_true (first_of (codes "carriers") rows)
   pub files : map string_bytes asked.files.items ≡ files_in rows
 
 -- the numbers are in the ranges of the command, and there are few enough files

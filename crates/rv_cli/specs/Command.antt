@@ -44,8 +44,14 @@ model_rule names = record (new_rule (codes "model")) {
 }
 
 -- a flag
+abbrev pub flag_rule : Text → Rule
+flag_rule name = record (new_rule name) { long = Some name; action = Some SetTrue }
+
 abbrev pub json_rule : Rule
-json_rule = record (new_rule (codes "json")) { long = Some (codes "json"); action = Some SetTrue }
+json_rule = flag_rule (codes "json")
+
+abbrev pub carriers_rule : Rule
+carriers_rule = flag_rule (codes "carriers")
 
 -- any number of texts, by their place
 abbrev pub files_rule : Rule
@@ -57,8 +63,8 @@ bare_app = let app = new_app (codes "rvmon") in record app { top = record app.to
 
 abbrev pub app_over : Names → App
 app_over names =
-    with_rule (with_rule (with_rule (with_rule (with_rule bare_app workers_rule) slots_rule)
-    (model_rule names)) json_rule) files_rule
+    with_rule (with_rule (with_rule (with_rule (with_rule (with_rule bare_app workers_rule) slots_rule)
+    (model_rule names)) json_rule) carriers_rule) files_rule
 
 -- it is the command of the program
 abbrev pub IsCommand : App → Type 0

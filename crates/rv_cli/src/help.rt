@@ -25,6 +25,9 @@ pub(crate) const MODEL: &str = "rvwmo, or tso for total store ordering";
 /// On `--json`.
 pub(crate) const JSON: &str = "Print the report as one line of JSON";
 
+/// On `--carriers`.
+pub(crate) const CARRIERS: &str = "Take rows I, which stand for the events that they list";
+
 /// On the format of a trace, what is printed and the exit status.
 pub(crate) const FORMAT: &str = "\
 A trace is CSV: this header, and then a row for each event. The rows of a hart
@@ -58,7 +61,8 @@ what the table leaves empty must be blank. A is acquire, R release, AR both. For
 a fence p and s are each r, w or rw: rw-w orders loads and stores before it with
 stores behind it. In deps stand up to 8 parts with one space between them, as in
 a0 d2: the address depends on event 0 of the hart, the data on event 2. c is for
-a branch. Only L, LR, SC, SF and AMO are depended on.
+a branch. Only L, LR, SC, SF and AMO are depended on. With --carriers a row may
+also have op I and in deps [d]: what lists it depends on all that it lists.
 
 A file has at most 65536 rows below the header, a hart at most 4096 events.
 

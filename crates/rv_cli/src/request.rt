@@ -20,6 +20,8 @@ pub struct Asked {
     pub model: MemoryModel,
     /// Whether the report is JSON.
     pub json: bool,
+    /// Whether the sources may have carriers: rows `I`.
+    pub carriers: bool,
     /// The names of the sources' files in the order of the words, at most 8. Standard input is the
     /// source where there is none.
     pub files: Vec<String>,

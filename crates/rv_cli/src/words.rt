@@ -53,11 +53,11 @@ fn model_in(matches: &ArgMatches<'_>) -> MemoryModel
     }
 }
 
-/// Whether the report is JSON.
-fn json_in(matches: &ArgMatches<'_>) -> bool
-    ensures { result ≡ is_true (first_of (codes "json") (rows_of (found_of matches.now))) }
+/// Whether the flag of this name is among the words.
+fn flag_in(matches: &ArgMatches<'_>, name: &str) -> bool
+    ensures { result ≡ is_true (first_of name.now (rows_of (found_of matches.now))) }
 {
-    match matches.get_str("json") {
+    match matches.get_str(name) {
         Some(text) => text == "true",
         None => false,
     }
@@ -107,7 +107,8 @@ pub fn asked(alloc: Global, words: &[&str]) -> Result<Asked, WordsFault>
         workers: workers_in(&matches),
         slots: slots_in(&matches),
         model: model_in(&matches),
-        json: json_in(&matches),
+        json: flag_in(&matches, "json"),
+        carriers: flag_in(&matches, "carriers"),
         files,
     })
 }

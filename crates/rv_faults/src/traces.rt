@@ -110,6 +110,7 @@ fn name_of(op: Op) -> &'static str {
         Op::Fence { .. } => "F",
         Op::FenceTso => "FT",
         Op::Branch => "BR",
+        Op::Carrier => "I",
     }
 }
 

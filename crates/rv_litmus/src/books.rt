@@ -3,6 +3,7 @@
 //! Here as in other tests books and histories are let go by a call: where a scope ends, the proof
 //! would take them apart, field by field.
 use crate::allowed::{AllowedTest, allowed};
+use crate::carriers::{carrier_allowed, carrier_circles};
 use crate::circles::{ForbiddenTest, circles, total_store_circles};
 use crate::refused::{STALE, TAKEN};
 use crate::rows::{Row, event_of, id};
@@ -173,6 +174,18 @@ fn forbidden_executions_are_refused_with_their_circle(rt: HostRuntime) {
         }
     }
     for circle in total_store_circles() {
+        assert_circle(&rt, rt.alloc(), circle);
+    }
+}
+
+#[test]
+fn executions_with_carriers_are_accepted_and_refused(rt: HostRuntime) {
+    for test in carrier_allowed() {
+        let book = book_of(&rt, rt.alloc(), test.model, test.rows);
+        assert_counted(&rt, test, &book);
+        drop(book);
+    }
+    for circle in carrier_circles() {
         assert_circle(&rt, rt.alloc(), circle);
     }
 }

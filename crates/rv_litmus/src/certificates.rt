@@ -1,5 +1,6 @@
 //! The checker over the circles of the litmus tests: each is taken, and refused when anything in it
 //! is changed.
+use crate::carriers::carrier_circles;
 use crate::circles::{ForbiddenTest, circles, total_store_circles};
 use crate::rows::{Bits, Row, X, id, load, log_of, row, store};
 use rv_cert::{Certificate, Circle, check, confirm};
@@ -150,6 +151,9 @@ fn assert_exact(rt: &impl Abort, alloc: Global, circle: &ForbiddenTest) {
 #[test]
 fn circles_are_taken_and_their_changes_refused(rt: HostRuntime) {
     for circle in circles() {
+        assert_exact(&rt, rt.alloc(), circle);
+    }
+    for circle in carrier_circles() {
         assert_exact(&rt, rt.alloc(), circle);
     }
 }

@@ -1,5 +1,6 @@
 //! Histories of the litmus tests: preserved program order in them, and the links of each circle's
 //! last event.
+use crate::carriers::carrier_circles;
 use crate::circles::{ForbiddenTest, circles, total_store_circles};
 use crate::histories::histories;
 use crate::rows::{Bits, Row, X, Y, event_of, id, load, row, store};
@@ -70,6 +71,9 @@ fn the_last_event_of_a_circle_lists_its_edges(rt: HostRuntime) {
         assert_listed(&rt, rt.alloc(), circle);
     }
     for circle in total_store_circles() {
+        assert_listed(&rt, rt.alloc(), circle);
+    }
+    for circle in carrier_circles() {
         assert_listed(&rt, rt.alloc(), circle);
     }
 }

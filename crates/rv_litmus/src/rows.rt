@@ -30,14 +30,29 @@ pub const DATA_0: Dep = Dep {
     seq: 0,
 };
 
+pub const DATA_1: Dep = Dep {
+    kind: DepKind::DataOf,
+    seq: 1,
+};
+
 pub const DATA_2: Dep = Dep {
     kind: DepKind::DataOf,
     seq: 2,
 };
 
+pub const DATA_3: Dep = Dep {
+    kind: DepKind::DataOf,
+    seq: 3,
+};
+
 pub const CONTROL_0: Dep = Dep {
     kind: DepKind::Ctrl,
     seq: 0,
+};
+
+pub const CONTROL_1: Dep = Dep {
+    kind: DepKind::Ctrl,
+    seq: 1,
 };
 
 /// The fences of the tables.

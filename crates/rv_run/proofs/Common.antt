@@ -32,7 +32,7 @@ pub use Rattle.rv_run.specs.declared.feeding.Fed.{Fed}
 pub use Rattle.rv_run.specs.declared.feeding.FeedEnd.{FeedEnd}
 pub use Rattle.rv_run.specs.declared.feeding.FeedEnd.TheVariants.{Stopped}
 pub use Rattle.rv_trace.specs.Chunks.{TakesEvents}
-pub use Rattle.rv_trace.specs.Source.{Stream, source_says}
+pub use Rattle.rv_trace.specs.Source.{Stream, bytes_say, source_says}
 pub use Rattle.rv_trace.specs.Trace.{TraceLeft}
 pub use Rattle.std.proofs.Common.{All, Bool, Err, IfErr, IfOk, IfSome, IsFalse, List, None, Ok, Option, Result, Some}
 pub use Rattle.std.proofs.Common.{[], ap, append-nil, append_assoc, arith, below_more, cond, count_by, drop}

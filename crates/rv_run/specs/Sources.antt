@@ -10,7 +10,9 @@ use Rattle.rv_cert.specs.Refusals.{FaultyLog, IsFinal, IsMalformed, Refusal}
 use Rattle.rv_book.specs.Chunked.{IsPrefix, entries_of, given_by}
 use Rattle.rv_book.specs.Counts.{operations_of, waiting_of}
 use Rattle.rv_trace.specs.Faults.{is_of_text}
-use Rattle.rv_trace.specs.Source.{Stream, source_says}
+use Rattle.rv_trace.specs.Source.{Stream, bytes_say}
+use Rattle.rv_trace.specs.declared.dialect.Dialect.{Dialect}
+use Rattle.rv_trace.specs.declared.dialect.Dialect.TheVariants.{Plain}
 use Rattle.rv_trace.specs.declared.fault.TraceFault.{TraceFault}
 use Rattle.rv_report.specs.declared.outcome.Outcome.{Outcome}
 use Rattle.rv_report.specs.declared.outcome.Outcome.TheVariants.{Allowed, Forbidden, Malformed}
@@ -74,9 +76,13 @@ pub record AreMalformed (model : MemoryModel) (streams : List (Option Stream)) (
   pub malformed : IsMalformed m.evidence m.fault
   pub refuted : All IsSome streams → AreWellFormed streams → ⊥
 
--- what each reader says, where it tells its bytes
+-- what each reader says in a dialect, where it tells its bytes
+abbrev pub streams_in : {R : Type 0} → Dialect → (R → Option (List ℕ)) → List R → List (Option Stream)
+streams_in d remaining readers = map (λ r. option_map (bytes_say d) (remaining r)) readers
+
+-- without carriers
 abbrev pub streams_of : {R : Type 0} → (R → Option (List ℕ)) → List R → List (Option Stream)
-streams_of remaining readers = map (λ r. option_map source_says (remaining r)) readers
+streams_of remaining readers = streams_in Plain remaining readers
 
 -- an outcome is true of the sources
 pub record IsTrueOf (model : MemoryModel) (streams : List (Option Stream)) (outcome : Outcome) : Type 0 where

@@ -1,13 +1,15 @@
 //! A thread for each source and for each worker.
 ghost use Rattle.std.specs.Prelude.{◌≡◌, ℕ, ◌<◌, ◌≤◌, ◌+◌, IfOk, OnOk, All, vec_len, slice_index_or, option_map};
-ghost use Rattle.rv_trace.specs.Source.{source_says};
+ghost use Rattle.rv_trace.specs.Source.{bytes_say};
+ghost use Rattle.rv_trace.specs.declared.dialect.Dialect.TheVariants.{Plain};
 ghost use Rattle.rv_run.specs.Drives.{AreFedOf, AreServed};
 ghost use Rattle.rv_run.specs.Feeds.{IsFedOf};
 
-use crate::feeding::{Fed, feed};
+use crate::feeding::{Fed, Source, feed_source};
 use crate::gate::Gate;
 use crate::serving::{Served, serve};
 use rv_slots::Carrier;
+use rv_trace::Dialect;
 use rv_verdict::VerdictCell;
 use std::alloc::{AllocError, Global};
 use std::io::Read;
@@ -16,12 +18,13 @@ use std::sync::Wait;
 use std::thread;
 use std::thread::{Promise, PromisedHandle, Scope, Threads};
 
-/// The promise of a feeder's thread: what it gives was read from this reader.
+/// The promise of a feeder's thread: what it gives was read from this reader, in this dialect.
 #[derive(Drop)]
-struct FeedsFrom<R>(Snapshot<R>);
+struct FeedsFrom<R>(Snapshot<R>, Snapshot<Dialect>);
 
 impl<R: Read> Promise<Fed> for FeedsFrom<R> {
-    ghost kept_by = { λ p fed. IsFedOf (option_map source_says (R.remaining p.0.value)) fed };
+    ghost kept_by = { λ p fed.
+        IsFedOf (option_map (bytes_say p.1.value) (R.remaining p.0.value)) fed };
 }
 
 /// The promise of a worker's thread: its seat is of this carrier, and its note of this cell.
@@ -43,12 +46,19 @@ pub struct Driven<S> {
 
 /// What all threads of a run share.
 #[derive(Drop)]
-struct Shared<'s, RT, C, G> {
-    rt: &'s RT,
-    alloc: Global,
-    carrier: &'s C,
-    gate: &'s G,
-    cell: &'s VerdictCell,
+pub(crate) struct Shared<'s, RT, C, G> {
+    /// The runtime.
+    pub rt: &'s RT,
+    /// Where memory is had.
+    pub alloc: Global,
+    /// Which rows the sources may have.
+    pub dialect: Dialect,
+    /// What carries the chunks.
+    pub carrier: &'s C,
+    /// The book, and how far each source is.
+    pub gate: &'s G,
+    /// Where the verdict is raised.
+    pub cell: &'s VerdictCell,
 }
 
 /// Takes a seat of the carrier off the list.
@@ -78,22 +88,29 @@ impl<'s, RT: Threads + Wait + Sync, C: Carrier + Sync + 's, G: Gate + Sync + 's>
         &self,
         scope: &Scope<'s, E>,
         reader: R,
-        source: u8,
+        number: u8,
         seat: C::Seat,
     ) -> Result<PromisedHandle<Fed, FeedsFrom<R>>, AllocError>
-        requires source { source < 8 }
+        requires source { number < 8 }
         requires seat { C.fits self.now.carrier.now seat }
-        ensures { IfOk result (λ h. h.promise.0.value ≡ reader) }
+        ensures { IfOk result (λ h.
+            (h.promise.0.value ≡ reader) × (h.promise.1.value ≡ self.now.dialect)) }
     {
-        let promise = FeedsFrom(Snapshot::of(&reader));
+        let promise = FeedsFrom(Snapshot::of(&reader), Snapshot::of(&self.dialect));
         let (rt, alloc, carrier, gate) = (self.rt, self.alloc, self.carrier, self.gate);
+        let source = Source {
+            reader,
+            number,
+            dialect: self.dialect,
+        };
         let child = scope.spawn_with(
             promise,
             move || -> Fed
-                requires source { source < 8 }
+                requires source { source.number < 8 }
                 requires seat { C.fits carrier.now seat }
-                ensures { IsFedOf (option_map source_says (R.remaining reader)) result }
-            { feed(rt, alloc, reader, source, carrier, seat, gate) },
+                ensures { IsFedOf
+                    (option_map (bytes_say source.dialect) (R.remaining source.reader)) result }
+            { feed_source(rt, alloc, source, carrier, seat, gate) },
         )?;
         Ok(child)
     }
@@ -141,7 +158,8 @@ impl<'s, RT: Threads + Wait + Sync, C: Carrier + Sync + 's, G: Gate + Sync + 's>
         requires fits { All (λ s. C.fits self.now.carrier.now s) seats.old.items }
         ensures len { IfOk result (λ v. vec_len v ≡ vec_len readers) }
         ensures each { IfOk result (λ v. (i : ℕ) (h : _) (r : _) → i < vec_len readers
-            → (slice_index_or v.items i h).promise.0.value ≡ slice_index_or readers.items i r) }
+            → ((slice_index_or v.items i h).promise.0.value ≡ slice_index_or readers.items i r)
+            × ((slice_index_or v.items i h).promise.1.value ≡ self.now.dialect)) }
         ensures seats { OnOk result (vec_len seats.new + vec_len readers ≡ vec_len seats.old) }
         ensures fits { All (λ s. C.fits self.now.carrier.now s) seats.new.items }
     {
@@ -190,7 +208,8 @@ impl<'s, RT: Threads + Wait + Sync, C: Carrier + Sync + 's, G: Gate + Sync + 's>
         requires sources { vec_len readers ≤ 8 }
         requires seats { vec_len readers + workers ≤ vec_len seats }
         requires fits { All (λ s. C.fits self.now.carrier.now s) seats.items }
-        ensures fed { IfOk result (λ d. AreFedOf R.remaining readers.items d.fed.items) }
+        ensures fed { IfOk result
+            (λ d. AreFedOf self.now.dialect R.remaining readers.items d.fed.items) }
         ensures served { IfOk result
             (λ d. AreServed (C.fits self.now.carrier.now) self.now.cell.now workers d.served.items) }
     {
@@ -213,7 +232,8 @@ impl<'s, RT: Threads + Wait + Sync, C: Carrier + Sync + 's, G: Gate + Sync + 's>
         requires sources { vec_len readers ≤ 8 }
         requires seats { vec_len readers + workers ≤ vec_len seats }
         requires fits { All (λ s. C.fits self.now.carrier.now s) seats.items }
-        ensures fed { IfOk result (λ d. AreFedOf R.remaining readers.items d.fed.items) }
+        ensures fed { IfOk result
+            (λ d. AreFedOf self.now.dialect R.remaining readers.items d.fed.items) }
         ensures served { IfOk result
             (λ d. AreServed (C.fits self.now.carrier.now) self.now.cell.now workers d.served.items) }
     {
@@ -249,10 +269,45 @@ pub fn drive<RT: Threads + Wait + Sync, R: Read + Send + Drop, C: Carrier + Sync
     requires workers { 0 < workers }
     requires seats { vec_len readers + workers ≤ vec_len seats }
     requires fits { All (λ s. C.fits carrier.now s) seats.items }
-    ensures fed { IfOk result (λ d. AreFedOf R.remaining readers.items d.fed.items) }
+    ensures fed { IfOk result (λ d. AreFedOf Plain R.remaining readers.items d.fed.items) }
     ensures served { IfOk result
         (λ d. AreServed (C.fits carrier.now) cell.now workers d.served.items) }
 {
+    let shared = Shared {
+        rt,
+        alloc,
+        dialect: Dialect::Plain,
+        carrier,
+        gate,
+        cell,
+    };
+    drive_shared(shared, readers, workers, seats)
+}
+
+/// The same as [`drive`], where the sources' rows are of the dialect of what the threads share.
+pub(crate) fn drive_shared<
+    's,
+    RT: Threads + Wait + Sync,
+    R: Read + Send + Drop,
+    C: Carrier + Sync,
+    G: Gate + Sync,
+>(
+    shared: Shared<'s, RT, C, G>,
+    readers: Vec<R>,
+    workers: u8,
+    seats: Vec<C::Seat>,
+) -> Result<Driven<C::Seat>, AllocError>
+    requires sources { (0 < vec_len readers) × (vec_len readers ≤ 8) }
+    requires workers { 0 < workers }
+    requires seats { vec_len readers + workers ≤ vec_len seats }
+    requires fits { All (λ s. C.fits shared.carrier.now s) seats.items }
+    ensures fed { IfOk result
+        (λ d. AreFedOf shared.entry.dialect R.remaining readers.items d.fed.items) }
+    ensures served { IfOk result
+        (λ d. AreServed (C.fits shared.entry.carrier.now) shared.entry.cell.now workers d.served.items) }
+{
+    let (rt, alloc, dialect) = (shared.rt, shared.alloc, shared.dialect);
+    let (carrier, gate, cell) = (shared.carrier, shared.gate, shared.cell);
     thread::scope(
         thread::scope_env(),
         rt,
@@ -261,13 +316,14 @@ pub fn drive<RT: Threads + Wait + Sync, R: Read + Send + Drop, C: Carrier + Sync
             requires seats { vec_len readers + workers ≤ vec_len seats }
             requires fits { All (λ s. C.fits carrier.now s) seats.items }
             ensures fed { IfOk result
-                (λ d. AreFedOf R.remaining readers.items d.fed.items) }
+                (λ d. AreFedOf dialect R.remaining readers.items d.fed.items) }
             ensures served { IfOk result
                 (λ d. AreServed (C.fits carrier.entry.now) cell.entry.now workers d.served.items) }
         {
             let shared = Shared {
                 rt,
                 alloc,
+                dialect,
                 carrier,
                 gate,
                 cell,

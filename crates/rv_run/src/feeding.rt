@@ -1,7 +1,7 @@
 //! A source's chunks, put into the carrier.
 ghost use Rattle.std.specs.Prelude.{◌≡◌, ◌<◌, ◌≤◌, All, IfSome, Option, length, option_map};
 ghost use Rattle.rv_chunk.specs.Chunks.{IsPackable};
-ghost use Rattle.rv_trace.specs.Source.{Stream, source_says};
+ghost use Rattle.rv_trace.specs.Source.{Stream, bytes_say, source_says};
 ghost use Rattle.rv_run.specs.Feeds.{GoesOn, IsFedOf, IsFeeding, IsLastOf, IsSettledEnd};
 
 use crate::gate::{Awaited, Gate};
@@ -9,7 +9,7 @@ use crate::waiting::Patience;
 use rv_chunk::{Chunk, pack};
 use rv_event::Event;
 use rv_slots::{Carrier, Put};
-use rv_trace::{FaultKind, Trace, TraceFault};
+use rv_trace::{Dialect, FaultKind, Trace, TraceFault};
 use std::alloc::Global;
 use std::io::Read;
 use std::sync::Wait;
@@ -29,6 +29,17 @@ pub enum FeedEnd {
     Fault(TraceFault),
     /// There was no memory for the list of events.
     NoMemory,
+}
+
+/// A source that is to be read.
+#[derive(Drop)]
+pub(crate) struct Source<R> {
+    /// What gives its bytes.
+    pub reader: R,
+    /// Its number, below 8.
+    pub number: u8,
+    /// Which rows it may have.
+    pub dialect: Dialect,
 }
 
 /// The events that a feeder has read, in order, and how it ended.
@@ -142,23 +153,23 @@ fn settle_end<RT: Wait, G: Gate>(rt: &RT, end: FeedEnd, is_put: bool, gate: &G) 
 fn put_all<RT: Wait, R: Read + Drop, C: Carrier, G: Gate>(
     rt: &RT,
     alloc: Global,
-    reader: R,
-    source: u8,
+    source: Source<R>,
     carrier: &C,
     mut seat: C::Seat,
     gate: &G,
 ) -> Fed
-    requires source { source < 8 }
+    requires source { source.number < 8 }
     requires seat { C.fits carrier.now seat }
-    ensures { IsFedOf (option_map source_says (R.remaining reader)) result }
+    ensures { IsFedOf (option_map (bytes_say source.dialect) (R.remaining source.reader)) result }
 {
-    let mut trace = Trace::new(alloc, reader, source);
+    let number = source.number;
+    let mut trace = Trace::with_dialect(alloc, source.reader, number, source.dialect);
     let mut events = Vec::new(alloc);
     let mut put = 0;
     for _ in rt.forever() {
         let count = events.len();
-        if put < count && (count % FULL == 0 || gate.is_dry(source)) {
-            let (back, is_put) = put_last(rt, events.as_slice(), source, carrier, seat, gate);
+        if put < count && (count % FULL == 0 || gate.is_dry(number)) {
+            let (back, is_put) = put_last(rt, events.as_slice(), number, carrier, seat, gate);
             seat = back;
             put = count;
             if !is_put || gate.stopped(rt) {
@@ -173,7 +184,7 @@ fn put_all<RT: Wait, R: Read + Drop, C: Carrier, G: Gate>(
         if let Some(end) = read_next(&mut trace, &mut events) {
             let mut is_put = true;
             if end == FeedEnd::Whole && put < count {
-                (_, is_put) = put_last(rt, events.as_slice(), source, carrier, seat, gate);
+                (_, is_put) = put_last(rt, events.as_slice(), number, carrier, seat, gate);
             }
             let end = settle_end(rt, end, is_put, gate);
             return Fed { events, end };
@@ -182,8 +193,8 @@ fn put_all<RT: Wait, R: Read + Drop, C: Carrier, G: Gate>(
     unreachable!()
 }
 
-/// Reads the source of this number, puts its chunks into the carrier, and tells the gate how it
-/// ended.
+/// Reads the source of this number, whose rows are of the plain dialect, puts its chunks into the
+/// carrier, and tells the gate how it ended.
 ///
 /// An event is taken into the list before its chunk is put, and a chunk that finds no free slot is
 /// tried again until it is placed or the gate is stopped. Where the next row has to be waited for,
@@ -204,13 +215,35 @@ pub fn feed<RT: Wait, R: Read + Drop, C: Carrier, G: Gate>(
     requires seat { C.fits carrier.now seat }
     ensures { IsFedOf (option_map source_says (R.remaining reader)) result }
 {
-    let fed = put_all(rt, alloc, reader, source, carrier, seat, gate);
+    let source = Source {
+        reader,
+        number: source,
+        dialect: Dialect::Plain,
+    };
+    feed_source(rt, alloc, source, carrier, seat, gate)
+}
+
+/// The same as [`feed`], where the source's rows are of its dialect.
+pub(crate) fn feed_source<RT: Wait, R: Read + Drop, C: Carrier, G: Gate>(
+    rt: &RT,
+    alloc: Global,
+    source: Source<R>,
+    carrier: &C,
+    seat: C::Seat,
+    gate: &G,
+) -> Fed
+    requires source { source.number < 8 }
+    requires seat { C.fits carrier.now seat }
+    ensures { IsFedOf (option_map (bytes_say source.dialect) (R.remaining source.reader)) result }
+{
+    let number = source.number;
+    let fed = put_all(rt, alloc, source, carrier, seat, gate);
     match fed.end {
         FeedEnd::Whole => {
             let total = u32::try_from(fed.events.len()).unwrap_or(u32::MAX);
-            gate.end_source(rt, source, Some(total));
+            gate.end_source(rt, number, Some(total));
         }
-        FeedEnd::Fault(_) | FeedEnd::NoMemory => gate.end_source(rt, source, None),
+        FeedEnd::Fault(_) | FeedEnd::NoMemory => gate.end_source(rt, number, None),
         FeedEnd::Stopped => {}
     }
     fed

@@ -43,7 +43,7 @@ pub use feeding::{Fed, FeedEnd, feed};
 pub use gate::{Awaited, BookGate, Gate};
 pub use laws::{allowed_where_consistent, outcomes_agree};
 pub use replaying::replay;
-pub use running::{Settings, run, run_over, run_with_bell};
+pub use running::{Reading, Settings, run, run_over, run_reading, run_with_bell};
 pub use rv_report::Outcome;
 pub use serving::{ServeEnd, Served, serve};
 pub use step::InStep;

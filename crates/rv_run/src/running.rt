@@ -2,10 +2,11 @@
 ghost use Rattle.std.specs.Prelude.{◌≡◌, ◌≢◌, ◌↔◌, ◌<◌, ◌≤◌, ◌+◌, IfOk, IfErr, Err, false, All, vec_len};
 ghost use Rattle.rv_run.specs.Outcomes.{IfAllowed, IfForbidden, IfMalformed};
 ghost use Rattle.rv_run.specs.Ranges.{IsOutOfRange};
-ghost use Rattle.rv_run.specs.Sources.{AreAllowed, AreForbidden, AreMalformed, IsFaultAmong, streams_of};
+ghost use Rattle.rv_run.specs.Sources.{AreAllowed, AreForbidden, AreMalformed, IsFaultAmong};
+ghost use Rattle.rv_run.specs.Sources.{streams_in, streams_of};
 ghost use Rattle.rv_run.specs.declared.fault.RunFault.TheVariants as fault;
 
-use crate::driving::drive;
+use crate::driving::{Shared, drive_shared};
 use crate::fault::RunFault;
 use crate::gate::BookGate;
 use crate::judging::judge;
@@ -14,6 +15,7 @@ use rv_event::MemoryModel;
 use rv_pipe::Bell;
 use rv_report::Outcome;
 use rv_slots::{Carrier, Slots, SlotsFault, TableCarrier};
+use rv_trace::Dialect;
 use rv_verdict::VerdictCell;
 use std::alloc::Global;
 use std::io::Read;
@@ -45,7 +47,16 @@ impl Settings {
     }
 }
 
-/// As [`run_over`], where the readers are told by this bell that the run is over.
+/// How the sources of a run are read.
+#[derive(Clone, Copy)]
+pub struct Reading<'b> {
+    /// Which rows they may have.
+    pub dialect: Dialect,
+    /// The bell by which their readers are told that the run is over. It is that of no other run.
+    pub bell: &'b Bell,
+}
+
+/// As [`run_over`], where the sources are read so.
 fn run_in<RT: Threads + Wait + Sync, R: Read + Send + Drop, C: Carrier + Sync + Drop>(
     rt: &RT,
     alloc: Global,
@@ -53,27 +64,35 @@ fn run_in<RT: Threads + Wait + Sync, R: Read + Send + Drop, C: Carrier + Sync + 
     settings: Settings,
     carrier: C,
     seats: Vec<C::Seat>,
-    bell: &Bell,
+    reading: Reading<'_>,
 ) -> Result<Outcome, RunFault>
     requires sources { (0 < vec_len readers) × (vec_len readers ≤ 8) }
     requires workers { 0 < settings.workers }
     requires seats { vec_len readers + settings.workers ≤ vec_len seats }
     requires fits { All (λ s. C.fits carrier s) seats.items }
-    ensures allowed { IfOk result (λ o.
-        IfAllowed o (AreAllowed settings.model (streams_of R.remaining readers.items))) }
-    ensures forbidden { IfOk result (λ o.
-        IfForbidden o (AreForbidden settings.model (streams_of R.remaining readers.items))) }
-    ensures malformed { IfOk result (λ o.
-        IfMalformed o (AreMalformed settings.model (streams_of R.remaining readers.items))) }
-    ensures fault { IfErr result (IsFaultAmong (streams_of R.remaining readers.items)) }
+    ensures allowed { IfOk result (λ o. IfAllowed o
+        (AreAllowed settings.model (streams_in reading.entry.dialect R.remaining readers.items))) }
+    ensures forbidden { IfOk result (λ o. IfForbidden o
+        (AreForbidden settings.model (streams_in reading.entry.dialect R.remaining readers.items))) }
+    ensures malformed { IfOk result (λ o. IfMalformed o
+        (AreMalformed settings.model (streams_in reading.entry.dialect R.remaining readers.items))) }
+    ensures fault { IfErr result
+        (IsFaultAmong (streams_in reading.entry.dialect R.remaining readers.items)) }
     ensures settings { result ≢ Err fault.Settings }
 {
     let count = readers.len() as u8;
     let cell = VerdictCell::new(alloc);
     let gate = BookGate::new(alloc, settings.model, count);
-    let step = InStep::new(carrier, gate, count, bell);
-    let workers = settings.workers;
-    let driven = drive(rt, alloc, readers, workers, &step, seats, &step, &cell)?;
+    let step = InStep::new(carrier, gate, count, reading.bell);
+    let shared = Shared {
+        rt,
+        alloc,
+        dialect: reading.dialect,
+        carrier: &step,
+        gate: &step,
+        cell: &cell,
+    };
+    let driven = drive_shared(shared, readers, settings.workers, seats)?;
     let fed = driven.fed.as_slice();
     let served = driven.served.as_slice();
     let book = step.into_gate().into_book();
@@ -112,7 +131,11 @@ pub fn run_over<RT: Threads + Wait + Sync, R: Read + Send + Drop, C: Carrier + S
     ensures fault { IfErr result (IsFaultAmong (streams_of R.remaining readers.items)) }
     ensures settings { result ≢ Err fault.Settings }
 {
-    run_in(rt, alloc, readers, settings, carrier, seats, &Bell::new())
+    let reading = Reading {
+        dialect: Dialect::Plain,
+        bell: &Bell::new(),
+    };
+    run_in(rt, alloc, readers, settings, carrier, seats, reading)
 }
 
 /// Reads the sources in threads of their own, judges their events in other threads while they are
@@ -174,6 +197,31 @@ pub fn run_with_bell<RT: Threads + Wait + Sync, R: Read + Send + Drop>(
     ensures fault { IfErr result (IsFaultAmong (streams_of R.remaining readers.items)) }
     ensures settings { (result ≡ Err fault.Settings) ↔ IsOutOfRange (vec_len readers) settings }
 {
+    let dialect = Dialect::Plain;
+    run_reading(rt, alloc, readers, settings, Reading { dialect, bell })
+}
+
+/// The same as [`run_with_bell`], where the sources' rows are of the dialect that is read.
+///
+/// # Errors
+/// As [`run_with_bell`].
+pub fn run_reading<RT: Threads + Wait + Sync, R: Read + Send + Drop>(
+    rt: &RT,
+    alloc: Global,
+    readers: Vec<R>,
+    settings: Settings,
+    reading: Reading<'_>,
+) -> Result<Outcome, RunFault>
+    ensures allowed { IfOk result (λ o. IfAllowed o
+        (AreAllowed settings.model (streams_in reading.entry.dialect R.remaining readers.items))) }
+    ensures forbidden { IfOk result (λ o. IfForbidden o
+        (AreForbidden settings.model (streams_in reading.entry.dialect R.remaining readers.items))) }
+    ensures malformed { IfOk result (λ o. IfMalformed o
+        (AreMalformed settings.model (streams_in reading.entry.dialect R.remaining readers.items))) }
+    ensures fault { IfErr result
+        (IsFaultAmong (streams_in reading.entry.dialect R.remaining readers.items)) }
+    ensures settings { (result ≡ Err fault.Settings) ↔ IsOutOfRange (vec_len readers) settings }
+{
     if !settings.admit(readers.len()) {
         return Err(RunFault::Settings);
     }
@@ -189,6 +237,6 @@ pub fn run_with_bell<RT: Threads + Wait + Sync, R: Read + Send + Drop>(
         settings,
         TableCarrier::new(slots),
         seats,
-        bell,
+        reading,
     )
 }

@@ -1,7 +1,7 @@
 -- Operations with their annotations, as they are printed and read.
-use Rattle.std.proofs.Common.{◌≡◌, ◌&&◌, ◌==◌, ℕ, List, length, refl, sym, subst, inl, inr, true, false, Bool, Ok}
-use Rattle.std.proofs.Common.{Some, None, Option}
-use Rattle.std.specs.Prelude.{bytes_eq, codes}
+use Rattle.std.proofs.Common.{◌≡◌, ◌&&◌, ◌==◌, ℕ, List, length, refl, sym, ap, ◌∙◌, subst, inl, inr, true, false}
+use Rattle.std.proofs.Common.{Some, None, Option, Ok, Err, Result, Bool}
+use Rattle.std.specs.Prelude.{bytes_eq, codes, if◌then◌else◌}
 use Rattle.std.proofs.lemmas.Bool.{cases_Bool}
 use Rattle.rv_event.specs.Operations.{has_word, is_load, is_store}
 use Rattle.rv_event.specs.Rows.{marks_text, op_text}
@@ -9,13 +9,18 @@ use Rattle.rv_event.specs.declared.event.Op.{Op}
 use Rattle.rv_event.specs.declared.event.Op.TheVariants as op
 use Rattle.rv_event.specs.declared.event.Set.{Set}
 use Rattle.rv_event.specs.declared.event.Set.TheVariants.{R, W, Rw}
-use Rattle.rv_trace.specs.Operations.{Annotated, annotated, bare, columns_of, fence, fence_sets, mnemonic, ordered}
+use Rattle.rv_trace.specs.Operations.{Annotated, annotated, bare, columns_of, fence, fence_sets}
+use Rattle.rv_trace.specs.Operations.{has_carriers, mnemonic, ordered}
+use Rattle.rv_trace.specs.declared.dialect.Dialect.{Dialect}
+use Rattle.rv_trace.specs.declared.dialect.Dialect.TheVariants as dialect
+use Rattle.rv_trace.specs.declared.fault.FaultKind.{FaultKind}
+use Rattle.rv_trace.specs.declared.fault.FaultKind.TheVariants as fault
 use Rattle.rv_trace.specs.declared.operation.Mnemonic.{Mnemonic}
 use Rattle.rv_trace.specs.declared.operation.Mnemonic.TheVariants as name
 
 -- what the texts of an operation and of its annotations are read as, and the columns that it has
-pub record IsMarked (n : Mnemonic) (o : Annotated) : Type 0 where
-  pub named : mnemonic (op_text o.0) ≡ Ok n
+pub record IsMarked (d : Dialect) (n : Mnemonic) (o : Annotated) : Type 0 where
+  pub named : mnemonic d (op_text o.0) ≡ Ok n
   pub marked : annotated n (marks_text o.0 o.1 o.2) ≡ Ok o
   pub word : has_word o.0 ≡ (columns_of n).word
   pub read : is_load o.0 ≡ (columns_of n).read
@@ -76,33 +81,34 @@ ordered_is o acquires releases text p said = elim (cases_Bool (length text == 0)
   may false b e = absurd (cc e)
 
 -- the bits that an LR, an SC or an AMO may have are read as they are printed
-lr_marked : (a r : Bool) → (a ≡ false → r ≡ true → false ≡ true) → IsMarked name.Lr (op.Lr, a, r)
+lr_marked : (d : Dialect) (a r : Bool) → (a ≡ false → r ≡ true → false ≡ true) → IsMarked d name.Lr (op.Lr, a, r)
 unfolding mnemonic ordered
-lr_marked true true may = record { named = refl; marked = refl; word = refl; read = refl; wrote = refl }
-lr_marked true false may = record { named = refl; marked = refl; word = refl; read = refl; wrote = refl }
-lr_marked false true may = absurd (cc (may refl refl))
-lr_marked false false may = record { named = refl; marked = refl; word = refl; read = refl; wrote = refl }
+lr_marked d true true may = record { named = refl; marked = refl; word = refl; read = refl; wrote = refl }
+lr_marked d true false may = record { named = refl; marked = refl; word = refl; read = refl; wrote = refl }
+lr_marked d false true may = absurd (cc (may refl refl))
+lr_marked d false false may = record { named = refl; marked = refl; word = refl; read = refl; wrote = refl }
 
-sc_marked : (a r : Bool) → (a ≡ true → r ≡ false → false ≡ true) → IsMarked name.Sc (op.Sc, a, r)
+sc_marked : (d : Dialect) (a r : Bool) → (a ≡ true → r ≡ false → false ≡ true) → IsMarked d name.Sc (op.Sc, a, r)
 unfolding mnemonic ordered
-sc_marked true true may = record { named = refl; marked = refl; word = refl; read = refl; wrote = refl }
-sc_marked true false may = absurd (cc (may refl refl))
-sc_marked false true may = record { named = refl; marked = refl; word = refl; read = refl; wrote = refl }
-sc_marked false false may = record { named = refl; marked = refl; word = refl; read = refl; wrote = refl }
+sc_marked d true true may = record { named = refl; marked = refl; word = refl; read = refl; wrote = refl }
+sc_marked d true false may = absurd (cc (may refl refl))
+sc_marked d false true may = record { named = refl; marked = refl; word = refl; read = refl; wrote = refl }
+sc_marked d false false may = record { named = refl; marked = refl; word = refl; read = refl; wrote = refl }
 
-sf_marked : (a r : Bool) → (a ≡ true → r ≡ false → false ≡ true) → IsMarked name.ScFailed (op.ScFailed, a, r)
+sf_marked : (d : Dialect) (a r : Bool) → (a ≡ true → r ≡ false → false ≡ true) →
+    IsMarked d name.ScFailed (op.ScFailed, a, r)
 unfolding mnemonic ordered
-sf_marked true true may = record { named = refl; marked = refl; word = refl; read = refl; wrote = refl }
-sf_marked true false may = absurd (cc (may refl refl))
-sf_marked false true may = record { named = refl; marked = refl; word = refl; read = refl; wrote = refl }
-sf_marked false false may = record { named = refl; marked = refl; word = refl; read = refl; wrote = refl }
+sf_marked d true true may = record { named = refl; marked = refl; word = refl; read = refl; wrote = refl }
+sf_marked d true false may = absurd (cc (may refl refl))
+sf_marked d false true may = record { named = refl; marked = refl; word = refl; read = refl; wrote = refl }
+sf_marked d false false may = record { named = refl; marked = refl; word = refl; read = refl; wrote = refl }
 
-amo_marked : (a r : Bool) → IsMarked name.Amo (op.Amo, a, r)
+amo_marked : (d : Dialect) (a r : Bool) → IsMarked d name.Amo (op.Amo, a, r)
 unfolding mnemonic ordered
-amo_marked true true = record { named = refl; marked = refl; word = refl; read = refl; wrote = refl }
-amo_marked true false = record { named = refl; marked = refl; word = refl; read = refl; wrote = refl }
-amo_marked false true = record { named = refl; marked = refl; word = refl; read = refl; wrote = refl }
-amo_marked false false = record { named = refl; marked = refl; word = refl; read = refl; wrote = refl }
+amo_marked d true true = record { named = refl; marked = refl; word = refl; read = refl; wrote = refl }
+amo_marked d true false = record { named = refl; marked = refl; word = refl; read = refl; wrote = refl }
+amo_marked d false true = record { named = refl; marked = refl; word = refl; read = refl; wrote = refl }
+amo_marked d false false = record { named = refl; marked = refl; word = refl; read = refl; wrote = refl }
 
 -- and so are the two sets of a fence
 sets_read : (a b : Set) → fence_sets (marks_text (op.Fence a b) false false) ≡ Some (a, b)
@@ -117,9 +123,9 @@ sets_read Rw R = refl
 sets_read Rw W = refl
 sets_read Rw Rw = refl
 
-fence_marked : (a b : Set) → IsMarked name.Fence (op.Fence a b, false, false)
+fence_marked : (d : Dialect) (a b : Set) → IsMarked d name.Fence (op.Fence a b, false, false)
 unfolding mnemonic
-fence_marked a b =
+fence_marked d a b =
     record { named = refl; marked = rw (sets_read a b) refl; word = refl; read = refl; wrote = refl }
 
 fence_is : (s : Option (Set × Set)) (p : Annotated) → fence s ≡ Ok p →
@@ -128,31 +134,67 @@ fence_is None p said = absurd (cc said)
 fence_is (Some q) p said = (q.0, q.1, cc said)
 
 -- an operation that is read with its annotations is so printed
-pub marked_of : (n : Mnemonic) (text : List ℕ) (p : Annotated) → annotated n text ≡ Ok p → IsMarked n p
+pub marked_of : (d : Dialect) (n : Mnemonic) (text : List ℕ) (p : Annotated) →
+    (n ≡ name.Carrier → has_carriers d ≡ true) → annotated n text ≡ Ok p → IsMarked d n p
 unfolding mnemonic
-marked_of name.Load text p said =
-    subst (IsMarked name.Load) (sym (bare_is op.Load text p said))
+marked_of d name.Load text p may said =
+    subst (IsMarked d name.Load) (sym (bare_is op.Load text p said))
     (record { named = refl; marked = refl; word = refl; read = refl; wrote = refl })
-marked_of name.Store text p said =
-    subst (IsMarked name.Store) (sym (bare_is op.Store text p said))
+marked_of d name.Store text p may said =
+    subst (IsMarked d name.Store) (sym (bare_is op.Store text p said))
     (record { named = refl; marked = refl; word = refl; read = refl; wrote = refl })
-marked_of name.Lr text p said =
+marked_of d name.Lr text p may said =
     let h = ordered_is op.Lr true false text p said in
-    subst (λ (o : Op). IsMarked name.Lr (o, p.1, p.2)) (sym h.same) (lr_marked p.1 p.2 h.release)
-marked_of name.Sc text p said =
+    subst (λ (o : Op). IsMarked d name.Lr (o, p.1, p.2)) (sym h.same) (lr_marked d p.1 p.2 h.release)
+marked_of d name.Sc text p may said =
     let h = ordered_is op.Sc false true text p said in
-    subst (λ (o : Op). IsMarked name.Sc (o, p.1, p.2)) (sym h.same) (sc_marked p.1 p.2 h.acquire)
-marked_of name.ScFailed text p said =
+    subst (λ (o : Op). IsMarked d name.Sc (o, p.1, p.2)) (sym h.same) (sc_marked d p.1 p.2 h.acquire)
+marked_of d name.ScFailed text p may said =
     let h = ordered_is op.ScFailed false true text p said in
-    subst (λ (o : Op). IsMarked name.ScFailed (o, p.1, p.2)) (sym h.same) (sf_marked p.1 p.2 h.acquire)
-marked_of name.Amo text p said =
+    subst (λ (o : Op). IsMarked d name.ScFailed (o, p.1, p.2)) (sym h.same) (sf_marked d p.1 p.2 h.acquire)
+marked_of d name.Amo text p may said =
     let h = ordered_is op.Amo true true text p said in
-    subst (λ (o : Op). IsMarked name.Amo (o, p.1, p.2)) (sym h.same) (amo_marked p.1 p.2)
-marked_of name.Fence text p said =
-    let h = fence_is (fence_sets text) p said in subst (IsMarked name.Fence) (sym h.2) (fence_marked h.0 h.1)
-marked_of name.FenceTso text p said =
-    subst (IsMarked name.FenceTso) (sym (bare_is op.FenceTso text p said))
+    subst (λ (o : Op). IsMarked d name.Amo (o, p.1, p.2)) (sym h.same) (amo_marked d p.1 p.2)
+marked_of d name.Fence text p may said =
+    let h = fence_is (fence_sets text) p said in subst (IsMarked d name.Fence) (sym h.2) (fence_marked d h.0 h.1)
+marked_of d name.FenceTso text p may said =
+    subst (IsMarked d name.FenceTso) (sym (bare_is op.FenceTso text p said))
     (record { named = refl; marked = refl; word = refl; read = refl; wrote = refl })
-marked_of name.Branch text p said =
-    subst (IsMarked name.Branch) (sym (bare_is op.Branch text p said))
+marked_of d name.Branch text p may said =
+    subst (IsMarked d name.Branch) (sym (bare_is op.Branch text p said))
     (record { named = refl; marked = refl; word = refl; read = refl; wrote = refl })
+marked_of d name.Carrier text p may said =
+    subst (IsMarked d name.Carrier) (sym (bare_is op.Carrier text p said))
+    (record { named = rw (may refl) refl; marked = refl; word = refl; read = refl; wrote = refl })
+
+-- where a chain of tests names a carrier, and this test names another, the rest does
+past : (b : Bool) (n : Mnemonic) (rest : Result Mnemonic FaultKind) → (n ≡ name.Carrier → ⊥) →
+    (if b then Ok n else rest) ≡ Ok name.Carrier → rest ≡ Ok name.Carrier
+past true n rest other said = absurd (other (cc said))
+past false n rest other said = said
+
+-- a text names a carrier only in a dialect that has them
+pub carrier_named : (d : Dialect) (text : List ℕ) (n : Mnemonic) → mnemonic d text ≡ Ok n → n ≡ name.Carrier →
+    has_carriers d ≡ true
+unfolding mnemonic
+carrier_named dialect.Carriers text n said is = refl
+carrier_named dialect.Plain text n said is = absurd (none (last (bytes_eq text (codes "I")) (
+    past _ name.Branch _ (λ e. cc e)
+    (past _ name.FenceTso _ (λ e. cc e)
+    (past _ name.Fence _ (λ e. cc e)
+    (past _ name.Amo _ (λ e. cc e)
+    (past _ name.ScFailed _ (λ e. cc e)
+    (past _ name.Sc _ (λ e. cc e)
+    (past _ name.Lr _ (λ e. cc e)
+    (past _ name.Store _ (λ e. cc e)
+    (past _ name.Load _ (λ e. cc e)
+    (said ∙ ap Ok is)))))))))
+    )))
+  where
+    none : (let r : Result Mnemonic FaultKind = Err fault.Op in r ≡ Ok name.Carrier) → ⊥
+    none e = cc e
+
+    last : (b : Bool) → (if b && false then Ok name.Carrier else Err fault.Op) ≡ Ok name.Carrier →
+        (let r : Result Mnemonic FaultKind = Err fault.Op in r ≡ Ok name.Carrier)
+    last true e = e
+    last false e = e

@@ -27,6 +27,7 @@ use Rattle.rv_trace.specs.Operations.{columns_of}
 use Rattle.rv_trace.specs.Row.{Fields, event_of}
 use Rattle.rv_trace.specs.Source.{records_say, rows_say, text_records}
 use Rattle.rv_trace.specs.Written.{IsInRow, TextsTellEvents, WrittenTracesAreRead, rows_text, trace_text}
+use Rattle.rv_trace.specs.declared.dialect.Dialect.{Dialect}
 use Rattle.rv_trace.specs.declared.operation.Columns.{Columns}
 use Rattle.rv_trace.proofs.WrittenDeps.{AreSaid, all_dep}
 use Rattle.rv_trace.proofs.WrittenNumbers.{all_decimal}
@@ -129,8 +130,8 @@ record_read x y rest tail plain =
     ∙ ap (λ (t : List ℕ). t ++ (10 ∷ tail)) (plain_fields x (y ∷ rest) plain) in
     ap (next_record default_config state.StartRecord [] []) (sym line) ∙ read-write-many x y rest tail
 
-event_plain : (e : Event) → IsRowOf e → ArePlain (event_fields e)
-event_plain e r = (
+event_plain : (d : Dialect) (e : Event) → IsRowOf d e → ArePlain (event_fields e)
+event_plain d e r = (
   all_decimal IsPlain digit_plain e.id.hart (omega (arith, r.hart)),
   (
     all_decimal IsPlain digit_plain e.id.seq (omega (arith, r.seq)),
@@ -153,34 +154,35 @@ event_plain e r = (
   ),
 )
 
-event_read : (e : Event) (tail : List ℕ) → IsRowOf e →
+event_read : (d : Dialect) (e : Event) (tail : List ℕ) → IsRowOf d e →
     next_record default_config state.StartRecord [] [] (event_text e ++ (10 ∷ tail))
     ≡ Some (event_fields e, state.StartRecord, tail)
-event_read e tail r = record_read _ _ _ tail (event_plain e r)
+event_read d e tail r = record_read _ _ _ tail (event_plain d e r)
 
 -- each line is a record
-rows_read : (es : List Event) (n : ℕ) → All IsInRow es → length es < n →
+rows_read : (d : Dialect) (es : List Event) (n : ℕ) → All (IsInRow d) es → length es < n →
     records_from default_config n state.StartRecord (rows_text es) ≡ map event_fields es
 unfolding records_from next_record
-rows_read es zero said fuel = absurd (omega arith)
-rows_read [] (suc n) said fuel = refl
-rows_read (e ∷ es) (suc n) said fuel =
-    let first = event_read e (rows_text es) (said_is e (All-head IsInRow e es said)) in
+rows_read d es zero said fuel = absurd (omega arith)
+rows_read d [] (suc n) said fuel = refl
+rows_read d (e ∷ es) (suc n) said fuel =
+    let first = event_read d e (rows_text es) (said_is d e (All-head (IsInRow d) e es said)) in
     rw first (ap (λ (rs : List Fields). event_fields e ∷ rs)
-    (rows_read es n (All-tail IsInRow e es said) (omega arith)))
+    (rows_read d es n (All-tail (IsInRow d) e es said) (omega arith)))
 
 long : (es : List Event) → length es ≤ length (rows_text es)
 long [] = omega arith
 long (e ∷ es) = omega (arith, long es, length-append (event_text e) (10 ∷ rows_text es))
 
 -- and each record is its event
-rows_said : (es : List Event) (n : ℕ) → All IsInRow es → n + length es ≤ 65537 →
-    rows_say n (map event_fields es) ≡ record { events = es; end = None }
+rows_said : (d : Dialect) (es : List Event) (n : ℕ) → All (IsInRow d) es → n + length es ≤ 65537 →
+    rows_say d n (map event_fields es) ≡ record { events = es; end = None }
 unfolding rows_say
-rows_said [] n said few = refl
-rows_said (e ∷ es) n said few =
-    let first = row-text e (said_is e (All-head IsInRow e es said)) in
-    rw (le-ltb 65536 n (omega arith), first, rows_said es (n + 1) (All-tail IsInRow e es said) (omega arith)) refl
+rows_said d [] n said few = refl
+rows_said d (e ∷ es) n said few =
+    let first = row-text d e (said_is d e (All-head (IsInRow d) e es said)) in
+    let more = rows_said d es (n + 1) (All-tail (IsInRow d) e es said) (omega arith) in
+    rw (le-ltb 65536 n (omega arith), first, more) refl
 
 -- the header's fields
 abbrev header : Fields
@@ -192,34 +194,35 @@ header_read : (tail : List ℕ) → next_record default_config state.StartRecord
 unfolding next_record
 header_read tail = refl
 
-lines_read : (es : List Event) (n : ℕ) → All IsInRow es → length es < n →
+lines_read : (d : Dialect) (es : List Event) (n : ℕ) → All (IsInRow d) es → length es < n →
     records_from default_config (suc n) state.StartRecord (trace_text es) ≡ header ∷ map event_fields es
 unfolding records_from
-lines_read es n said fuel =
-    rw (header_read (rows_text es)) (ap (λ (rs : List Fields). header ∷ rs) (rows_read es n said fuel))
+lines_read d es n said fuel =
+    rw (header_read (rows_text es)) (ap (λ (rs : List Fields). header ∷ rs) (rows_read d es n said fuel))
 
-text_read : (es : List Event) → All IsInRow es → text_records (trace_text es) ≡ header ∷ map event_fields es
+text_read : (d : Dialect) (es : List Event) → All (IsInRow d) es →
+    text_records (trace_text es) ≡ header ∷ map event_fields es
 unfolding strip_bom
-text_read es said =
+text_read d es said =
     let text = trace_text es in
     let fuel : length es < length text =
     omega (arith, long es, length-append (codes "hart,seq,op,word,read,wrote,ann,deps") (10 ∷ rows_text es)) in
     ap (λ (n : ℕ). records_from default_config n state.StartRecord text) (add-one (length text))
-    ∙ lines_read es (length text) said fuel
+    ∙ lines_read d es (length text) said fuel
 
 pub written : WrittenTracesAreRead
 unfolding records_say field_at
-written es said few = ap records_say (text_read es said) ∙ rows_said es 1 said (omega arith)
+written d es said few = ap (records_say d) (text_read d es said) ∙ rows_said d es 1 said (omega arith)
 
 same_record : (p q : Read) → Some p ≡ Some q → p.0 ≡ q.0
 same_record p q same = let is : p ≡ q = cc same in ap (λ (r : Read). r.0) is
 
 pub told : TextsTellEvents
-told a b in_a in_b same =
-    let row_a = said_is a in_a in
-    let row_b = said_is b in_b in
-    let both = sym (event_read a [] row_a)
+told d a b in_a in_b same =
+    let row_a = said_is d a in_a in
+    let row_b = said_is d b in_b in
+    let both = sym (event_read d a [] row_a)
     ∙ ap (λ (t : List ℕ). next_record default_config state.StartRecord [] [] (t ++ (10 ∷ []))) same
-    ∙ event_read b [] row_b in
+    ∙ event_read d b [] row_b in
     let fields = same_record _ _ both in
-    same_event a b (sym (row-text a row_a) ∙ ap event_of fields ∙ row-text b row_b)
+    same_event a b (sym (row-text d a row_a) ∙ ap (event_of d) fields ∙ row-text d b row_b)

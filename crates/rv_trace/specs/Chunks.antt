@@ -2,11 +2,12 @@
 use Rattle.std.specs.Prelude.{◌≡◌, ◌⊎◌, ◌++◌, ◌+◌, ◌*◌, ◌<◌, ◌≤◌, List, length, ℕ, Bool, true, false, Option, Some}
 use Rattle.std.specs.Prelude.{None, option_map, ⊤}
 use Rattle.rv_event.specs.declared.event.Event.{Event}
+use Rattle.rv_trace.specs.declared.dialect.Dialect.{Dialect}
 use Rattle.rv_trace.specs.declared.fault.FaultKind.TheVariants as fault
 use Rattle.rv_trace.specs.declared.fault.TraceFault.{TraceFault}
 use Rattle.rv_trace.specs.Calls.{IsAtEnd}
 use Rattle.rv_trace.specs.Faults.{IsOutside, is_of_text}
-use Rattle.rv_trace.specs.Source.{Stream, source_says}
+use Rattle.rv_trace.specs.Source.{Stream, bytes_say}
 use Rattle.rv_trace.specs.Trace.{TraceLeft}
 
 -- Chunks: their source's number; the number of the next chunk; whether the header is still to be
@@ -36,13 +37,13 @@ chunks_left source number fault trace = record {
 }
 
 -- of which nothing was read yet, by the bytes of its reader where they are known
-abbrev pub fresh_chunks : ℕ → Option (List ℕ) → ChunksLeft
-fresh_chunks source known = record {
+abbrev pub fresh_chunks : Dialect → ℕ → Option (List ℕ) → ChunksLeft
+fresh_chunks d source known = record {
   source = source;
   number = 0;
   unread = true;
   given = 0;
-  stream = option_map source_says known;
+  stream = option_map (bytes_say d) known;
   ended = false;
   fault = None;
   refused = false;

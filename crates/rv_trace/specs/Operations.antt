@@ -1,18 +1,25 @@
--- The nine operations: their texts, their columns and their annotations.
+-- The operations: their texts, their columns and their annotations.
 use Rattle.std.specs.Prelude.{ℕ, ◌&&◌, ◌==◌, List, length, Bool, true, false, Option, Some, None, Result, Ok, Err}
 use Rattle.std.specs.Prelude.{if◌then◌else◌, codes, bytes_eq}
 use Rattle.rv_event.specs.declared.event.Op.{Op}
 use Rattle.rv_event.specs.declared.event.Op.TheVariants as op
 use Rattle.rv_event.specs.declared.event.Set.{Set}
 use Rattle.rv_event.specs.declared.event.Set.TheVariants as set
+use Rattle.rv_trace.specs.declared.dialect.Dialect.{Dialect}
+use Rattle.rv_trace.specs.declared.dialect.Dialect.TheVariants as dialect
 use Rattle.rv_trace.specs.declared.fault.FaultKind.{FaultKind}
 use Rattle.rv_trace.specs.declared.fault.FaultKind.TheVariants as fault
 use Rattle.rv_trace.specs.declared.operation.Columns.{Columns}
 use Rattle.rv_trace.specs.declared.operation.Mnemonic.{Mnemonic}
 use Rattle.rv_trace.specs.declared.operation.Mnemonic.TheVariants as name
 
-unfoldable pub mnemonic : List ℕ → Result Mnemonic FaultKind
-mnemonic text =
+-- whether a trace of the dialect may have carriers
+abbrev pub has_carriers : Dialect → Bool
+has_carriers dialect.Plain = false
+has_carriers dialect.Carriers = true
+
+unfoldable pub mnemonic : Dialect → List ℕ → Result Mnemonic FaultKind
+mnemonic d text =
     if bytes_eq text (codes "L") then Ok name.Load
     else if bytes_eq text (codes "S") then Ok name.Store
     else if bytes_eq text (codes "LR") then Ok name.Lr
@@ -22,6 +29,7 @@ mnemonic text =
     else if bytes_eq text (codes "F") then Ok name.Fence
     else if bytes_eq text (codes "FT") then Ok name.FenceTso
     else if bytes_eq text (codes "BR") then Ok name.Branch
+    else if bytes_eq text (codes "I") && has_carriers d then Ok name.Carrier
     else Err fault.Op
 
 -- which numbers there are, and which letters a dependency may have
@@ -40,6 +48,7 @@ columns_of name.Amo = with_columns true true true true true false
 columns_of name.Fence = with_columns false false false false false false
 columns_of name.FenceTso = with_columns false false false false false false
 columns_of name.Branch = with_columns false false false false false true
+columns_of name.Carrier = with_columns false false false false true false
 
 -- an operation, and whether it acquires and releases
 abbrev pub Annotated : Type 0
@@ -87,3 +96,4 @@ annotated name.Amo text = ordered op.Amo true true text
 annotated name.Fence text = fence (fence_sets text)
 annotated name.FenceTso text = bare op.FenceTso text
 annotated name.Branch text = bare op.Branch text
+annotated name.Carrier text = bare op.Carrier text

@@ -2,6 +2,7 @@
 use Rattle.std.specs.Prelude.{ℕ, ◌==◌, List, [], length, Result, Ok, Err, if◌then◌else◌, unwrap_or}
 use Rattle.csv.specs.Records.{field_at}
 use Rattle.rv_event.specs.declared.event.Event.{Event}
+use Rattle.rv_trace.specs.declared.dialect.Dialect.{Dialect}
 use Rattle.rv_trace.specs.declared.fault.FaultKind.{FaultKind}
 use Rattle.rv_trace.specs.declared.fault.FaultKind.TheVariants as fault
 use Rattle.rv_trace.specs.Dependencies.{dependencies}
@@ -18,11 +19,11 @@ abbrev pub field : Fields → ℕ → List ℕ
 field fields i = unwrap_or (field_at fields i) []
 
 -- what eight fields say
-unfoldable pub eight : Fields → Result Event FaultKind
-eight fields = do
+unfoldable pub eight : Dialect → Fields → Result Event FaultKind
+eight d fields = do
   hart ← number 255 (field fields 0)
   seq ← number 4294967295 (field fields 1)
-  name ← mnemonic (field fields 2)
+  name ← mnemonic d (field fields 2)
   word ← value (columns_of name).word (field fields 3)
   read ← value (columns_of name).read (field fields 4)
   wrote ← value (columns_of name).wrote (field fields 5)
@@ -39,5 +40,5 @@ eight fields = do
     deps = deps;
   })
 
-unfoldable pub event_of : Fields → Result Event FaultKind
-event_of fields = if length fields == 8 then eight fields else Err fault.Fields
+unfoldable pub event_of : Dialect → Fields → Result Event FaultKind
+event_of d fields = if length fields == 8 then eight d fields else Err fault.Fields

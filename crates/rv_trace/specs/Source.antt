@@ -4,6 +4,8 @@ use Rattle.std.specs.Prelude.{nat_lt, if◌then◌else◌, codes, bytes_eq}
 use Rattle.csv.specs.Reading.{default_config, records, records_from, strip_bom}
 use Rattle.csv.specs.declared.parser.State.{State}
 use Rattle.rv_event.specs.declared.event.Event.{Event}
+use Rattle.rv_trace.specs.declared.dialect.Dialect.{Dialect}
+use Rattle.rv_trace.specs.declared.dialect.Dialect.TheVariants as dialect
 use Rattle.rv_trace.specs.declared.fault.FaultKind.{FaultKind}
 use Rattle.rv_trace.specs.declared.fault.FaultKind.TheVariants as fault
 use Rattle.rv_trace.specs.declared.fault.TraceFault.{TraceFault}
@@ -32,29 +34,34 @@ is_header fields =
     && bytes_eq (field fields 6) (codes "ann") && bytes_eq (field fields 7) (codes "deps")
 
 -- what data row n says: there may be 65,536
-abbrev pub row_says : ℕ → Fields → Result Event FaultKind
-row_says n fields = if nat_lt 65536 n then Err fault.TooLong else event_of fields
+abbrev pub row_says : Dialect → ℕ → Fields → Result Event FaultKind
+row_says d n fields = if nat_lt 65536 n then Err fault.TooLong else event_of d fields
 
 abbrev pub after_row : ℕ → Result Event FaultKind → Stream → Stream
 after_row n (Ok e) s = record { events = e ∷ s.events; end = s.end }
 after_row n (Err k) s = fails_at k n
 
 -- the rows from data row n on
-unfoldable pub rows_say : ℕ → List Fields → Stream
-rows_say n [] = whole
-rows_say n (r ∷ rs) = after_row n (row_says n r) (rows_say (n + 1) rs)
+unfoldable pub rows_say : Dialect → ℕ → List Fields → Stream
+rows_say d n [] = whole
+rows_say d n (r ∷ rs) = after_row n (row_says d n r) (rows_say d (n + 1) rs)
 
 -- a header and rows
-unfoldable pub records_say : List Fields → Stream
-records_say [] = fails_at fault.Header 0
-records_say (h ∷ rs) = if is_header h then rows_say 1 rs else fails_at fault.Header 0
+unfoldable pub records_say : Dialect → List Fields → Stream
+records_say d [] = fails_at fault.Header 0
+records_say d (h ∷ rs) = if is_header h then rows_say d 1 rs else fails_at fault.Header 0
 
 -- the records of a text, and those from a state in it
 abbrev pub text_records : List ℕ → List Fields
 text_records bytes = records default_config (strip_bom bytes)
 
+-- what a text says to who reads this dialect
+abbrev pub bytes_say : Dialect → List ℕ → Stream
+bytes_say d bytes = records_say d (text_records bytes)
+
+-- without carriers
 abbrev pub source_says : List ℕ → Stream
-source_says bytes = records_say (text_records bytes)
+source_says = bytes_say dialect.Plain
 
 unfoldable pub rest_of : State → List ℕ → List Fields
 rest_of s xs = records_from default_config (length xs + 1) s xs

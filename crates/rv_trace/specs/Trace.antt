@@ -2,6 +2,7 @@
 use Rattle.std.specs.Prelude.{◌≡◌, ◌⊎◌, ◌∷◌, ◌+◌, ◌≤◌, ◌≢◌, ◌&&◌, List, ℕ, Bool, true, false, Option, Some, None}
 use Rattle.std.specs.Prelude.{option_map, ⊤}
 use Rattle.rv_event.specs.declared.event.Event.{Event}
+use Rattle.rv_trace.specs.declared.dialect.Dialect.{Dialect}
 use Rattle.rv_trace.specs.declared.fault.FaultKind.TheVariants as fault
 use Rattle.rv_trace.specs.declared.fault.TraceFault.{TraceFault}
 use Rattle.rv_trace.specs.declared.trace.Stage.{Stage}
@@ -9,7 +10,7 @@ use Rattle.rv_trace.specs.declared.trace.Stage.TheVariants as stage
 use Rattle.rv_trace.specs.Faults.{IsOutside, NeverCsv, is_of_text}
 use Rattle.rv_trace.specs.Row.{Fields}
 use Rattle.rv_trace.specs.Rows.{RowsLeft}
-use Rattle.rv_trace.specs.Source.{Stream, fails_at, records_say, rows_say, source_says, whole}
+use Rattle.rv_trace.specs.Source.{Stream, bytes_say, fails_at, records_say, rows_say, whole}
 
 -- A trace: its source's number; whether its header is still to be read; how many events it has
 -- given; what it still gives, where the reader tells its bytes; whether it has come to the end; the
@@ -24,12 +25,12 @@ pub record TraceLeft : Type 0 where
   pub refused : Bool
 
 -- of which nothing was read yet, by the bytes of its reader where they are known
-abbrev pub fresh_trace : ℕ → Option (List ℕ) → TraceLeft
-fresh_trace source known = record {
+abbrev pub fresh_trace : Dialect → ℕ → Option (List ℕ) → TraceLeft
+fresh_trace d source known = record {
   source = source;
   unread = true;
   given = 0;
-  stream = option_map source_says known;
+  stream = option_map (bytes_say d) known;
   ended = false;
   fault = None;
   refused = false;
@@ -40,11 +41,11 @@ abbrev pub refused_in : RowsLeft → Bool
 refused_in rows = rows.failed && rows.refused
 
 -- what the records left say at a stage
-abbrev pub stream_left : Stage → ℕ → Option (List Fields) → Option Stream
-stream_left stage.Start given left = option_map records_say left
-stream_left stage.Rows given left = option_map (rows_say (given + 1)) left
-stream_left stage.Ended given left = Some whole
-stream_left (stage.Failed f) given left = None
+abbrev pub stream_left : Dialect → Stage → ℕ → Option (List Fields) → Option Stream
+stream_left d stage.Start given left = option_map (records_say d) left
+stream_left d stage.Rows given left = option_map (rows_say d (given + 1)) left
+stream_left d stage.Ended given left = Some whole
+stream_left d (stage.Failed f) given left = None
 
 abbrev pub is_unread : Stage → Bool
 is_unread stage.Start = true
@@ -64,12 +65,12 @@ fault_kept stage.Rows = None
 fault_kept stage.Ended = None
 fault_kept (stage.Failed f) = Some f
 
-abbrev pub trace_left : ℕ → ℕ → Stage → RowsLeft → TraceLeft
-trace_left source given s rows = record {
+abbrev pub trace_left : Dialect → ℕ → ℕ → Stage → RowsLeft → TraceLeft
+trace_left d source given s rows = record {
   source = source;
   unread = is_unread s;
   given = given;
-  stream = stream_left s given rows.left;
+  stream = stream_left d s given rows.left;
   ended = has_ended s;
   fault = fault_kept s;
   refused = refused_in rows;

@@ -7,7 +7,9 @@ ghost use Rattle.rv_trace.specs.Chunks.{IsFaultWithin, IsFullOrLast, IsReadingRo
 ghost use Rattle.rv_trace.specs.Chunks.{IsTakingRow, TakesEvents, fresh_chunks};
 ghost use Rattle.rv_trace.specs.Faults.{NeverCsv};
 ghost use Rattle.rv_trace.specs.Trace.{IsWhole};
+ghost use Rattle.rv_trace.specs.declared.dialect.Dialect.TheVariants.{Plain};
 
+use crate::dialect::Dialect;
 use crate::fault::{FaultKind, TraceFault};
 use crate::trace::Trace;
 use rv_chunk::{Chunk, pack};
@@ -98,16 +100,24 @@ fn take_events<R: Read>(alloc: Global, trace: &mut Trace<R>) -> Result<Vec<Event
 }
 
 impl<R: Read> Chunks<R> {
-    /// The chunks of what `reader` gives, as those of the source of that number. It reads nothing
-    /// and takes no memory.
+    /// The chunks of what `reader` gives, as those of the source of that number, below 8. A row `I`
+    /// is none. It reads nothing and takes no memory.
     pub fn new(alloc: Global, reader: R, source: u8) -> Chunks<R>
         requires { source < 8 }
-        ensures { result ≡ fresh_chunks source (R.remaining reader) }
+        ensures { result ≡ fresh_chunks Plain source (R.remaining reader) }
+    {
+        Chunks::with_dialect(alloc, reader, source, Dialect::Plain)
+    }
+
+    /// The same, where the rows are of this dialect.
+    pub fn with_dialect(alloc: Global, reader: R, source: u8, dialect: Dialect) -> Chunks<R>
+        requires { source < 8 }
+        ensures { result ≡ fresh_chunks dialect source (R.remaining reader) }
     {
         Chunks {
             alloc,
             source,
-            trace: Trace::new(alloc, reader, source),
+            trace: Trace::with_dialect(alloc, reader, source, dialect),
             number: 0,
             fault: None,
         }

@@ -1,6 +1,7 @@
 //! The rows of a CSV text as events, one at a time ([`Trace`]) or eight to a chunk ([`Chunks`]).
 //!
 //! - [`fault`]: what is wrong with a source, and in which row.
+//! - [`dialect`]: which operations a trace may have.
 //! - `number`, `operation`, `dependency`, `row`: what one record says: an event, or its first fault
 //!   from the left.
 //! - `counted`, `rows`: the records of a reader that may take no more than so many bytes and calls.
@@ -17,6 +18,7 @@
 mod chunks;
 mod counted;
 mod dependency;
+mod dialect;
 mod fault;
 mod laws;
 mod number;
@@ -26,6 +28,7 @@ mod rows;
 mod trace;
 
 pub use chunks::Chunks;
+pub use dialect::Dialect;
 pub use fault::{FaultKind, TraceFault};
 pub use laws::{texts_tell_events, written_traces_are_read};
 pub use trace::Trace;

@@ -4,6 +4,7 @@ ghost use Rattle.rv_trace.specs.Faults.{is_of_text};
 ghost use Rattle.rv_trace.specs.Operations.{annotated, bare, fence_sets, mnemonic, ordered};
 ghost use Rattle.rv_trace.specs.Steps.{Gives};
 
+use crate::dialect::Dialect;
 use crate::fault::FaultKind;
 use rv_event::{Op, Set};
 
@@ -45,6 +46,8 @@ pub enum Mnemonic {
     FenceTso,
     /// `BR`.
     Branch,
+    /// `I`.
+    Carrier,
 }
 
 impl Mnemonic {
@@ -88,14 +91,18 @@ impl Mnemonic {
             },
             Mnemonic::Fence | Mnemonic::FenceTso => none,
             Mnemonic::Branch => Columns { ctrl: true, ..none },
+            Mnemonic::Carrier => Columns {
+                data_of: true,
+                ..none
+            },
         }
     }
 }
 
-/// The operation that a text names.
+/// The operation that a text names in this dialect.
 #[tactic(auto, unfolding(crate::specs::Operations::mnemonic))]
-pub fn mnemonic_of(text: &[u8]) -> Result<Mnemonic, FaultKind>
-    ensures value { Gives result (mnemonic text.now) }
+pub fn mnemonic_of(dialect: Dialect, text: &[u8]) -> Result<Mnemonic, FaultKind>
+    ensures value { Gives result (mnemonic dialect text.now) }
     ensures kind { IfErr result (λ k. is_of_text k ≡ true) }
 {
     match text {
@@ -108,6 +115,7 @@ pub fn mnemonic_of(text: &[u8]) -> Result<Mnemonic, FaultKind>
         b"F" => Ok(Mnemonic::Fence),
         b"FT" => Ok(Mnemonic::FenceTso),
         b"BR" => Ok(Mnemonic::Branch),
+        b"I" if dialect.has_carriers() => Ok(Mnemonic::Carrier),
         _ => Err(FaultKind::Op),
     }
 }
@@ -182,5 +190,6 @@ pub fn annotated_of(name: Mnemonic, text: &[u8]) -> Result<(Op, bool, bool), Fau
         },
         Mnemonic::FenceTso => bare_of(Op::FenceTso, text),
         Mnemonic::Branch => bare_of(Op::Branch, text),
+        Mnemonic::Carrier => bare_of(Op::Carrier, text),
     }
 }

@@ -7,6 +7,7 @@ ghost use Rattle.rv_trace.specs.Row.{event_of, field};
 ghost use Rattle.rv_trace.specs.Steps.{GivesOrMemory};
 
 use crate::dependency::dependencies_of;
+use crate::dialect::Dialect;
 use crate::fault::FaultKind;
 use crate::number::{number_of, value_of};
 use crate::operation::{annotated_of, mnemonic_of};
@@ -24,7 +25,7 @@ pub fn field_of(row: &ByteRecord, i: usize) -> &[u8]
     }
 }
 
-/// What a record says: its event, or its first fault from the left.
+/// What a record says in this dialect: its event, or its first fault from the left.
 ///
 /// # Errors
 /// The first check that fails, in the order: the number of fields, `hart`, `seq`, `op`, `word`,
@@ -32,8 +33,8 @@ pub fn field_of(row: &ByteRecord, i: usize) -> &[u8]
 /// of dependencies could not be had.
 #[inline(always)]
 #[tactic(auto, unfolding(crate::specs::Row::event_of, crate::specs::Row::eight))]
-pub fn event_of_row(alloc: Global, row: &ByteRecord) -> Result<Event, FaultKind>
-    ensures value { GivesOrMemory result (event_of (fields_of row.now)) }
+pub fn event_of_row(alloc: Global, dialect: Dialect, row: &ByteRecord) -> Result<Event, FaultKind>
+    ensures value { GivesOrMemory result (event_of dialect (fields_of row.now)) }
     ensures kind { IfErr result IsOfTextOrMemory }
     ensures packable { IfOk result IsPackable }
 {
@@ -42,7 +43,7 @@ pub fn event_of_row(alloc: Global, row: &ByteRecord) -> Result<Event, FaultKind>
     }
     let hart = number_of(field_of(row, 0), 255)?;
     let seq = number_of(field_of(row, 1), u32::MAX)?;
-    let name = mnemonic_of(field_of(row, 2))?;
+    let name = mnemonic_of(dialect, field_of(row, 2))?;
     let columns = name.columns();
     let word = value_of(columns.word, field_of(row, 3))?;
     let read = value_of(columns.read, field_of(row, 4))?;

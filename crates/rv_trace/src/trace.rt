@@ -7,8 +7,11 @@ ghost use Rattle.rv_trace.specs.Calls.{IfFirst, IfGiven, IsAtEnd, IsReadWhere, O
 ghost use Rattle.rv_trace.specs.Faults.{NeverCsv};
 ghost use Rattle.rv_trace.specs.Row.{field};
 ghost use Rattle.rv_trace.specs.Source.{is_header, records_say, rows_say};
-ghost use Rattle.rv_trace.specs.Trace.{GoesOn, IsAtRow, IsFaultOf, IsWhole, TakesEvent, fresh_trace, refused_in};
+ghost use Rattle.rv_trace.specs.declared.dialect.Dialect.TheVariants.{Plain};
+ghost use Rattle.rv_trace.specs.Trace.{GoesOn, IsAtRow, IsFaultOf, IsWhole, TakesEvent};
+ghost use Rattle.rv_trace.specs.Trace.{fresh_trace, refused_in};
 
+use crate::dialect::Dialect;
 use crate::fault::{FaultKind, TraceFault};
 use crate::row::{event_of_row, field_of};
 use crate::rows::Rows;
@@ -43,6 +46,7 @@ enum Stage {
 pub struct Trace<R: Read> {
     alloc: Global,
     source: u8,
+    dialect: Dialect,
     rows: Rows<R>,
     given: u32,
     stage: Stage,
@@ -53,7 +57,7 @@ impl<R: Read> Model for Trace<R> {
 
     ghost Value = { TraceLeft };
 
-    ghost view = { λ a. trace_left a.source a.given a.stage a.rows };
+    ghost view = { λ a. trace_left a.dialect a.source a.given a.stage a.rows };
 
     ghost invariant = { λ a. InStage a.stage a.given a.rows };
 }
@@ -80,14 +84,16 @@ fn is_header(row: &ByteRecord) -> bool
         && field_is(row, 7, b"deps")
 }
 
-/// Reads the header.
-fn take_header<R: Read>(rows: &mut Rows<R>) -> Result<(), TraceFault>
+/// Reads the header. What comes behind it is of this dialect.
+fn take_header<R: Read>(dialect: Dialect, rows: &mut Rows<R>) -> Result<(), TraceFault>
     requires { rows.old.stopped ≡ false }
     ensures header { OnOk result
-        (GoesOn (option_map records_say rows.old.left) (option_map (rows_say 1) rows.new.left)) }
+        (GoesOn
+        (option_map (records_say dialect) rows.old.left)
+        (option_map (rows_say dialect 1) rows.new.left)) }
     ensures goes { OnOk result (rows.new.stopped ≡ false) }
     ensures good { OnOk result (rows.new.failed ≡ false) }
-    ensures fault { IfErr result (IsFaultOf (option_map records_say rows.old.left)) }
+    ensures fault { IfErr result (IsFaultOf (option_map (records_say dialect) rows.old.left)) }
     ensures row { IfErr result (λ f. f.row ≡ 0) }
     ensures read { IfErr result (IsReadWhere (refused_in rows.new)) }
 {
@@ -111,6 +117,7 @@ fn take_header<R: Read>(rows: &mut Rows<R>) -> Result<(), TraceFault>
 #[inline(always)]
 fn take_row<R: Read>(
     alloc: Global,
+    dialect: Dialect,
     rows: &mut Rows<R>,
     given: u32,
 ) -> Result<Option<Event>, TraceFault>
@@ -118,14 +125,14 @@ fn take_row<R: Read>(
     requires given { given ≤ MAX_ROWS }
     ensures event { IfGiven result
         (TakesEvent
-        (option_map (rows_say (given + 1)) rows.old.left)
-        (option_map (rows_say (given + 2)) rows.new.left)) }
+        (option_map (rows_say dialect (given + 1)) rows.old.left)
+        (option_map (rows_say dialect (given + 2)) rows.new.left)) }
     ensures packable { IfGiven result IsPackable }
     ensures goes { IfGiven result (λ _. rows.new.stopped ≡ false) }
     ensures few { IfGiven result (λ _. given < MAX_ROWS) }
-    ensures whole { OnEnd result (IsWhole (option_map (rows_say (given + 1)) rows.old.left)) }
+    ensures whole { OnEnd result (IsWhole (option_map (rows_say dialect (given + 1)) rows.old.left)) }
     ensures good { OnOk result (rows.new.failed ≡ false) }
-    ensures fault { IfErr result (IsFaultOf (option_map (rows_say (given + 1)) rows.old.left)) }
+    ensures fault { IfErr result (IsFaultOf (option_map (rows_say dialect (given + 1)) rows.old.left)) }
     ensures row { IfErr result (λ f. f.row ≡ given + 1) }
     ensures read { IfErr result (IsReadWhere (refused_in rows.new)) }
 {
@@ -138,7 +145,7 @@ fn take_row<R: Read>(
                     row,
                 });
             }
-            match event_of_row(alloc, rows.row()) {
+            match event_of_row(alloc, dialect, rows.row()) {
                 Ok(event) => Ok(Some(event)),
                 Err(kind) => Err(TraceFault { kind, row }),
             }
@@ -149,15 +156,24 @@ fn take_row<R: Read>(
 }
 
 impl<R: Read> Trace<R> {
-    /// The events of what `reader` gives, as those of the source of that number. It reads nothing
-    /// and takes no memory.
+    /// The events of what `reader` gives, as those of the source of that number, below 8. A row
+    /// `I` is none. It reads nothing and takes no memory.
     pub fn new(alloc: Global, reader: R, source: u8) -> Trace<R>
         requires { source < 8 }
-        ensures { result ≡ fresh_trace source (R.remaining reader) }
+        ensures { result ≡ fresh_trace Plain source (R.remaining reader) }
+    {
+        Trace::with_dialect(alloc, reader, source, Dialect::Plain)
+    }
+
+    /// The same, where the rows are of this dialect.
+    pub fn with_dialect(alloc: Global, reader: R, source: u8, dialect: Dialect) -> Trace<R>
+        requires { source < 8 }
+        ensures { result ≡ fresh_trace dialect source (R.remaining reader) }
     {
         Trace {
             alloc,
             source,
+            dialect,
             rows: Rows::new(alloc, reader),
             given: 0,
             stage: Stage::Start,
@@ -207,7 +223,7 @@ impl<R: Read> Trace<R> {
             Stage::Failed(fault) => return Err(fault),
             Stage::Ended => return Ok(None),
             Stage::Start => {
-                if let Err(fault) = take_header(&mut self.rows) {
+                if let Err(fault) = take_header(self.dialect, &mut self.rows) {
                     self.stage = Stage::Failed(fault);
                     return Err(fault);
                 }
@@ -215,7 +231,7 @@ impl<R: Read> Trace<R> {
             }
             Stage::Rows => {}
         }
-        let taken = take_row(self.alloc, &mut self.rows, self.given);
+        let taken = take_row(self.alloc, self.dialect, &mut self.rows, self.given);
         match &taken {
             Ok(Some(_)) => self.given += 1,
             Ok(None) => self.stage = Stage::Ended,

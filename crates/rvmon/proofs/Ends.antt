@@ -7,8 +7,9 @@ use Rattle.std.proofs.lemmas.Bool.{false≢true}
 use Rattle.std.proofs.lemmas.List.{length-map, get_or-map, map-append, take_more}
 use Rattle.std.proofs.lemmas.Simd.{map-map}
 use Rattle.clap.specs.Words.{Text}
-use Rattle.rv_trace.specs.Source.{source_says}
-use Rattle.rv_run.specs.Sources.{IsFaultAmong, streams_of}
+use Rattle.rv_trace.specs.Source.{bytes_say}
+use Rattle.rv_trace.specs.declared.dialect.Dialect.{Dialect}
+use Rattle.rv_run.specs.Sources.{IsFaultAmong, streams_in}
 use Rattle.rv_run.specs.declared.fault.RunFault.TheVariants as fault
 use Rattle.rv_run.specs.Ranges.{IsOutOfRange}
 use Rattle.rv_run.specs.declared.running.Settings.{Settings}
@@ -67,10 +68,12 @@ unopened_among names k name within is (NotOpened other) h = (
 )
 
 -- what the readers of the sources asked for say
-pub streams_are : {I : Type 0} (remaining : I → Option (List ℕ)) (inputs : List I) (bytes : List (Option (List ℕ))) →
-    map remaining inputs ≡ bytes → streams_of remaining inputs ≡ map (option_map source_says) bytes
-streams_are remaining inputs bytes is = sym (map-map (option_map source_says) remaining inputs)
-    ∙ ap (map (option_map source_says)) is
+pub streams_are : {I : Type 0} (read asked : Dialect) (remaining : I → Option (List ℕ)) (inputs : List I)
+    (bytes : List (Option (List ℕ))) → read ≡ asked →
+    map remaining inputs ≡ bytes → streams_in read remaining inputs ≡ map (option_map (bytes_say asked)) bytes
+streams_are read asked remaining inputs bytes same is =
+    ap (λ (d : Dialect). streams_in d remaining inputs) same
+    ∙ (sym (map-map (option_map (bytes_say asked)) remaining inputs) ∙ ap (map (option_map (bytes_say asked))) is)
 
 -- where there are files, they are the sources
 pub files_asked : (known : Text → Option (List ℕ)) (names : List (String Global)) →

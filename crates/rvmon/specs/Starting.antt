@@ -1,10 +1,12 @@
 -- How the program comes to its end: which of its steps each ending is of.
 use Rattle.std.specs.Prelude.{◌≡◌, ◌≢◌, ◌⊎◌, ℕ, List, [], ◌∷◌, Bool, Option, None, Ok, Err, map, option_map}
-use Rattle.std.specs.Prelude.{String, string_bytes, ⊤}
+use Rattle.std.specs.Prelude.{String, string_bytes, ⊤, if◌then◌else◌}
 use Rattle.std.specs.Global.{Global}
 use Rattle.std.specs.List.{Contains}
 use Rattle.clap.specs.Words.{Text}
-use Rattle.rv_trace.specs.Source.{Stream, source_says}
+use Rattle.rv_trace.specs.Source.{Stream, bytes_say}
+use Rattle.rv_trace.specs.declared.dialect.Dialect.{Dialect}
+use Rattle.rv_trace.specs.declared.dialect.Dialect.TheVariants.{Plain, Carriers}
 use Rattle.rv_run.specs.Sources.{IsTrueOf, IsFaultAmong}
 use Rattle.rv_run.specs.declared.fault.RunFault.TheVariants as fault
 use Rattle.rv_cli.specs.Answers.{AnswersTo}
@@ -43,9 +45,13 @@ abbrev pub bytes_asked : (Text → Option (List ℕ)) → List (String Global) �
 bytes_asked known [] = None ∷ []
 bytes_asked known (name ∷ names) = map (λ n. known (string_bytes n)) (name ∷ names)
 
+-- the dialect of their rows
+abbrev pub dialect_asked : Asked → Dialect
+dialect_asked asked = if asked.carriers then Carriers else Plain
+
 -- what they say
 abbrev pub streams_asked : (Text → Option (List ℕ)) → Asked → List (Option Stream)
-streams_asked known asked = map (option_map source_says) (bytes_asked known asked.files.items)
+streams_asked known asked = map (option_map (bytes_say (dialect_asked asked))) (bytes_asked known asked.files.items)
 
 -- as of the files of a system, of whose bytes nothing is known
 abbrev pub nothing_known : Text → Option (List ℕ)

@@ -12,8 +12,9 @@
 #![tactic(auto)]
 
 ghost use Rattle.clap.specs.Walk.{texts};
+ghost use Rattle.std.specs.Prelude.{◌≡◌};
 ghost use Rattle.rv_cli.specs.Asked.{IsInRange};
-ghost use Rattle.rvmon.specs.Starting.{EndsAsked, EndsBy, IsEnd, nothing_known};
+ghost use Rattle.rvmon.specs.Starting.{EndsAsked, EndsBy, IsEnd, dialect_asked, nothing_known};
 
 mod ending;
 #[cfg(test)]
@@ -27,12 +28,24 @@ use ending::{Ending, settle};
 use opening::{Opened, Opener, SystemFiles, first_unopened, open_all};
 use rv_cli::{Asked, asked};
 use rv_pipe::Bell;
-use rv_run::{RunFault, Settings, run_with_bell};
+use rv_run::{Reading, RunFault, Settings, run_reading};
+use rv_trace::Dialect;
 use std::io;
 use std::process::ExitCode;
 use std::sync::{Arc, Wait};
 use std::thread::Threads;
 use words::{texts_of, words_of};
+
+/// Which rows the sources may have that are asked for.
+fn dialect_of(asked: &Asked) -> Dialect
+    ensures { result ≡ dialect_asked asked.now }
+{
+    if asked.carriers {
+        Dialect::Carriers
+    } else {
+        Dialect::Plain
+    }
+}
 
 /// What comes of a request. Its files are those of the opener, and are judged in threads of the
 /// second handle. A source that may be silent is read in a thread that is left behind where the
@@ -59,7 +72,11 @@ fn answer<RT: Threads + Wait + Sync + Copy + Send + 'static, O: Opener>(
         slots: asked.slots,
         model: asked.model,
     };
-    match run_with_bell(threads, rt.alloc(), inputs, settings, &bell) {
+    let reading = Reading {
+        dialect: dialect_of(asked),
+        bell: &bell,
+    };
+    match run_reading(threads, rt.alloc(), inputs, settings, reading) {
         Ok(outcome) => Ending::Ran(outcome),
         Err(fault) => match first_unopened(rt.alloc(), threads, names, pipes.as_slice()) {
             Some(ending) => ending,

@@ -1,18 +1,27 @@
 //! Single rows: each field and each operation, and what a fault prints.
 use super::readers::HEADER;
 use rv_event::{Dep, DepKind, Event, Id, Op, Set};
-use rv_trace::{FaultKind, Trace, TraceFault};
+use rv_trace::{Dialect, FaultKind, Trace, TraceFault};
 use std::alloc::Global;
 use std::test::Fail;
 
-/// The event of one row.
-fn event_of(alloc: Global, row: &str) -> Result<Event, Fail> {
+/// What a trace of one row gives in the dialect.
+fn first_in(
+    alloc: Global,
+    dialect: Dialect,
+    row: &str,
+) -> Result<Result<Option<Event>, TraceFault>, Fail> {
     let text = format!(in alloc; "{HEADER}{row}")?;
-    let mut trace = Trace::new(alloc, text.as_str().as_bytes(), 7);
+    let mut trace = Trace::with_dialect(alloc, text.as_str().as_bytes(), 7, dialect);
     let next = trace.next_event();
     drop(trace);
     drop(text);
-    match next {
+    Ok(next)
+}
+
+/// The event of one row.
+fn event_of(alloc: Global, row: &str) -> Result<Event, Fail> {
+    match first_in(alloc, Dialect::Plain, row)? {
         Ok(Some(event)) => Ok(event),
         _ => Err("no event")?,
     }
@@ -67,6 +76,29 @@ fn every_operation_is_known(rt: HostRuntime) -> Result<(), Fail> {
         let bits = (event.acquire, event.release);
         assert!(rt; bits == (acquire, release), "at {row}");
         drop(event);
+    }
+    Ok(())
+}
+
+#[test]
+fn a_carrier_is_known_where_the_dialect_has_it(rt: HostRuntime) -> Result<(), Fail> {
+    let Ok(Some(event)) = first_in(rt.alloc(), Dialect::Carriers, "0,9,I,,,,,d0 d8")? else {
+        return Err("no carrier")?;
+    };
+    assert_eq!(rt; event.op, Op::Carrier);
+    assert_eq!(rt; event.deps.as_slice().len(), 2);
+    drop(event);
+    for (dialect, row, kind) in [
+        (Dialect::Plain, "0,9,I,,,,,d0 d8", FaultKind::Op),
+        (Dialect::Carriers, "0,9,I,1,,,,d0", FaultKind::NotBlank),
+        (Dialect::Carriers, "0,9,I,,,,A,d0", FaultKind::Annotation),
+        (Dialect::Carriers, "0,9,I,,,,,a0", FaultKind::Dependency),
+        (Dialect::Carriers, "0,9,i,,,,,d0", FaultKind::Op),
+    ] {
+        match first_in(rt.alloc(), dialect, row)? {
+            Err(fault) => assert_eq!(rt; fault, TraceFault { kind, row: 1 }, "at {row}"),
+            Ok(_) => return Err("no fault")?,
+        }
     }
     Ok(())
 }

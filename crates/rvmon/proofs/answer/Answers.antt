@@ -6,7 +6,7 @@ use Rattle.rv_run.specs.declared.fault.RunFault.{RunFault}
 use Rattle.rv_run.specs.declared.fault.RunFault.TheVariants as fault
 use Rattle.rv_run.specs.declared.running.Settings.{Settings}
 use Rattle.rv_trace.specs.Source.{Stream}
-use Rattle.rvmon.specs.Starting.{bytes_asked}
+use Rattle.rvmon.specs.Starting.{bytes_asked, dialect_asked}
 use Rattle.rvmon.specs.declared.ending.Ending.TheVariants.{Failed}
 use Rattle.rvmon.proofs.Ends.{count_asked, ends_unopened, in_range, streams_are}
 use Rattle.rvmon.proofs.answer.Goals as goal
@@ -18,14 +18,14 @@ returns-in_default g c =
 pub returns-in-Err : goal.returns-in-Err
 returns-in-Err g c = search (ends_unopened, string_bytes, rules)
 
-pub returns-in-Ok-run_with_bell : goal.returns-in-Ok-run_with_bell
-returns-in-Ok-run_with_bell g c =
+pub returns-in-Ok-run_reading : goal.returns-in-Ok-run_reading
+returns-in-Ok-run_reading g c =
     let known = g.O.Opener.known c.args.opener.now in
     let asked = c.args.asked.now in
     let opened = c.in-Ok-open_all.ensures.opened ∙ ap (bytes_asked known) c.as_slice-names.ensures.value in
-    let ran = c.in-Ok-run_with_bell.ensures in
-    subst (λ (ss : List (Option Stream)). IsTrueOf asked.model ss c.in-Ok-run_with_bell.outcome)
-    (streams_are _ c.in-Ok-open_all.opened.inputs.items _ opened)
+    let ran = c.in-Ok-run_reading.ensures in
+    subst (λ (ss : List (Option Stream)). IsTrueOf asked.model ss c.in-Ok-run_reading.outcome)
+    (streams_are _ (dialect_asked asked) _ c.in-Ok-open_all.opened.inputs.items _ c.dialect_of.ensures opened)
     (record { allowed = ran.allowed; forbidden = ran.forbidden; malformed = ran.malformed })
 
 pub returns : goal.returns
@@ -37,7 +37,8 @@ returns g c =
     let many = sym (length-map c.in-Ok-open_all.opened.inputs.items _) ∙ ap length opened
     ∙ count_asked known asked.files.items in (
       λ is. in_range asked _ settings c.requires (c.in-Ok-open_all.opened.inputs.ok.0 ∙ many) refl refl
-          (c.run_with_bell.ensures.settings.0 (c.in-Err-run_with_bell.is ∙ ap (λ (f : RunFault). Err f) is)),
-      subst (λ (ss : List (Option Stream)). IsFaultAmong ss c.in-Err-run_with_bell.fault)
-          (streams_are _ c.in-Ok-open_all.opened.inputs.items _ opened) c.in-Err-run_with_bell.ensures.fault,
+          (c.run_reading.ensures.settings.0 (c.in-Err-run_reading.is ∙ ap (λ (f : RunFault). Err f) is)),
+      subst (λ (ss : List (Option Stream)). IsFaultAmong ss c.in-Err-run_reading.fault)
+          (streams_are _ (dialect_asked asked) _ c.in-Ok-open_all.opened.inputs.items _ c.dialect_of.ensures opened)
+          c.in-Err-run_reading.ensures.fault,
     )

@@ -9,7 +9,8 @@ returns-clause-answer c =
       workers = c.workers_in.result;
       slots = c.slots_in.result;
       model = c.model_in.result;
-      json = c.json_in.result;
+      json = c.flag_in.result;
+      carriers = c.flag_in-2.result;
       files = c.in_ok-files.files;
     } in
     let says : SaysAsked (rows_of (found_of c.in_ok-matches.matches)) asked =

@@ -1,14 +1,14 @@
-use Rattle.rv_run.proofs.Common.{List, IfOk, IfErr, option_map, rules, subst, source_says, AgreesWith, IsFaultIn}
+use Rattle.rv_run.proofs.Common.{List, IfOk, IfErr, option_map, rules, subst, bytes_say, AgreesWith, IsFaultIn}
 use Rattle.rv_run.proofs.Common.{Fed}
 use Rattle.rv_run.proofs.Outcomes.{IsAnswer, answer-true}
-use Rattle.rv_run.specs.Sources.{streams_of}
+use Rattle.rv_run.specs.Sources.{streams_in}
 use Rattle.rv_run.proofs.running.run_in.Goals as goal
 
 pub returns : goal.returns
 returns g c =
-    let answer : IsAnswer c.args.settings.model (streams_of g.R.Read.remaining c.args.readers.items)
-    c.judge-outcome.result =
-    answer-true (λ r. option_map source_says (g.R.Read.remaining r)) c.args.readers.items
+    let answer : IsAnswer c.args.settings.model
+    (streams_in c.args.reading.dialect g.R.Read.remaining c.args.readers.items) c.judge-outcome.result =
+    answer-true (λ r. option_map (bytes_say c.args.reading.dialect) (g.R.Read.remaining r)) c.args.readers.items
     c.in_ok-driven.driven.fed.items c.args.settings.model c.judge-outcome.result
     (search rules) c.in_ok-driven.ensures.fed.0 c.in_ok-driven.ensures.fed.1
     (subst (λ (fed : List Fed). IfOk c.judge-outcome.result (AgreesWith c.args.settings.model fed))
@@ -22,5 +22,5 @@ returns g c =
       settings = search rules;
     }
 
-pub drive-requires-clause-fits : goal.drive-requires-clause-fits
-drive-requires-clause-fits g c κs bounds k d low = rw c.new-step.ensures.carrier (c.requires.fits k d low)
+pub drive_shared-requires-clause-fits : goal.drive_shared-requires-clause-fits
+drive_shared-requires-clause-fits g c κs bounds k d low = rw c.new-step.ensures.carrier (c.requires.fits k d low)

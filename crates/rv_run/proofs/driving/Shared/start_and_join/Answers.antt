@@ -1,4 +1,4 @@
-use Rattle.rv_run.proofs.Common.{get_or, option_map, arith, ap, ◌∙◌, subst, source_says, IsFedOf}
+use Rattle.rv_run.proofs.Common.{get_or, option_map, arith, ap, ◌∙◌, subst, bytes_say, IsFedOf}
 use Rattle.rv_run.proofs.driving.Shared.start_and_join.Goals as goal
 
 -- What a joined thread gave keeps the promise of its handle, which was made of its reader, or of
@@ -9,9 +9,13 @@ returns-clause-fed g c = (
   λ i r f below.
       let one = (c.in_ok-fed.ensures.each i f
       (omega (arith, below, c.in_ok-feeders.ensures.len, c.args.readers.ok.0))).1 in
-      subst (λ x. IsFedOf (option_map source_says (g.R.Read.remaining x)) (get_or c.in_ok-fed.fed.items i f))
-      (ap (λ h. h.promise.0.value) one.handle_is ∙ c.in_ok-feeders.ensures.each i one.handle r
-      (omega (arith, below, c.args.readers.ok.0))) one.kept,
+      let is = c.in_ok-feeders.ensures.each i one.handle r (omega (arith, below, c.args.readers.ok.0)) in
+      subst (λ x. IsFedOf (option_map (bytes_say c.args.self.now.dialect) (g.R.Read.remaining x))
+      (get_or c.in_ok-fed.fed.items i f))
+      (ap (λ h. h.promise.0.value) one.handle_is ∙ is.0)
+      (subst (λ d. IsFedOf (option_map (bytes_say d) (g.R.Read.remaining one.handle.promise.0.value))
+      (get_or c.in_ok-fed.fed.items i f))
+      (ap (λ h. h.promise.1.value) one.handle_is ∙ is.1) one.kept),
 )
 
 pub returns-clause-served : goal.returns-clause-served

@@ -12,12 +12,23 @@ loop-reader-preserved g c =
     let grown : vec_len c.push.new.self ≡ done + 1 = search rules in (
       search rules,
       (λ k d below. let h = was.1 (k + 1) d in grind rules),
-      (λ k h r below. below_more (λ i. (get_or all i h).promise.0.value ≡ get_or readers i r) done
-          (λ i low. ap (λ x. x.promise.0.value) (places.0 i h low) ∙ was.2 i h r low)
+      (λ k h r below. below_more (λ i. ((get_or all i h).promise.0.value ≡ get_or readers i r) ×
+          ((get_or all i h).promise.1.value ≡ c.args.self.now.dialect)) done
+          (λ i low. let same = places.0 i h low in let kept = was.2 i h r low in
+          (ap (λ x. x.promise.0.value) same ∙ kept.0, ap (λ x. x.promise.1.value) same ∙ kept.1))
           (let next : c.in-Some.reader ≡ get_or readers done r = let first = was.1 0 r in grind rules in
-          ap (λ x. x.promise.0.value) (places.1 h (search rules)) ∙ (c.in_ok-child.ensures ∙ next))
+          let same = places.1 h (search rules) in (
+            ap (λ x. x.promise.0.value) same ∙ (c.in_ok-child.ensures.0 ∙ next),
+            ap (λ x. x.promise.1.value) same ∙ c.in_ok-child.ensures.1,
+          ))
           k (omega arith)),
       search rules,
       search rules,
       search rules,
     )
+
+-- Each reader was taken, so the child of each is among those that were started.
+pub returns-clause-each : goal.returns-clause-each
+returns-clause-each g c = λ i h r below.
+    let all : vec_len c.loop-reader.children ≡ vec_len c.args.readers = search rules in
+    c.loop-reader.invariant.2 i h r (omega (arith, all, below))
