@@ -7,6 +7,7 @@ mod Collecting
 mod Growing
 mod Longer
 mod Others
+mod Numbering
 mod Numbers
 mod Sets
 mod Setting

@@ -1,5 +1,5 @@
 -- What the rows that carry dependencies stand for.
-use Rattle.std.specs.Prelude.{ℕ, ◌≡◌, ◌≢◌, ◌<◌, ◌≤◌, ◌↔◌, ◌++◌, List, Contains, length}
+use Rattle.std.specs.Prelude.{ℕ, ◌≡◌, ◌≢◌, ◌<◌, ◌≤◌, ◌+◌, ◌↔◌, ◌++◌, List, Contains, length, slice_index_or}
 use Rattle.rv_rows.specs.Bits.{Has}
 use Rattle.rv_flow.specs.declared.carrier.Carrier.{Carrier}
 use Rattle.rv_flow.specs.declared.carrier.PartList.{PartList}
@@ -48,6 +48,12 @@ pub record IsGrown (old : List Carrier) (old_next : ℕ) (new : List Carrier) (n
   pub later : (c : Carrier) → Contains more c → old_next ≤ c.number
   pub next : old_next ≤ new_next
   pub are : AreCarriers new new_next
+
+-- the new carriers are the rows from `old_next` on, in their order
+pub record AreNextRows (old : List Carrier) (old_next : ℕ) (new : List Carrier) (new_next : ℕ) : Type 0 where
+  pub count : new_next + length old ≡ old_next + length new
+  pub each : (i : ℕ) (c : Carrier) → length old ≤ i → i < length new →
+      (slice_index_or new i c).number + length old ≡ old_next + i
 
 -- the numbers are events' before row `next`
 abbrev pub AreEvents : List Carrier → ℕ → List ℕ → Type 0

@@ -2,8 +2,8 @@
 ghost use Rattle.std.specs.Prelude.{ℕ, ◌≡◌, ◌<◌, ◌≤◌, ◌+◌, ◌↔◌, ◌⊎◌, [], if◌then◌else◌, IfOk, OnErr, OnOk};
 ghost use Rattle.std.specs.Prelude.{Contains, IsTrue, length};
 ghost use Rattle.rv_rows.specs.Bits.{Has};
-ghost use Rattle.rv_flow.specs.Carriers.{AreCarriers, AreEvents, AreParts, IsBehind, IsEvent};
-ghost use Rattle.rv_flow.specs.Carriers.{IsGrown, IsList, IsSameSet};
+ghost use Rattle.rv_flow.specs.Carriers.{AreCarriers, AreEvents, AreNextRows, AreParts, IsBehind};
+ghost use Rattle.rv_flow.specs.Carriers.{IsEvent, IsGrown, IsList, IsSameSet};
 
 use crate::carrier::{Carrier, PartList};
 use crate::unlisted::Unlisted;
@@ -113,6 +113,7 @@ impl Carriers {
         requires value { AreEvents self.old.all.items self.old.next value.now }
         ensures kept { OnErr result (IsUnchanged self.old self.new) }
         ensures grown { IsGrown self.old.all.items self.old.next self.new.all.items self.new.next }
+        ensures numbered { AreNextRows self.old.all.items self.old.next self.new.all.items self.new.next }
         ensures lists { IfOk result (AreLists self.new address.now value.now) }
     {
         let carriers = self.all.len();
@@ -131,6 +132,7 @@ impl Carriers {
         requires address { AreEvents self.old.all.items self.old.next address.now }
         requires value { AreEvents self.old.all.items self.old.next value.now }
         ensures grown { IsGrown self.old.all.items self.old.next self.new.all.items self.new.next }
+        ensures numbered { AreNextRows self.old.all.items self.old.next self.new.all.items self.new.next }
         ensures lists { IfOk result (AreLists self.new address.now value.now) }
     {
         let first = self.collect(address)?;
@@ -150,6 +152,7 @@ impl Carriers {
         requires carriers { AreCarriers self.old.all.items self.old.next }
         requires events { AreEvents self.old.all.items self.old.next set.now }
         ensures grown { IsGrown self.old.all.items self.old.next self.new.all.items self.new.next }
+        ensures numbered { AreNextRows self.old.all.items self.old.next self.new.all.items self.new.next }
         ensures list { IfOk result (IsList self.new.all.items self.new.next) }
         ensures events { IfOk result (λ list. IsSameSet list.events set.now) }
     {
@@ -210,6 +213,7 @@ impl Carriers {
         requires event { IsEvent self.old.all.items event }
         requires before { event < self.old.next }
         ensures grown { IsGrown self.old.all.items self.old.next self.new.all.items self.new.next }
+        ensures numbered { AreNextRows self.old.all.items self.old.next self.new.all.items self.new.next }
         ensures list { IfOk result (IsList self.new.all.items self.new.next) }
         ensures events { IfOk result (λ more. (n : ℕ) →
             Has more.events n ↔ (Has list.events n ⊎ (event ≡ n))) }
@@ -226,6 +230,7 @@ impl Carriers {
         requires list { IsList self.old.all.items self.old.next list }
         requires some { IsTrue is_asked → 0 < length list.parts.items }
         ensures grown { IsGrown self.old.all.items self.old.next self.new.all.items self.new.next }
+        ensures numbered { AreNextRows self.old.all.items self.old.next self.new.all.items self.new.next }
         ensures list { IfOk result (IsList self.new.all.items self.new.next) }
         ensures one { IfOk result (λ one. length one.parts.items ≡
             (if is_asked then 1 else length list.parts.items)) }
@@ -243,6 +248,7 @@ impl Carriers {
         requires list { IsList self.old.all.items self.old.next list }
         requires some { 0 < length list.parts.items }
         ensures grown { IsGrown self.old.all.items self.old.next self.new.all.items self.new.next }
+        ensures numbered { AreNextRows self.old.all.items self.old.next self.new.all.items self.new.next }
         ensures list { IfOk result (IsList self.new.all.items self.new.next) }
         ensures one { IfOk result (λ one. length one.parts.items ≡ 1) }
         ensures events { IfOk result (λ one. IsSameSet one.events list.events) }

@@ -43,7 +43,7 @@ impl Model for HartTrace {
 }
 
 impl HartTrace {
-    ghost use Rattle.rv_flow.specs.Carriers.{IsGrown};
+    ghost use Rattle.rv_flow.specs.Carriers.{AreNextRows, IsGrown};
     ghost use Rattle.rv_flow.specs.Flows.{IsSame, with_next};
     ghost use Rattle.rv_flow.specs.Traces.{AddsControl, IsOneRowMore, IsStill, IsTraceOf, ListsNext};
 
@@ -81,6 +81,7 @@ impl HartTrace {
     pub fn lists(&mut self, insn: Insn) -> Result<Lists, Unlisted>
         ensures kept { OnErr result (self.new ≡ self.old) }
         ensures grown { IsGrown self.old.carriers self.old.rows self.new.carriers self.new.rows }
+        ensures numbered { AreNextRows self.old.carriers self.old.rows self.new.carriers self.new.rows }
         ensures still { IsStill self.old self.new }
         ensures lists { IfOk result (ListsNext self.old insn self.new) }
     {

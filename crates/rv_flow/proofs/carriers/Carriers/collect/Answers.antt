@@ -2,6 +2,7 @@ use Rattle.std.proofs.Common.{ℕ, ◌↔◌, List, get_or, Contains, sym, subst
 use Rattle.rv_rows.specs.Bits.{Has}
 use Rattle.rv_flow.proofs.Collecting.{all-events, in-set, one-event}
 use Rattle.rv_flow.proofs.Growing.{event-still, grown-on}
+use Rattle.rv_flow.proofs.Numbering.{numbered-on}
 use Rattle.rv_flow.proofs.Sets.{has-copied}
 use Rattle.rv_flow.proofs.carriers.Carriers.collect.Goals as goal
 
@@ -37,10 +38,16 @@ pub returns-in_err-list-clause-grown : goal.returns-in_err-list-clause-grown
 returns-in_err-list-clause-grown c =
     grown-on c.events.invariant.grown (c.in_err-list.ensures).grown
 
+-- src/carriers.rt:168:20
+pub returns-in_err-list-clause-numbered : goal.returns-in_err-list-clause-numbered
+returns-in_err-list-clause-numbered c =
+    numbered-on c.events.invariant.numbered (c.in_err-list.ensures).numbered (c.in_err-list.ensures).grown
+
 -- src/carriers.rt:153:9
 pub events-preserved : goal.events-preserved
 events-preserved c = record {
   grown = grown-on c.events.invariant.grown (c.in_ok-list.ensures).grown;
+  numbered = numbered-on c.events.invariant.numbered (c.in_ok-list.ensures).numbered (c.in_ok-list.ensures).grown;
   list = (c.in_ok-list.ensures).list;
   events = one-event c.args.set.now c.join.new.self c.new-2.result c.cover.new.list.events c.cover.new.rest
       c.deref-event-items.result.now c.new-2.ensures

@@ -2,6 +2,7 @@ use Rattle.std.proofs.Common.{◌≤◌, ◌+◌, length, arith}
 use Rattle.std.proofs.lemmas.Grind.{common_steps}
 use Rattle.rv_flow.specs.Carriers.{IsList}
 use Rattle.rv_flow.proofs.Growing.{behind-list, events-still, grown-on, list-kept}
+use Rattle.rv_flow.proofs.Numbering.{numbered-on}
 use Rattle.rv_flow.proofs.carriers.Carriers.list_both.Goals as goal
 
 -- src/carriers.rt:128:22
@@ -37,6 +38,31 @@ pub returns-clause-grown : goal.returns-clause-grown
 returns-clause-grown c =
     grown-on c.collect.ensures.grown
     (grown-on c.collect-2.ensures.grown (grown-on c.fold_if.ensures.grown c.fold_if-2.ensures.grown))
+
+-- src/carriers.rt:141:22
+pub returns-in_err-second-2-clause-numbered : goal.returns-in_err-second-2-clause-numbered
+returns-in_err-second-2-clause-numbered c =
+    numbered-on
+    (numbered-on c.collect.ensures.numbered c.collect-2.ensures.numbered c.collect-2.ensures.grown)
+    c.fold_if.ensures.numbered c.fold_if.ensures.grown
+
+-- src/carriers.rt:143:21
+pub returns-in_err-first-2-clause-numbered : goal.returns-in_err-first-2-clause-numbered
+returns-in_err-first-2-clause-numbered c =
+    numbered-on
+    (numbered-on
+    (numbered-on c.collect.ensures.numbered c.collect-2.ensures.numbered c.collect-2.ensures.grown)
+    c.fold_if.ensures.numbered c.fold_if.ensures.grown)
+    c.fold_if-2.ensures.numbered c.fold_if-2.ensures.grown
+
+-- src/carriers.rt:130:5
+pub returns-clause-numbered : goal.returns-clause-numbered
+returns-clause-numbered c =
+    numbered-on
+    (numbered-on
+    (numbered-on c.collect.ensures.numbered c.collect-2.ensures.numbered c.collect-2.ensures.grown)
+    c.fold_if.ensures.numbered c.fold_if.ensures.grown)
+    c.fold_if-2.ensures.numbered c.fold_if-2.ensures.grown
 
 -- src/carriers.rt:120:5
 pub returns-clause-lists : goal.returns-clause-lists
