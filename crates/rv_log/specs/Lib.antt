@@ -1,0 +1,4 @@
+pub mod Accesses
+pub mod Numbers
+pub mod Records
+pub mod Steps
