@@ -8,7 +8,10 @@ use Rattle.rv_flow.specs.declared.carrier.Carrier.{Carrier}
 
 -- without new carriers and rows there are none to number
 pub none-numbered : (all : List Carrier) (next : ℕ) → AreNextRows all next all next
-none-numbered all next = record { count = omega arith; each = λ i c after before. absurd (omega (after, before, arith)) }
+none-numbered all next = record {
+  count = omega arith;
+  each = λ i c after before. absurd (omega (after, before, arith));
+}
 
 -- one carrier more, which is the next row
 pub one-numbered : (all new : List Carrier) (next : ℕ) (carrier : Carrier) → carrier.number ≡ next →

@@ -1,5 +1,5 @@
 -- What a record says, or its first fault from the left.
-use Rattle.std.specs.Prelude.{ℕ, ◌==◌, ◌^◌, ◌-◌, List, [], length, Bool, true, false, Option, Some, None, Result, Ok, Err}
+use Rattle.std.specs.Prelude.{ℕ, ◌==◌, List, [], length, Bool, true, false, Option, Result, Ok, Err}
 use Rattle.std.specs.Prelude.{nat_lt, if◌then◌else◌, is_some, unwrap_or, option_map, codes, bytes_eq, slice_index_or}
 use Rattle.csv.specs.Records.{field_at}
 use Rattle.rv_insn.specs.Decoding.{decoded}
@@ -47,6 +47,10 @@ address_form = hexadecimal 16 18446744073709551615
 abbrev pub time_form : Form
 time_form = decimal 9223372036854775808
 
+-- an order that is to be this one, else a fault
+abbrev pub order_is : ℕ → RecordFault → ℕ → Result ℕ RecordFault
+order_is wanted fault order = if order == wanted then Ok order else Err fault
+
 -- an instruction that is known
 abbrev pub instruction : Result Insn Undecoded → Result Insn RecordFault
 instruction (Ok insn) = Ok insn
@@ -67,7 +71,7 @@ unfoldable pub retired : Width → Before → Fields → Result Record RecordFau
 retired width before fields = do
   hart ← hart_said (field fields 1)
   order ← order_said (field fields 2)
-  next ← (if order == slice_index_or before.retired hart 0 then Ok order else Err (fault.Order (slice_index_or before.retired hart 0)))
+  _ ← order_is (slice_index_or before.retired hart 0) (fault.Order (slice_index_or before.retired hart 0)) order
   pc ← number address_form Pc (field fields 3)
   bits ← number (hexadecimal 8 4294967295) Word (field fields 4)
   insn ← bits_said width bits
@@ -77,7 +81,7 @@ retired width before fields = do
   time ← optional true time_form Time (field fields 8)
   Ok (record_is.Retired (record {
     hart = hart;
-    order = next;
+    order = order;
     pc = pc;
     bits = bits;
     insn = insn;
@@ -106,7 +110,7 @@ unfoldable pub ended : Before → Fields → Result Record RecordFault
 ended before fields = do
   _ ← blank Hart (field fields 1)
   order ← order_said (field fields 2)
-  _ ← (if order == before.records then Ok order else Err fault.End)
+  _ ← order_is before.records fault.End order
   _ ← blank Pc (field fields 3)
   _ ← blank Word (field fields 4)
   _ ← blank Addr (field fields 5)

@@ -1,6 +1,5 @@
-use Rattle.std.proofs.Common.{◌≡◌, ◌≤◌, ◌<◌, ◌+◌, ◌*◌, get_or, refl, sym, subst, arith, rules}
+use Rattle.std.proofs.Common.{◌+◌, refl, subst, arith}
 use Rattle.std.proofs.lemmas.Grind.{common_steps}
-use Rattle.std.specs.Char.{digit_value}
 use Rattle.rv_log.proofs.Digits.{SaysSo, digit-more, digits-end, no-fit}
 use Rattle.rv_log.proofs.number.digits.Goals as goal
 
