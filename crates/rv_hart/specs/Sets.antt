@@ -1,6 +1,6 @@
 -- What a hart keeps of its events in rows that grow with them.
 use Rattle.std.specs.Prelude.{ℕ, ◌≡◌, ◌<◌, ◌≤◌, ◌↔◌, ◌⊎◌, ◌||◌, List, length, Contains, All, Any, IsTrue, IsFalse}
-use Rattle.std.specs.Prelude.{Option, Some, None}
+use Rattle.std.specs.Prelude.{Option, Some, None, [], ◌∷◌, ◌++◌}
 use Rattle.rv_event.specs.Operations.{is_exclusive, IsLoad, IsStore, IsMemory}
 use Rattle.rv_event.specs.Annotations.{IsAcquire, IsRcsc}
 use Rattle.rv_event.specs.Log.{Earlier}
@@ -13,7 +13,7 @@ use Rattle.rv_event.specs.declared.event.Op.{Op}
 use Rattle.rv_event.specs.declared.event.Op.TheVariants.{Load, Store, Lr, Branch}
 use Rattle.rv_rows.specs.Bits.{Has, has_bit}
 use Rattle.rv_rows.specs.Closure.{RowHas}
-use Rattle.rv_hart.specs.Harts.{Hart}
+use Rattle.rv_hart.specs.Harts.{Hart, IsHart, Follows, followed}
 use Rattle.rv_hart.specs.declared.sets.Sets.{Sets}
 
 -- an event of the list has this number, and this is true of it
@@ -85,3 +85,19 @@ pub record AreSets (h : Hart) (sets : Sets) : Type 0 where
   pub controlled : RowIs sets.controlled (IsControlling h.events) h.events
   pub addressed : RowIs sets.addressed (IsAddressing h.events) h.events
   pub reserved : IsReservation h.events sets.reserved
+
+-- the event comes next in a hart with these sets, whose carriers these rows tell, one for each event
+pub record IsNextOf (e : Event) (sets : Sets) (rows : List (List ℕ)) : Type 0 where
+  pub h : Hart
+  pub is_hart : IsHart h
+  pub follows : Follows h e
+  pub are : AreCarriedRows h.events rows
+  pub are_sets : AreSets h sets
+  pub one_each : length rows ≡ length h.events
+
+-- one row more, which tells what the event stands for in each such hart
+pub record AreCarriedWith (e : Event) (sets : Sets) (rows new : List (List ℕ)) : Type 0 where
+  pub last : List ℕ
+  pub is_last : new ≡ rows ++ last ∷ []
+  pub says : (h : Hart) → IsHart h → Follows h e → AreCarriedRows h.events rows → AreSets h sets →
+      (s : ℕ) → Has last s ↔ IsCarried (followed h e) s e.id.seq

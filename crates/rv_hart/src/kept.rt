@@ -7,7 +7,7 @@ ghost use Rattle.rv_hart.specs.Kept.{hart_of, IsKept, IsPartner, IsStaleBy};
 ghost use Rattle.rv_hart.specs.Rows.{IsBefore};
 
 use crate::own_events::OwnEvents;
-use crate::sets::{Sets, carried_by, sets_of};
+use crate::sets::{Sets, push_carried, sets_of};
 use crate::words::Words;
 use rv_event::{Event, Id, MemoryModel, NoMemory, Op};
 use rv_rows::{Row, Rows};
@@ -69,9 +69,8 @@ impl Kept {
         ensures pushed { OnOk result (IsKept (events.now ++ event.now ∷ []) self.new) }
         ensures unchanged { OnErr result (IsKept events.now self.new) }
     {
-        let carried = carried_by(event, &self.sets, &self.carried);
         self.rows.push(row)?;
-        if let Err(error) = self.carried.push(&carried) {
+        if let Err(error) = push_carried(event, &self.sets, &mut self.carried) {
             self.rows.pop();
             return Err(NoMemory::from(error));
         }

@@ -2,11 +2,13 @@
 ghost use Rattle.std.specs.Prelude.{ℕ, ◌≡◌, ◌<◌, ◌↔◌, ◌⊎◌, ◌||◌, ◌&&◌, ◌++◌, ◌∷◌, [], All, Any, List, IsTrue, length};
 ghost use Rattle.rv_rows.specs.Bits.{Has, has_bit};
 ghost use Rattle.rv_event.specs.declared.event.DepKind.TheVariants.{Ctrl};
-ghost use Rattle.rv_event.specs.Relations.{Lists, fence_orders};
+ghost use Rattle.rv_event.specs.Relations.{IsCarrier, Lists, fence_orders};
 ghost use Rattle.rv_event.specs.declared.event.Op.TheVariants.{Branch, Load, Store};
 ghost use Rattle.rv_hart.specs.Harts.{Hart, IsHart, Follows, followed, hart_with};
 ghost use Rattle.rv_rows.specs.Closure.{RowHas};
+ghost use Rattle.std.specs.Prelude.{OnOk, OnErr};
 ghost use Rattle.rv_hart.specs.Sets.{AreCarriedRows, AreSets, IsCarried, IsReservation, NamesMemory};
+ghost use Rattle.rv_hart.specs.Sets.{AreCarriedWith, IsNextOf};
 
 use crate::own_events::OwnEvents;
 use crate::rows::{insert_if, join_if};
@@ -14,6 +16,7 @@ use rv_event::{
     DepKind, Event, MemoryModel, Op, depends_on, does_order, is_acquire, is_carrier, is_rcsc,
 };
 use rv_rows::{Row, Rows};
+use std::alloc::AllocError;
 
 /// Which events of a hart so far a rule may order before the next one, by what the rule asks of
 /// them.
@@ -177,25 +180,41 @@ fn reserved_after(reserved: Option<u32>, event: &Event) -> Option<u32>
     }
 }
 
-/// What a carrier stands for: the memory operations behind it; nothing for another event.
-pub fn carried_by(event: &Event, sets: &Sets, carried: &Rows) -> Row
+/// What a carrier stands for: the memory operations behind it.
+#[inline(never)]
+fn carried_by(event: &Event, sets: &Sets, carried: &Rows) -> Row
+    requires carrier { IsCarrier event.now }
     requires numbers { All (λ d. d.seq < 4096) event.now.deps }
     requires carried { All (λ d. d.seq < length carried.now) event.now.deps }
     ensures { (h : Hart) → IsHart h → Follows h event.now → AreCarriedRows h.events carried.now → AreSets h sets.now →
         (s : ℕ) → Has result s ↔ IsCarried (followed h event.now) s event.now.id.seq }
 {
     let mut row = Row::new();
-    if is_carrier(event) {
-        add_dependencies(
-            &mut row,
-            event,
-            DepKind::DataOf,
-            &sets.loads,
-            &sets.stores,
-            carried,
-        );
-    }
+    add_dependencies(
+        &mut row,
+        event,
+        DepKind::DataOf,
+        &sets.loads,
+        &sets.stores,
+        carried,
+    );
     row
+}
+
+/// Keeps what the event, the next of its hart, stands for: a row more.
+///
+/// # Errors
+/// `AllocError` where it could not be kept; the rows stay as they are.
+pub fn push_carried(event: &Event, sets: &Sets, carried: &mut Rows) -> Result<(), AllocError>
+    requires next { IsNextOf event.now sets.now carried.old }
+    ensures pushed { OnOk result (AreCarriedWith event.now sets.now carried.old carried.new) }
+    ensures unchanged { OnErr result (carried.new ≡ carried.old) }
+{
+    if is_carrier(event) {
+        carried.push(&carried_by(event, sets, carried))
+    } else {
+        carried.push_empty()
+    }
 }
 
 /// The sets of a hart's events. `carried` has the memory operations behind each.

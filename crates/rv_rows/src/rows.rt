@@ -80,6 +80,25 @@ impl Rows {
         Ok(())
     }
 
+    /// Adds a row that has nothing. It takes no words.
+    ///
+    /// # Errors
+    /// `AllocError` where it could not be kept; the rows stay as they are.
+    pub fn push_empty(&mut self) -> Result<(), AllocError>
+        requires few { length self.old < 4096 }
+        ensures pushed { OnOk result (self.new ≡ self.old ++ [] ∷ []) }
+        ensures unchanged { OnErr result (self.new ≡ self.old) }
+    {
+        self.places.reserve(1)?;
+        let start = self.words.len();
+        self.places.push_reserved(Place {
+            start,
+            first: 0,
+            count: 0,
+        });
+        Ok(())
+    }
+
     /// Takes the last row off. It takes no memory.
     pub fn pop(&mut self)
         requires { 0 < length self.old }

@@ -121,3 +121,15 @@ fn a_candidate_in_no_other_row_is_left(rt: HostRuntime) {
     assert_eq!(rt; take_highest(&mut candidates, &rows, 2), Some(1));
     assert!(rt; candidates.has(0) && !candidates.has(1));
 }
+
+#[test]
+fn an_empty_row_stands_between_others(rt: HostRuntime) {
+    let mut rows = Rows::new(rt.alloc());
+    rows.push(&first_row()).expect(&rt, "memory");
+    assert!(rt; rows.len() == 1);
+    rows.push_empty().expect(&rt, "memory");
+    assert!(rt; rows.len() == 2);
+    rows.push(&first_row()).expect(&rt, "memory");
+    assert!(rt; rows.len() == 3);
+    assert!(rt; rows.has(0, 0) && !rows.has(1, 0) && rows.has(2, 0));
+}
