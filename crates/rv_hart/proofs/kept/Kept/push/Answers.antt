@@ -63,7 +63,8 @@ absorb-requires-clause-dependencies c =
 pub absorb-requires-clause-carried : goal.absorb-requires-clause-carried
 absorb-requires-clause-carried c =
     let h : Hart = hart_of c.args.events.now c.args.self.now in
-    let carried : AreCarriedWith c.args.event.now c.args.self.now.sets c.args.self.now.carried c.push_carried.new.carried =
+    let k : Kept = c.args.self.now in
+    let carried : AreCarriedWith c.args.event.now k.sets k.carried c.push_carried.new.carried =
     c.in_default.ensures.pushed in
     let longer : AreCarriedRows c.args.events.now c.push_carried.new.carried =
     carried-longer c.args.events.now c.args.self.now.carried c.push_carried.new.carried carried.last carried.is_last
@@ -78,7 +79,8 @@ returns-clause-pushed c =
     let pushed : IsPushed k.rows c.args.row.now c.push.new.self = c.in_ok-push.ensures.pushed in
     let carried : AreCarriedWith e k.sets k.carried c.push_carried.new.carried = c.in_default.ensures.pushed in
     let longer : AreCarriedRows c.args.events.now c.push_carried.new.carried =
-    carried-longer c.args.events.now k.carried c.push_carried.new.carried carried.last carried.is_last c.requires.kept.carried in
+    carried-longer c.args.events.now k.carried c.push_carried.new.carried carried.last carried.is_last
+    c.requires.kept.carried in
     kept-pushed c.args.events.now k _ e pushed.last carried.last c.requires.kept c.requires.follows refl pushed.is_last
     (means-same (hart_with h e) e.id.seq c.args.row.now pushed.last pushed.same c.requires.row) carried.is_last
     (carried.says h c.requires.kept.hart c.requires.follows c.requires.kept.carried c.requires.kept.sets)

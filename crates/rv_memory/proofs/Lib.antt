@@ -1,0 +1,4 @@
+mod Blocks
+mod Lists
+mod Orders
+mod Placed

@@ -1,0 +1,19 @@
+//! Memory as a commit log shows it: the words that its accesses have, and the stores that took
+//! effect in their order.
+//!
+//! Its modules:
+//!
+//! - [`words`]: the words, numbered as they first come.
+//! - [`stores`]: the stores that took effect, and the versions of words from them.
+//! - `specs/`: which bytes accesses have together; the order of stores.
+//!
+//! It stands on `rv_log`.
+#![tactic(auto)]
+
+mod stores;
+#[cfg(test)]
+mod tests;
+mod words;
+
+pub use stores::{StoreFault, Stores};
+pub use words::{Word, WordFault, Words};
