@@ -2,3 +2,4 @@ mod Blocks
 mod Lists
 mod Orders
 mod Placed
+mod Reading

@@ -9,7 +9,8 @@ use Rattle.std.specs.Prelude.{Vec, slice_set, unwrap_or}
 use Rattle.rv_log.specs.declared.record.Performed.{Performed}
 use Rattle.rv_memory.specs.Stores.{AreNumbers, HasIssuer, at_place, lists, same_issuer}
 
-some-same : (a b : ℕ) → Some a ≡ Some b → a ≡ b
+-- values of options
+pub some-same : (a b : ℕ) → Some a ≡ Some b → a ≡ b
 some-same a b same = ap (λ o. unwrap_or o 0) same
 
 module _ (words : List (Vec Performed Global)) (k : ℕ) (w : Vec Performed Global) (low : k < length words)

@@ -12,9 +12,10 @@ use Rattle.std.proofs.lemmas.List.Elements.{filter-append, filter_passes}
 use Rattle.std.proofs.lemmas.List.Quantifiers.{all_pairs_push}
 use Rattle.std.specs.List.{filter, slice_get}
 use Rattle.rv_log.specs.declared.record.Performed.{Performed}
+use Rattle.rv_memory.specs.declared.stores.Effect.{Effect}
 use Rattle.rv_memory.specs.Stores.{AreStores, HasIssuer, IsLast, IsLastOf, IsNext, IsOrder, IsVersionAt}
-use Rattle.rv_memory.specs.Stores.{IsVersionOf, IsWrittenAt, Kept, kept_of}
-use Rattle.rv_memory.specs.Stores.{at_place, of_word, same_issuer, version_kept}
+use Rattle.rv_memory.specs.Stores.{IsEffectOf, IsWrittenAt, Kept, kept_of}
+use Rattle.rv_memory.specs.Stores.{at_place, of_word, same_issuer, effect_kept}
 use Rattle.std.specs.Map.{lookup}
 use Rattle.std.specs.Option.{is_some}
 use Rattle.std.specs.List.Sorted.{IsNonDecreasingBy, IsPartitionPoint}
@@ -54,16 +55,16 @@ word-same address log p apart = filter-append (λ q. q.address == address) log (
     ∙ append-nil (of_word address log)
 
 -- nothing is kept of no stores
-pub no-stores : (kept : Kept) → kept.places ≡ [] → kept.versions ≡ [] → kept.latest ≡ 0 → AreStores [] kept
-no-stores kept places versions latest = record {
+pub no-stores : (kept : Kept) → kept.places ≡ [] → kept.effects ≡ [] → kept.latest ≡ 0 → AreStores [] kept
+no-stores kept places effects latest = record {
   order = record {
     ascending = λ i j d before low. absurd (omega (low, arith));
     once = λ i j d before low. absurd (omega (low, arith));
     apart = λ i j d before low. absurd (omega (low, arith));
   };
   words = λ address. ap (λ (es : List (ℕ × ℕ)). at_place kept.words (lookup (nat_eq address) es)) places;
-  versions = λ hart order. subst (IsVersionOf [] hart order)
-      (sym (ap (λ (es : List ((ℕ × ℕ) × ℕ)). lookup (same_issuer (hart, order)) es) versions))
+  effects = λ hart order. subst (IsEffectOf [] hart order)
+      (sym (ap (λ (es : List ((ℕ × ℕ) × Effect)). lookup (same_issuer (hart, order)) es) effects))
       (λ p cp issuer. (let low = cp.1 in absurd (omega (low, arith))));
   last = record { highest = λ p cp. (let low = cp.1 in absurd (omega (low, arith))); some = inl latest };
   few = λ address. omega arith;
@@ -95,12 +96,12 @@ module _ {log : List Performed} {kept : Kept} (are : AreStores log kept) where
 
   -- the same is kept
   pub same-stores : (new : Kept) → ((address : ℕ) → kept_of new address ≡ kept_of kept address) →
-      ((hart order : ℕ) → version_kept new hart order ≡ version_kept kept hart order) → new.latest ≡ kept.latest →
+      ((hart order : ℕ) → effect_kept new hart order ≡ effect_kept kept hart order) → new.latest ≡ kept.latest →
       AreStores log new
-  same-stores new words versions latest = record {
+  same-stores new words effects latest = record {
     order = are.order;
     words = λ address. words address ∙ are.words address;
-    versions = λ hart order. subst (IsVersionOf log hart order) (sym (versions hart order)) (are.versions hart order);
+    effects = λ hart order. subst (IsEffectOf log hart order) (sym (effects hart order)) (are.effects hart order);
     last = subst (IsLast log) (sym latest) are.last;
     few = are.few;
   }
@@ -109,9 +110,12 @@ module _ {log : List Performed} {kept : Kept} (are : AreStores log kept) where
   module _ (p : Performed) (next : IsNext log p) (new : Kept) (few : length (kept_of kept p.address) < 4294967294)
       (here : kept_of new p.address ≡ kept_of kept p.address ++ p ∷ [])
       (others : (address : ℕ) → p.address ≢ address → kept_of new address ≡ kept_of kept address)
-      (version : version_kept new p.hart p.order ≡ Some (length (kept_of kept p.address) + 1))
-      (versions : (hart order : ℕ) → (HasIssuer hart order p → ⊥) →
-      version_kept new hart order ≡ version_kept kept hart order)
+      (effect : effect_kept new p.hart p.order ≡ Some (record {
+        version = length (kept_of kept p.address) + 1;
+        time = p.time;
+      }))
+      (effects : (hart order : ℕ) → (HasIssuer hart order p → ⊥) →
+      effect_kept new hart order ≡ effect_kept kept hart order)
       (latest : new.latest ≡ p.time) where
     is-order : IsOrder (log ++ p ∷ [])
     is-order = record {
@@ -131,36 +135,38 @@ module _ {log : List Performed} {kept : Kept} (are : AreStores log kept) where
     ]
 
     -- the version of an instruction whose store isn't the new one
-    still : (hart order : ℕ) → (HasIssuer hart order p → ⊥) → (v : Option ℕ) → IsVersionOf log hart order v →
-        IsVersionOf (log ++ p ∷ []) hart order v
+    still : (hart order : ℕ) → (HasIssuer hart order p → ⊥) → (v : Option Effect) → IsEffectOf log hart order v →
+        IsEffectOf (log ++ p ∷ []) hart order v
     still hart number apart (Some k) is = record {
       before = is.before;
       store = is.store;
       after = is.after ++ p ∷ [];
       is = ap (λ (l : List Performed). l ++ p ∷ []) is.is ∙ append_assoc is.before (is.store ∷ is.after) (p ∷ []);
       issuer = is.issuer;
-      kth = is.kth;
+      version = is.version;
+      time = is.time;
     }
     still hart number apart None none = λ q cq issuer. elim (Contains-push_cases log p q cq) [
       | inl old ↦ none q old issuer
       | inr new ↦ apart (subst (HasIssuer hart number) (sym new) issuer)
     ]
 
-    own : (hart order : ℕ) → HasIssuer hart order p → IsVersionOf (log ++ p ∷ []) hart order
-        (version_kept new hart order)
-    own hart order issuer = subst (IsVersionOf (log ++ p ∷ []) hart order)
-        (sym (ap (λ (h : ℕ). version_kept new h order) (sym issuer.0) ∙
-        ap (version_kept new p.hart) (sym issuer.1) ∙ version)) (record {
+    own : (hart order : ℕ) → HasIssuer hart order p → IsEffectOf (log ++ p ∷ []) hart order
+        (effect_kept new hart order)
+    own hart order issuer = subst (IsEffectOf (log ++ p ∷ []) hart order)
+        (sym (ap (λ (h : ℕ). effect_kept new h order) (sym issuer.0) ∙
+        ap (effect_kept new p.hart) (sym issuer.1) ∙ effect)) (record {
           before = log;
           store = p;
           after = [];
           is = refl;
           issuer = issuer;
-          kth = ap (λ (w : List Performed). length w + 1) (are.words p.address);
+          version = ap (λ (w : List Performed). length w + 1) (are.words p.address);
+          time = refl;
         })
 
-    version-of : (hart order : ℕ) → IsVersionOf (log ++ p ∷ []) hart order (version_kept new hart order)
-    version-of hart order = elim (cases_eq p.hart hart) [
+    effect-of : (hart order : ℕ) → IsEffectOf (log ++ p ∷ []) hart order (effect_kept new hart order)
+    effect-of hart order = elim (cases_eq p.hart hart) [
       | inl hart-same ↦ elim (cases_eq p.order order) [
         | inl order-same ↦ own hart order (hart-same, order-same)
         | inr order-apart ↦ other (λ issuer. order-apart issuer.1)
@@ -168,15 +174,15 @@ module _ {log : List Performed} {kept : Kept} (are : AreStores log kept) where
       | inr hart-apart ↦ other (λ issuer. hart-apart issuer.0)
     ]
       where
-        other : (HasIssuer hart order p → ⊥) → IsVersionOf (log ++ p ∷ []) hart order (version_kept new hart order)
-        other apart = subst (IsVersionOf (log ++ p ∷ []) hart order) (sym (versions hart order apart))
-            (still hart order apart (version_kept kept hart order) (are.versions hart order))
+        other : (HasIssuer hart order p → ⊥) → IsEffectOf (log ++ p ∷ []) hart order (effect_kept new hart order)
+        other apart = subst (IsEffectOf (log ++ p ∷ []) hart order) (sym (effects hart order apart))
+            (still hart order apart (effect_kept kept hart order) (are.effects hart order))
 
     pub pushed-stores : AreStores (log ++ p ∷ []) new
     pushed-stores = record {
       order = is-order;
       words = words;
-      versions = version-of;
+      effects = effect-of;
       last = subst (IsLast (log ++ p ∷ [])) (sym latest) (record {
         highest = λ q cq. elim (Contains-push_cases log p q cq) [
           | inl old ↦ next.later q old
@@ -197,16 +203,16 @@ module _ {log : List Performed} {kept : Kept} (are : AreStores log kept) where
       ];
     }
 
--- words and versions are the same, wherever they are kept
+-- words and effects are the same, wherever they are kept
 pub placed : {log : List Performed} (places places' : List (ℕ × ℕ)) (words words' : List (List Performed))
-    (versions versions' : List ((ℕ × ℕ) × ℕ)) (latest : ℕ) →
-    AreStores log (record { places = places; words = words; versions = versions; latest = latest }) →
+    (effects effects' : List ((ℕ × ℕ) × Effect)) (latest : ℕ) →
+    AreStores log (record { places = places; words = words; effects = effects; latest = latest }) →
     ((address : ℕ) → at_place words' (lookup (nat_eq address) places') ≡
-    at_place words (lookup (nat_eq address) places)) → versions' ≡ versions →
-    AreStores log (record { places = places'; words = words'; versions = versions'; latest = latest })
-placed places places' words words' versions versions' latest are same versions-same =
-    same-stores are (record { places = places'; words = words'; versions = versions'; latest = latest }) same
-    (λ hart order. ap (λ (es : List ((ℕ × ℕ) × ℕ)). lookup (same_issuer (hart, order)) es) versions-same) refl
+    at_place words (lookup (nat_eq address) places)) → effects' ≡ effects →
+    AreStores log (record { places = places'; words = words'; effects = effects'; latest = latest })
+placed places places' words words' effects effects' latest are same effects-same =
+    same-stores are (record { places = places'; words = words'; effects = effects'; latest = latest }) same
+    (λ hart order. ap (λ (es : List ((ℕ × ℕ) × Effect)). lookup (same_issuer (hart, order)) es) effects-same) refl
 
 module _ {log : List Performed} {kept : Kept} (are : AreStores log kept) (address : ℕ) where
   abbrev is-of : Performed → Bool
@@ -260,7 +266,7 @@ free-by log kept address time last are is apart later written =
 
 -- a store may come next where it passes the checks
 pub next-is : (log : List Performed) (kept : Kept) (p : Performed) → AreStores log kept → kept.latest ≤ p.time →
-    IsVersionOf log p.hart p.order None → (IsWrittenAt log p.address p.time → ⊥) → IsNext log p
+    IsEffectOf log p.hart p.order None → (IsWrittenAt log p.address p.time → ⊥) → IsNext log p
 next-is log kept p are later once free = record {
   later = λ q cq. (let high = are.last.highest q cq in omega (high, later, arith));
   once = once;
@@ -268,7 +274,7 @@ next-is log kept p are later once free = record {
 }
 
 -- what is known of an instruction's store from whether it has a version
-pub issued : (log : List Performed) (hart order : ℕ) (v : Option ℕ) → IsVersionOf log hart order v →
+pub issued : (log : List Performed) (hart order : ℕ) (v : Option Effect) → IsEffectOf log hart order v →
     is_some v ≡ true → (q : Performed) × Contains log q × HasIssuer hart order q
 issued log hart order (Some k) is some = (
   is.store,
@@ -278,7 +284,7 @@ issued log hart order (Some k) is some = (
 )
 issued log hart order None is some = absurd (false≢true some)
 
-pub unissued : (log : List Performed) (hart order : ℕ) (v : Option ℕ) → IsVersionOf log hart order v →
-    is_some v ≡ false → IsVersionOf log hart order None
+pub unissued : (log : List Performed) (hart order : ℕ) (v : Option Effect) → IsEffectOf log hart order v →
+    is_some v ≡ false → IsEffectOf log hart order None
 unissued log hart order (Some k) is none = absurd (false≢true (sym none))
 unissued log hart order None is none = is

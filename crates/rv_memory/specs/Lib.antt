@@ -1,2 +1,3 @@
+pub mod Reads
 pub mod Stores
 pub mod Words

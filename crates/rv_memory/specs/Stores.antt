@@ -6,6 +6,7 @@ use Rattle.std.specs.List.Sorted.{IsPartitionPoint}
 use Rattle.std.specs.Global.{Global}
 use Rattle.std.specs.Map.{lookup}
 use Rattle.rv_log.specs.declared.record.Performed.{Performed}
+use Rattle.rv_memory.specs.declared.stores.Effect.{Effect}
 use Rattle.rv_memory.specs.declared.stores.StoreFault.{StoreFault}
 use Rattle.rv_memory.specs.declared.stores.StoreFault.TheVariants.{TimeGoesBack, Twice, SameTime, Full, NoMemory}
 
@@ -30,19 +31,20 @@ pub record IsNext (log : List Performed) (p : Performed) : Type 0 where
   pub once : (q : Performed) → Contains log q → HasIssuer p.hart p.order q → ⊥
   pub apart : (q : Performed) → Contains log q → q.address ≡ p.address → q.time ≢ p.time
 
--- the store is of this instruction, and is the k-th of its word
-pub record IsKth (log : List Performed) (hart order k : ℕ) : Type 0 where
+-- the instruction's store took effect at this time, as the store of its word that makes this version
+pub record IsEffect (log : List Performed) (hart order : ℕ) (effect : Effect) : Type 0 where
   pub before : List Performed
   pub store : Performed
   pub after : List Performed
   pub is : log ≡ before ++ store ∷ after
   pub issuer : HasIssuer hart order store
-  pub kth : k ≡ length (of_word store.address before) + 1
+  pub version : effect.version ≡ length (of_word store.address before) + 1
+  pub time : effect.time ≡ store.time
 
--- the version that the instruction's store made, exactly where it took effect
-abbrev pub IsVersionOf : List Performed → ℕ → ℕ → Option ℕ → Type 0
-IsVersionOf log hart order (Some k) = IsKth log hart order k
-IsVersionOf log hart order None = (p : Performed) → Contains log p → HasIssuer hart order p → ⊥
+-- the effect of the instruction's store, exactly where it has one
+abbrev pub IsEffectOf : List Performed → ℕ → ℕ → Option Effect → Type 0
+IsEffectOf log hart order (Some effect) = IsEffect log hart order effect
+IsEffectOf log hart order None = (p : Performed) → Contains log p → HasIssuer hart order p → ⊥
 
 -- so many stores to the word had taken effect by the time, and the others came later
 abbrev pub IsVersionAt : List Performed → ℕ → ℕ → ℕ → Type 0
@@ -86,12 +88,12 @@ IsRefused log p NoMemory = ⊤
 abbrev pub same_issuer : ℕ × ℕ → ℕ × ℕ → Bool
 same_issuer x y = nat_eq x.0 y.0 && nat_eq x.1 y.1
 
--- What is kept of stores: the place of each word by its address, its stores at that place, the version that an
--- instruction's store made by its hart and order, and the time of the last one.
+-- What is kept of stores: the place of each word by its address, its stores at that place, the effect of an
+-- instruction's store by its hart and order, and the time of the last one.
 pub record Kept : Type 0 where
   pub places : List (ℕ × ℕ)
   pub words : List (List Performed)
-  pub versions : List ((ℕ × ℕ) × ℕ)
+  pub effects : List ((ℕ × ℕ) × Effect)
   pub latest : ℕ
 
 -- the stores at a word's place
@@ -99,12 +101,12 @@ abbrev pub at_place : List (List Performed) → Option ℕ → List Performed
 at_place words (Some k) = slice_index_or words k []
 at_place words None = []
 
--- the stores that are kept of a word, and the version that is kept of an instruction's
+-- the stores that are kept of a word, and the effect that is kept of an instruction's
 abbrev pub kept_of : Kept → ℕ → List Performed
 kept_of kept address = at_place kept.words (lookup (nat_eq address) kept.places)
 
-abbrev pub version_kept : Kept → ℕ → ℕ → Option ℕ
-version_kept kept hart order = lookup (same_issuer (hart, order)) kept.versions
+abbrev pub effect_kept : Kept → ℕ → ℕ → Option Effect
+effect_kept kept hart order = lookup (same_issuer (hart, order)) kept.effects
 
 -- the lists of vectors
 abbrev pub lists : List (Vec Performed Global) → List (List Performed)
@@ -114,7 +116,7 @@ lists words = map (λ w. w.items) words
 pub record AreStores (log : List Performed) (kept : Kept) : Type 0 where
   pub order : IsOrder log
   pub words : (address : ℕ) → kept_of kept address ≡ of_word address log
-  pub versions : (hart order : ℕ) → IsVersionOf log hart order (version_kept kept hart order)
+  pub effects : (hart order : ℕ) → IsEffectOf log hart order (effect_kept kept hart order)
   pub last : IsLast log kept.latest
   pub few : (address : ℕ) → length (of_word address log) ≤ 4294967294
 

@@ -5,15 +5,18 @@
 //!
 //! - [`words`]: the words, numbered as they first come.
 //! - [`stores`]: the stores that took effect, and the versions of words from them.
-//! - `specs/`: which bytes accesses have together; the order of stores.
+//! - [`reads`]: the versions that loads returned.
+//! - `specs/`: which bytes accesses have together; the order of stores; what a load returns.
 //!
 //! It stands on `rv_log`.
 #![tactic(auto)]
 
+mod reads;
 mod stores;
 #[cfg(test)]
 mod tests;
 mod words;
 
-pub use stores::{StoreFault, Stores};
+pub use reads::Load;
+pub use stores::{Effect, StoreFault, Stores};
 pub use words::{Word, WordFault, Words};

@@ -2,8 +2,8 @@
 ghost use Rattle.std.specs.Prelude.{◌≡◌, ◌<◌, ◌≤◌, ◌+◌, ◌++◌, ◌∷◌, [], IfOk, IfErr, List, OnErr, Some};
 ghost use Rattle.std.specs.Prelude.{length, nat_eq, ℕ, true, false};
 ghost use Rattle.rv_log.specs.declared.record.Performed.{Performed};
-ghost use Rattle.rv_memory.specs.Stores.{AreNumbers, AreStores, IsLast, IsLastOf, IsNext, IsRefused, IsTold};
-ghost use Rattle.rv_memory.specs.Stores.{IsVersionAt, IsVersionOf, IsWrittenAt, at_place, kept_of, lists, of_word};
+ghost use Rattle.rv_memory.specs.Stores.{AreNumbers, AreStores, IsEffectOf, IsLast, IsLastOf, IsNext, IsRefused, IsTold};
+ghost use Rattle.rv_memory.specs.Stores.{IsVersionAt, IsWrittenAt, at_place, kept_of, lists, of_word};
 ghost use Rattle.std.specs.HashMap.{get};
 
 use rv_log::Performed;
@@ -29,6 +29,15 @@ pub enum StoreFault {
     NoMemory,
 }
 
+/// When a store took effect.
+#[derive(Clone, Copy, PartialEq, Eq, Debug)]
+pub struct Effect {
+    /// The version that it made of its word.
+    pub version: u32,
+    /// The time.
+    pub time: u64,
+}
+
 /// The stores that took effect, in their order.
 ///
 /// A word is known by the address at which it begins. Its versions are numbered by its stores: 0
@@ -38,7 +47,7 @@ pub struct Stores {
     alloc: Global,
     places: HashMap<u64, usize>,
     words: Vec<Vec<Performed>>,
-    versions: HashMap<(u8, u64), u32>,
+    effects: HashMap<(u8, u64), Effect>,
     latest: u64,
 }
 
@@ -53,7 +62,7 @@ impl Model for Stores {
     ghost view = { λ s. record {
       places = s.places.entries;
       words = lists s.words.items;
-      versions = s.versions.entries;
+      effects = s.effects.entries;
       latest = s.latest;
     } };
 
@@ -61,7 +70,7 @@ impl Model for Stores {
         × ((log : List Performed) × AreStores log (record {
           places = s.places.entries;
           words = lists s.words.items;
-          versions = s.versions.entries;
+          effects = s.effects.entries;
           latest = s.latest;
         })) };
 }
@@ -75,7 +84,7 @@ impl Stores {
             alloc,
             places: HashMap::new(alloc),
             words: Vec::new(alloc),
-            versions: HashMap::new(alloc),
+            effects: HashMap::new(alloc),
             latest: 0,
         }
     }
@@ -91,11 +100,11 @@ impl Stores {
         }
     }
 
-    /// The version of the store of a hart's instruction, if that took effect.
-    pub fn version_of(&self, hart: u8, order: u64) -> Option<u32>
-        ensures { (log : List Performed) → AreStores log self.now → IsVersionOf log hart order result }
+    /// The effect of the store of a hart's instruction, if that took effect.
+    pub fn effect_of(&self, hart: u8, order: u64) -> Option<Effect>
+        ensures { (log : List Performed) → AreStores log self.now → IsEffectOf log hart order result }
     {
-        self.versions.get(&(hart, order)).copied()
+        self.effects.get(&(hart, order)).copied()
     }
 
     /// The version of a word at a time: how many of its stores had taken effect. It costs a look-up
@@ -137,7 +146,7 @@ impl Stores {
         if store.time < self.latest {
             return Err(StoreFault::TimeGoesBack(self.latest));
         }
-        if self.version_of(store.hart, store.order).is_some() {
+        if self.effect_of(store.hart, store.order).is_some() {
             return Err(StoreFault::Twice);
         }
         if self.is_written_at(store.address, store.time) {
@@ -185,7 +194,11 @@ impl Stores {
         let word = &mut self.words[place];
         word.reserve(1)?;
         let version = word.len() as u32 + 1;
-        self.versions.insert((store.hart, store.order), version)?;
+        let effect = Effect {
+            version,
+            time: store.time,
+        };
+        self.effects.insert((store.hart, store.order), effect)?;
         self.words[place].push_reserved(store);
         self.latest = store.time;
         Ok(version)

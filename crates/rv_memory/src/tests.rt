@@ -1,7 +1,7 @@
 //! Tests of words and stores.
 ghost use Rattle.std.specs.Prelude.{◌≡◌};
 
-use crate::{StoreFault, Stores, Word, WordFault, Words};
+use crate::{Effect, Load, StoreFault, Stores, Word, WordFault, Words};
 use rv_log::Performed;
 use std::rt::HostRuntime;
 
@@ -52,8 +52,14 @@ fn versions_are_numbered_by_word(rt: HostRuntime) {
     assert_eq!(rt; stores.push(store(0, 7, 0x1000, 5)), Ok(1));
     assert_eq!(rt; stores.push(store(1, 0, 0x1008, 5)), Ok(1));
     assert_eq!(rt; stores.push(store(1, 3, 0x1000, 6)), Ok(2));
-    assert_eq!(rt; stores.version_of(1, 3), Some(2));
-    assert_eq!(rt; stores.version_of(1, 7), None);
+    assert_eq!(rt;
+        stores.effect_of(1, 3),
+        Some(Effect {
+            version: 2,
+            time: 6
+        })
+    );
+    assert_eq!(rt; stores.effect_of(1, 7), None);
     assert_eq!(rt; stores.version_at(0x1000, 4), 0);
     assert_eq!(rt; stores.version_at(0x1000, 5), 1);
     assert_eq!(rt; stores.version_at(0x1000, 9), 2);
@@ -78,4 +84,24 @@ fn stores_out_of_order_are_refused(rt: HostRuntime) {
     );
     assert_eq!(rt; stores.push(store(0, 7, 0x2000, 8)), Err(StoreFault::Twice));
     assert_eq!(rt; stores.push(store(1, 0, 0x1000, 6)), Ok(2));
+}
+
+#[test]
+fn a_load_returns_what_its_hart_forwards(rt: HostRuntime) {
+    let mut stores = Stores::new(rt.alloc());
+    let load = Load {
+        hart: 0,
+        address: 0x1000,
+        time: 6,
+        own: Some(3),
+    };
+    let alone = Load { own: None, ..load };
+    assert_eq!(rt; stores.push(store(1, 0, 0x1000, 5)), Ok(1));
+    assert_eq!(rt; stores.read(&load, false), None);
+    assert_eq!(rt; stores.read(&load, true), None);
+    assert_eq!(rt; stores.read(&alone, false), None);
+    assert_eq!(rt; stores.read(&alone, true), Some(1));
+    assert_eq!(rt; stores.push(store(0, 3, 0x1000, 7)), Ok(2));
+    assert_eq!(rt; stores.read(&load, false), Some(2));
+    assert_eq!(rt; stores.read(&alone, false), Some(1));
 }

@@ -6,6 +6,7 @@ use Rattle.std.specs.Prelude.{Vec, slice_set}
 use Rattle.std.proofs.lemmas.List.{length-map, length-set}
 use Rattle.rv_log.specs.declared.record.Performed.{Performed}
 use Rattle.rv_memory.specs.Stores.{AreNumbers, AreStores, Kept, at_place, kept_of, lists}
+use Rattle.rv_memory.specs.declared.stores.Effect.{Effect}
 use Rattle.rv_memory.proofs.Lists.{here-more, issuer-apart, lists-more, lists-same, numbers-more, others-same, place-is}
 use Rattle.rv_memory.proofs.Orders.{placed, pushed-stores}
 use Rattle.rv_memory.proofs.stores.Stores.add.Goals.{After-index_mut-word, After-len, After-push_reserved}
@@ -17,7 +18,7 @@ on_err (Err e) p = p
 
 pub returns-in_err-place-clause-kept : goal.returns-in_err-place-clause-kept
 returns-in_err-place-clause-kept c = λ log are. on_err c.from_residual.result
-    (placed c.self.inside.places.entries _ (lists c.self.inside.words.items) _ c.self.inside.versions.entries _
+    (placed c.self.inside.places.entries _ (lists c.self.inside.words.items) _ c.self.inside.effects.entries _
     c.self.inside.latest (subst (AreStores log) (sym c.self.view_is) are) c.in_err-place.ensures.same refl)
 
 module _ (c : After-index_mut-word) where
@@ -45,19 +46,19 @@ module _ (c : After-index_mut-word) where
   roomy v same = lists-same words c.in_ok-place.place word low at v same
 
   -- the stores of before, in the places of now
-  moved : {log : List Performed} (new : List (List Performed)) (versions : List ((ℕ × ℕ) × ℕ)) →
-      AreStores log c.args.self.now → new ≡ lists words → versions ≡ c.self.inside.versions.entries →
+  moved : {log : List Performed} (new : List (List Performed)) (effects : List ((ℕ × ℕ) × Effect)) →
+      AreStores log c.args.self.now → new ≡ lists words → effects ≡ c.self.inside.effects.entries →
       AreStores log (record {
         places = c.place_of.new.places.entries;
         words = new;
-        versions = versions;
+        effects = effects;
         latest = c.self.inside.latest;
       })
-  moved {log} new versions are same versions-same =
+  moved {log} new effects are same effects-same =
       placed c.self.inside.places.entries c.place_of.new.places.entries (lists c.self.inside.words.items) new
-      c.self.inside.versions.entries versions c.self.inside.latest (subst (AreStores log) (sym c.self.view_is) are)
+      c.self.inside.effects.entries effects c.self.inside.latest (subst (AreStores log) (sym c.self.view_is) are)
       (λ q. ap (λ (ws : List (List Performed)). at_place ws (get nat_eq c.place_of.new.places q)) same ∙
-      c.in_ok-place.ensures.same q) versions-same
+      c.in_ok-place.ensures.same q) effects-same
 
   -- the stores that the word has
   kept-is : word.items ≡ kept_of c.args.self.now c.args.store.address
@@ -149,7 +150,7 @@ module _ (c : After-push_reserved) where
   new = record {
     places = c.place_of.new.places.entries;
     words = lists (slice_set roomed place c.push_reserved.new.self);
-    versions = c.insert.new.self.entries;
+    effects = c.insert.new.self.entries;
     latest = p.time;
   }
 
@@ -158,15 +159,18 @@ module _ (c : After-push_reserved) where
   before = record {
     places = c.place_of.new.places.entries;
     words = old;
-    versions = c.self.inside.versions.entries;
+    effects = c.self.inside.effects.entries;
     latest = c.self.inside.latest;
   }
+
+  abbrev effect : ℕ → Effect
+  effect n = record { version = n + 1; time = p.time }
 
   kept-same : kept_of before p.address ≡ kept_of c.args.self.now p.address
   kept-same = c.in_ok-place.ensures.same p.address ∙ ap (λ (kept : Kept). kept_of kept p.address) c.self.view_is
 
   pub taken : (log : List Performed) → AreStores log c.args.self.now → AreStores (log ++ p ∷ []) new
-  taken log are = pushed-stores (moved r old c.self.inside.versions.entries are refl refl) p
+  taken log are = pushed-stores (moved r old c.self.inside.effects.entries are refl refl) p
       (c.requires.next log are) new
       (subst (λ (w : List Performed). length w < 4294967294) (sym kept-same) c.requires.few)
       (ap (λ (ws : List (List Performed)). at_place ws (get nat_eq c.place_of.new.places p.address)) grown ∙
@@ -174,7 +178,7 @@ module _ (c : After-push_reserved) where
       (λ address apart.
       ap (λ (ws : List (List Performed)). at_place ws (get nat_eq c.place_of.new.places address)) grown ∙
       others-same (numbers r) p.address place c.in_ok-place.ensures.placed p address apart)
-      (c.in_ok-insert.ensures.updates.1 ∙ ap (λ (n : ℕ). Some (n + 1))
+      (c.in_ok-insert.ensures.updates.1 ∙ ap (λ (n : ℕ). Some (effect n))
       (counted (goal.at-After-push_reserved c).After-len ∙ ap (λ (w : List Performed). length w) (sym kept-same)))
       (λ hart order apart. c.in_ok-insert.ensures.updates.2 (hart, order) (issuer-apart p hart order apart))
       refl

@@ -7,7 +7,7 @@ use Rattle.rv_memory.proofs.stores.Stores.push.Goals as goal
 
 pub returns-then-is_some-clause-refused : goal.returns-then-is_some-clause-refused
 returns-then-is_some-clause-refused c = λ log are.
-    issued log c.args.store.hart c.args.store.order c.version_of.result (c.version_of.ensures log are)
+    issued log c.args.store.hart c.args.store.order c.effect_of.result (c.effect_of.ensures log are)
     (sym c.is_some.ensures ∙ c.if-is_some.true)
 
 next : (c : After-of_word) (log : List Performed) → AreStores log c.args.self.now → IsNext log c.args.store
@@ -15,7 +15,7 @@ next c log are =
     let later : c.args.self.now.latest ≤ c.args.store.time =
     subst (λ (kept : Kept). kept.latest ≤ c.args.store.time) c.self.view_is c.if-store-self.false in
     next-is log c.args.self.now c.args.store are later
-    (unissued log c.args.store.hart c.args.store.order c.version_of.result (c.version_of.ensures log are)
+    (unissued log c.args.store.hart c.args.store.order c.effect_of.result (c.effect_of.ensures log are)
     (sym c.is_some.ensures ∙ c.if-is_some.false))
     (c.is_written_at.ensures.free log are c.if-is_written_at.false later)
 
