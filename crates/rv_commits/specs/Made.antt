@@ -1,6 +1,6 @@
 -- What an instruction makes in a trace: manual, 2.7 (fences), 8.2 (LR and SC), 8.4 (AMOs), 14.1 ("Memory Model
 -- Primitives", "Syntactic Dependencies").
-use Rattle.std.specs.Prelude.{ℕ, ◌==◌, ◌%◌, ◌&&◌, Bool, true, false, Option, Some, None, if◌then◌else◌, is_some}
+use Rattle.std.specs.Prelude.{ℕ, ◌==◌, ◌%◌, ◌&&◌, Bool, false, Option, Some, None, if◌then◌else◌, is_some}
 use Rattle.rv_event.specs.declared.event.Op.{Op}
 use Rattle.rv_event.specs.declared.event.Op.TheVariants as op
 use Rattle.rv_event.specs.declared.event.Set.{Set}

@@ -3,14 +3,17 @@
 //! Its modules:
 //!
 //! - [`made`]: the operation that an instruction makes.
+//! - [`laws`]: what the rows of a hart depend on, by carriers.
 //! - `specs/`: the same by cases, with the manual's sections.
 //!
-//! It stands on `rv_log` and `rv_event`. Its one contract to the others: what is given is what the
-//! cases say.
+//! It stands on `rv_event`, `rv_flow` and `rv_log`. Its contracts to the others: an operation is
+//! what the cases say; a row depends on just the rows behind its list.
 #![tactic(auto)]
 
+mod laws;
 mod made;
 #[cfg(test)]
 mod tests;
 
+pub use laws::rows_depend_as_listed;
 pub use made::{Made, has_stored, made_by};
