@@ -1,11 +1,11 @@
 -- What is behind the rows that a row lists.
-use Rattle.std.proofs.Common.{ℕ, suc, ◌≡◌, ◌≢◌, ◌<◌, ◌⊎◌, inl, inr, List, [], ◌∷◌, Contains, length, get_or, refl, sym, ap}
+use Rattle.std.proofs.Common.{ℕ, suc, ◌≡◌, ◌≢◌, ◌<◌, ◌⊎◌, inl, inr, List, [], ◌∷◌, Contains, length, get_or, refl}
+use Rattle.std.proofs.Common.{sym, ap}
 use Rattle.std.proofs.Common.{◌∙◌, subst, arith}
 use Rattle.std.proofs.lemmas.Bool.{cases_eq}
 use Rattle.std.proofs.lemmas.List.Elements.{Contains-get_or}
 use Rattle.rv_event.proofs.Growing.{Any-contains, Any-from_contains}
 use Rattle.rv_event.proofs.Names.{Contains-cons}
-use Rattle.rv_event.specs.Log.{Earlier}
 use Rattle.rv_event.specs.Relations.{Behind, DependsOn, IsCarrier, Lists, listed, through}
 use Rattle.rv_event.specs.declared.event.DepKind.{DepKind}
 use Rattle.rv_event.specs.declared.event.DepKind.TheVariants.{DataOf}
@@ -96,13 +96,6 @@ module _ {hart : ℕ} {carriers : List Carrier} {rows : List Event} (are : AreRo
     (let at = ap (λ (i : Id). i.seq) (row-id c d cc) in let before = are.are.before c cc in
         let few = are.are.few in omega (at, before, few, arith)),
   )
-
-  -- a row lists an earlier one of its hart
-  earlier : (x y : Event) (p : ℕ) → x.id ≡ record { hart = hart; seq = p } → y.id.hart ≡ hart → p < y.id.seq → Earlier x y
-  earlier x y p is hart-y before = record {
-    hart = ap (λ (i : Id). i.hart) is ∙ sym hart-y;
-    seq = (let at = ap (λ (i : Id). i.seq) is in omega (at, before, arith));
-  }
 
   -- what is behind the number of a row that a carrier lists is behind the carrier's row
   behind-row : (a : Event) → Contains rows a → (c : Carrier) → Contains carriers c → (p n : ℕ) →

@@ -1,2 +1,3 @@
+pub mod Harts
 pub mod Made
 pub mod Rows

@@ -1,12 +1,17 @@
 -- The rows of a hart in a trace, of which some are carriers.
-use Rattle.std.specs.Prelude.{ℕ, ◌≡◌, ◌≢◌, ◌<◌, ◌↔◌, List, Contains, length, slice_index_or}
+use Rattle.std.specs.Prelude.{ℕ, ◌≡◌, ◌≢◌, ◌<◌, ◌↔◌, List, Contains, length, map, slice_index_or}
 use Rattle.rv_event.specs.Relations.{DependsOn}
+use Rattle.rv_event.specs.declared.event.Dep.{Dep}
 use Rattle.rv_event.specs.declared.event.DepKind.{DepKind}
 use Rattle.rv_event.specs.declared.event.DepKind.TheVariants.{DataOf}
 use Rattle.rv_event.specs.declared.event.Event.{Event}
 use Rattle.rv_event.specs.declared.event.Op.TheVariants as op
 use Rattle.rv_flow.specs.Carriers.{AreCarriers, IsBehind, IsEvent}
 use Rattle.rv_flow.specs.declared.carrier.Carrier.{Carrier}
+
+-- dependencies of this kind on these rows
+abbrev pub parts_of : DepKind → List ℕ → List Dep
+parts_of kind parts = map (λ p. record { kind = kind; seq = p }) parts
 
 -- the row lists these rows and no others as dependencies of this kind
 abbrev pub ListsJust : DepKind → Event → List ℕ → Type 0

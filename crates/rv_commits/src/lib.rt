@@ -3,6 +3,7 @@
 //! Its modules:
 //!
 //! - [`made`]: the operation that an instruction makes.
+//! - [`deps`]: the dependencies of a row, from what it lists.
 //! - [`laws`]: what the rows of a hart depend on, by carriers.
 //! - `specs/`: the same by cases, with the manual's sections.
 //!
@@ -10,10 +11,14 @@
 //! what the cases say; a row depends on just the rows behind its list.
 #![tactic(auto)]
 
+mod deps;
+mod hart;
 mod laws;
 mod made;
 #[cfg(test)]
 mod tests;
 
+pub use deps::{access_deps, deps_by};
+pub use hart::HartRows;
 pub use laws::rows_depend_as_listed;
 pub use made::{Made, has_stored, made_by};

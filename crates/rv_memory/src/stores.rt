@@ -2,7 +2,8 @@
 ghost use Rattle.std.specs.Prelude.{◌≡◌, ◌<◌, ◌≤◌, ◌+◌, ◌++◌, ◌∷◌, [], IfOk, IfErr, List, OnErr, Some};
 ghost use Rattle.std.specs.Prelude.{length, nat_eq, ℕ, true, false};
 ghost use Rattle.rv_log.specs.declared.record.Performed.{Performed};
-ghost use Rattle.rv_memory.specs.Stores.{AreNumbers, AreStores, IsEffectOf, IsLast, IsLastOf, IsNext, IsRefused, IsTold};
+ghost use Rattle.rv_memory.specs.Stores.{AreNumbers, AreStores, IsEffectOf, IsLast, IsLastOf, IsNext};
+ghost use Rattle.rv_memory.specs.Stores.{IsRefused, IsTold};
 ghost use Rattle.rv_memory.specs.Stores.{IsVersionAt, IsWrittenAt, at_place, kept_of, lists, of_word};
 ghost use Rattle.std.specs.HashMap.{get};
 
