@@ -1,2 +1,3 @@
+mod Branches
 mod Carried
 mod Traces

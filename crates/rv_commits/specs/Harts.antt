@@ -1,15 +1,18 @@
 -- The rows that a hart's instructions make, and what they list.
 use Rattle.std.specs.Prelude.{ℕ, ◌≡◌, ◌+◌, ◌++◌, [], List, Bool, true, false, Some, None, if◌then◌else◌}
-use Rattle.rv_event.specs.declared.event.DepKind.TheVariants.{Addr, DataOf}
+use Rattle.std.specs.Prelude.{◌<◌, ◌≤◌, All, Contains, length, map, slice_index_or}
+use Rattle.std.specs.List.{flat_map}
+use Rattle.rv_event.specs.declared.event.DepKind.TheVariants.{Addr, Ctrl, DataOf}
 use Rattle.rv_event.specs.declared.event.Event.{Event}
 use Rattle.rv_event.specs.declared.event.Op.{Op}
 use Rattle.rv_event.specs.declared.event.Op.TheVariants as op
 use Rattle.rv_flow.specs.Carriers.{AreNextRows, IsGrown}
 use Rattle.rv_flow.specs.Flows.{with_next}
-use Rattle.rv_flow.specs.Traces.{IsStill, IsTraceOf, ListsNext, Traced}
+use Rattle.rv_flow.specs.Traces.{AddsControl, IsStill, IsTraceOf, ListsNext, Traced}
 use Rattle.rv_flow.specs.declared.carriers.Lists.{Lists}
 use Rattle.rv_flow.specs.declared.step.Step.{Step}
 use Rattle.rv_insn.specs.declared.insn.Insn.{Insn}
+use Rattle.rv_rows.specs.Bits.{Has}
 use Rattle.rv_commits.specs.Rows.{parts_of}
 use Rattle.rv_commits.specs.declared.made.Made.{Made}
 
@@ -40,21 +43,50 @@ pub record IsRow (hart : ℕ) (made : Made) (address : ℕ) (row : Event) (n : �
   pub acquire : row.acquire ≡ made.acquire
   pub release : row.release ≡ made.release
 
--- The row of an access to memory. New carriers come first, the next rows of the hart; then the row, which lists at most
--- eight rows, behind which are just the events on which its address and its data depend.
-pub record IsAccessRow (hart : ℕ) (insn : Insn) (made : Made) (address : ℕ) (old new : Traced) (row : Event) : Type 0 where
-  pub listed : Traced
-  pub lists : Lists
-  pub still : IsStill old listed
-  pub grown : IsGrown old.carriers old.rows listed.carriers listed.rows
-  pub numbered : AreNextRows old.carriers old.rows listed.carriers listed.rows
-  pub dependencies : ListsNext old insn listed lists
-  pub deps : row.deps ≡ parts_of Addr lists.address.items ++ parts_of DataOf lists.value.items
-  pub fields : IsRow hart made address row listed.rows
-  pub taken : IsTaken insn made.op listed new listed.rows
+-- The row of an access to memory. New carriers come first, the next rows of the hart; then the row, which lists at
+-- most eight rows, behind which are just the events on which its address and its data depend.
+pub record IsAccessRow (hart : ℕ) (insn : Insn) (made : Made) (address : ℕ) (old new : Traced) (row : Event) : Type 0
+  where
+    pub listed : Traced
+    pub lists : Lists
+    pub still : IsStill old listed
+    pub grown : IsGrown old.carriers old.rows listed.carriers listed.rows
+    pub numbered : AreNextRows old.carriers old.rows listed.carriers listed.rows
+    pub dependencies : ListsNext old insn listed lists
+    pub deps : row.deps ≡ parts_of Addr lists.address.items ++ parts_of DataOf lists.value.items
+    pub fields : IsRow hart made address row listed.rows
+    pub taken : IsTaken insn made.op listed new listed.rows
 
 -- the row of a fence, which depends on nothing
 pub record IsFenceRow (hart : ℕ) (insn : Insn) (made : Made) (old new : Traced) (row : Event) : Type 0 where
   pub deps : row.deps ≡ []
   pub fields : IsRow hart made 0 row old.rows
   pub taken : IsTaken insn made.op old new old.rows
+
+-- the numbers that a row lists
+abbrev pub listed_by : Event → List ℕ
+listed_by row = map (λ d. d.seq) row.deps
+
+-- row n of a branch, which lists these events
+pub record IsBranchRow (hart n : ℕ) (row : Event) : Type 0 where
+  pub id : row.id ≡ record { hart = hart; seq = n }
+  pub op : row.op ≡ op.Branch
+  pub few : length row.deps ≤ 8
+  pub control : All (λ d. d.kind ≡ Ctrl) row.deps
+
+-- rows of a branch from number `first` on, which list these events together
+pub record AreBranchRows (hart first : ℕ) (events : List ℕ) (rows : List Event) : Type 0 where
+  pub each : (k : ℕ) (d : Event) → k < length rows → IsBranchRow hart (first + k) (slice_index_or rows k d)
+  pub all : flat_map listed_by rows ≡ events
+
+-- The rows of a branch. They list the events on which it depends, and no branch before it: with these the
+-- instructions behind it have just the control dependencies of the manual.
+pub record AreOfBranch (hart : ℕ) (insn : Insn) (old new : Traced) (rows : List Event) : Type 0 where
+  pub events : List ℕ
+  pub control : AddsControl old insn events
+  pub once : (n : ℕ) → Contains events n → Has old.flow.tested n → ⊥
+  pub are : AreBranchRows hart old.rows events rows
+  pub count : new.rows ≡ old.rows + length rows
+  pub carriers : new.carriers ≡ old.carriers
+  pub trace : (steps : List Step) → IsTraceOf steps old →
+      IsTraceOf (with_next steps (record { insn = insn; event = None })) new

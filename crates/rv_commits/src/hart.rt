@@ -1,19 +1,28 @@
 //! The rows that the instructions of a hart make.
-ghost use Rattle.std.specs.Prelude.{◌≡◌, [], IfOk, OnErr};
+ghost use Rattle.std.specs.Prelude.{◌≡◌, ◌≤◌, [], IfOk, OnErr, OnOk, length};
 ghost use Rattle.rv_flow.specs.Flows.{with_next};
-ghost use Rattle.rv_flow.specs.Traces.{IsStill, IsTraceOf};
+ghost use Rattle.rv_flow.specs.Traces.{IsOneRowMore, IsStill, IsTraceOf};
 ghost use Rattle.rv_flow.specs.declared.step.Step.{Step};
-ghost use Rattle.rv_commits.specs.Harts.{IsAccessRow, IsFenceRow, IsTaken, gives_value};
+ghost use Rattle.rv_commits.specs.Harts.{AreOfBranch, IsAccessRow, IsBranchRow, IsFenceRow, IsRow};
+ghost use Rattle.rv_commits.specs.Harts.{IsTaken, gives_value, listed_by};
 
-use crate::deps::access_deps;
+use crate::deps::{access_deps, deps_by};
 use crate::made::Made;
-use rv_event::{Deps, Event, Id, Op};
+use rv_event::{DepKind, Deps, Event, Id, Op};
 use rv_flow::{HartTrace, Unlisted};
 use rv_insn::Insn;
 use std::alloc::Global;
 
 /// How many rows of a hart a trace has at most.
 const MOST_ROWS: u32 = 4096;
+/// What each row of a branch makes.
+const BRANCH: Made = Made {
+    op: Op::Branch,
+    acquire: false,
+    release: false,
+};
+/// How many rows a row lists at most.
+const MOST_PARTS: usize = 8;
 
 /// The rows of a hart. Contracts see the fields.
 ///
@@ -69,6 +78,26 @@ impl HartRows {
         self.trace.number_row()
     }
 
+    /// The row of this number, with the fields that are known. Its versions are not: they are 0.
+    fn row_of(&self, seq: u32, made: Made, word: u32, deps: Deps) -> Event
+        ensures fields { IsRow self.now.hart made word result seq }
+        ensures deps { result.deps ≡ deps }
+    {
+        Event {
+            id: Id {
+                hart: self.hart,
+                seq,
+            },
+            op: made.op,
+            word,
+            read: 0,
+            wrote: 0,
+            acquire: made.acquire,
+            release: made.release,
+            deps,
+        }
+    }
+
     /// The row of the hart's next instruction, which is an access to this word. Its versions are
     /// not known yet: they are 0.
     ///
@@ -84,19 +113,7 @@ impl HartRows {
         let lists = self.trace.lists(insn)?;
         let deps = access_deps(self.alloc, &lists)?;
         let seq = self.take(insn, made.op)?;
-        Ok(Event {
-            id: Id {
-                hart: self.hart,
-                seq,
-            },
-            op: made.op,
-            word,
-            read: 0,
-            wrote: 0,
-            acquire: made.acquire,
-            release: made.release,
-            deps,
-        })
+        Ok(self.row_of(seq, made, word, deps))
     }
 
     /// The row of the hart's next instruction, which is a fence.
@@ -110,18 +127,47 @@ impl HartRows {
         ensures kept { OnErr result (IsStill self.old.trace self.new.trace) }
     {
         let seq = self.take(insn, made.op)?;
-        Ok(Event {
-            id: Id {
-                hart: self.hart,
-                seq,
-            },
-            op: made.op,
-            word: 0,
-            read: 0,
-            wrote: 0,
-            acquire: made.acquire,
-            release: made.release,
-            deps: Deps::from_vec(Vec::new(self.alloc)),
-        })
+        let deps = Deps::from_vec(Vec::new(self.alloc));
+        Ok(self.row_of(seq, made, 0, deps))
+    }
+
+    /// The next row of a branch, which lists these events.
+    fn branch_row(&mut self, events: &[u32]) -> Result<Event, Unlisted>
+        requires few { length events.now ≤ 8 }
+        ensures hart { self.new.hart ≡ self.old.hart }
+        ensures row { IfOk result (IsBranchRow self.old.hart self.old.trace.rows) }
+        ensures lists { IfOk result (λ row. listed_by row ≡ events.now) }
+        ensures one { OnOk result (IsOneRowMore self.old.trace self.new.trace) }
+        ensures flow { self.new.trace.flow ≡ self.old.trace.flow }
+        ensures still { IsStill self.old.trace self.new.trace }
+    {
+        let deps = deps_by(self.alloc, DepKind::Ctrl, events)?;
+        let seq = self.trace.number_row()?;
+        Ok(self.row_of(seq, BRANCH, 0, deps))
+    }
+
+    /// The rows of the hart's next instruction, which is a branch: one for each eight events on
+    /// which it depends, and no branch before it.
+    ///
+    /// # Errors
+    /// Memory ran out, or the hart would have more than 4,096 rows. The instructions so far are
+    /// those of before; numbers of rows may have been taken.
+    pub fn branch_rows(&mut self, insn: Insn) -> Result<Vec<Event>, Unlisted>
+        ensures hart { self.new.hart ≡ self.old.hart }
+        ensures made { IfOk result (λ rows.
+            AreOfBranch self.old.hart insn self.old.trace self.new.trace rows.items) }
+        ensures kept { OnErr result (IsStill self.old.trace self.new.trace) }
+    {
+        let events = self.trace.branch(insn)?;
+        let mut rows = Vec::new(self.alloc);
+        let mut start = 0;
+        'rows: while start < events.len() {
+            let end = (start + MOST_PARTS).min(events.len());
+            let row = self.branch_row(&events[start..end])?;
+            rows.push(row)?;
+            start = end;
+        }
+        self.trace.push(insn)?;
+        Ok(rows)
     }
 }

@@ -1,7 +1,7 @@
 //! Tests of what instructions make.
 
-use crate::{Made, made_by};
-use rv_event::{Op, Set};
+use crate::{HartRows, Made, made_by};
+use rv_event::{DepKind, Event, Id, Op, Set};
 use rv_insn::{Width, decode};
 use rv_log::{Retired, access_of};
 use std::process::Abort;
@@ -80,4 +80,60 @@ fn most_instructions_make_nothing(rt: HostRuntime) {
     assert_eq!(rt; made(&rt, 0x008000ef, None, None), None);
     assert_eq!(rt; made(&rt, 0x000280e7, None, None), plain(Op::Branch));
     assert_eq!(rt; made(&rt, 0x00628463, None, None), plain(Op::Branch));
+}
+
+fn access(rt: &impl Abort, hart: &mut HartRows, bits: u32, op: Op) -> Event {
+    let insn = decode(bits, Width::Rv64).expect(rt, "an instruction");
+    let made = Made {
+        op,
+        acquire: false,
+        release: false,
+    };
+    hart.access_row(insn, made, 7).expect(rt, "a row")
+}
+
+fn has_dep(row: &Event, kind: DepKind, seq: u32) -> bool {
+    row.deps
+        .as_slice()
+        .iter()
+        .any(|dep| dep.kind == kind && dep.seq == seq)
+}
+
+#[test]
+fn rows_list_what_their_instructions_depend_on(rt: HostRuntime) {
+    let mut hart = HartRows::new(rt.alloc(), 3);
+    // ld x5, 0(x10); ld x6, 0(x5); sd x6, 0(x5)
+    let first = access(&rt, &mut hart, 0x00053283, Op::Load);
+    let second = access(&rt, &mut hart, 0x0002b303, Op::Load);
+    let third = access(&rt, &mut hart, 0x0062b023, Op::Store);
+    assert!(rt; first.deps.as_slice().is_empty());
+    assert!(rt; second.deps.as_slice().len() == 1 && has_dep(&second, DepKind::Addr, 0));
+    assert!(rt; third.deps.as_slice().len() == 2 && has_dep(&third, DepKind::Addr, 0));
+    assert!(rt; has_dep(&third, DepKind::DataOf, 1));
+    assert!(rt; third.id == Id { hart: 3, seq: 2 });
+    assert!(rt; third.word == 7);
+    // beq x5, x6, 8, twice: the second one has nothing to add
+    let branch = decode(0x00628463, Width::Rv64).expect(&rt, "a branch");
+    let rows = hart.branch_rows(branch).expect(&rt, "rows");
+    assert!(rt; rows.len() == 1);
+    assert!(rt; has_dep(&rows[0], DepKind::Ctrl, 0) && has_dep(&rows[0], DepKind::Ctrl, 1));
+    let rows = hart.branch_rows(branch).expect(&rt, "rows");
+    assert!(rt; rows.is_empty());
+}
+
+#[test]
+fn a_branch_on_nine_loads_has_two_rows(rt: HostRuntime) {
+    let mut hart = HartRows::new(rt.alloc(), 0);
+    for _ in 0..9 {
+        // ld x6, 0(x10); add x5, x5, x6
+        let _ = access(&rt, &mut hart, 0x00053303, Op::Load);
+        let sum = decode(0x006282b3, Width::Rv64).expect(&rt, "a sum");
+        hart.trace.push(sum).expect(&rt, "memory");
+    }
+    // bne x5, x0, 8
+    let branch = decode(0x00029463, Width::Rv64).expect(&rt, "a branch");
+    let rows = hart.branch_rows(branch).expect(&rt, "rows");
+    assert!(rt; rows.len() == 2);
+    assert!(rt; rows[0].deps.as_slice().len() == 8 && rows[1].deps.as_slice().len() == 1);
+    assert!(rt; rows[1].id.seq == 10);
 }
