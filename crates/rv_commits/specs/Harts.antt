@@ -1,7 +1,9 @@
 -- The rows that a hart's instructions make, and what they list.
 use Rattle.std.specs.Prelude.{ℕ, ◌≡◌, ◌+◌, ◌++◌, [], List, Bool, true, false, Some, None, if◌then◌else◌}
 use Rattle.std.specs.Prelude.{◌<◌, ◌≤◌, All, Contains, length, map, slice_index_or}
+use Rattle.std.specs.Global.{Global}
 use Rattle.std.specs.List.{flat_map}
+use Rattle.std.specs.Prelude.{Option, Vec}
 use Rattle.rv_event.specs.declared.event.DepKind.TheVariants.{Addr, Ctrl, DataOf}
 use Rattle.rv_event.specs.declared.event.Event.{Event}
 use Rattle.rv_event.specs.declared.event.Op.{Op}
@@ -13,7 +15,11 @@ use Rattle.rv_flow.specs.declared.carriers.Lists.{Lists}
 use Rattle.rv_flow.specs.declared.step.Step.{Step}
 use Rattle.rv_insn.specs.declared.insn.Insn.{Insn}
 use Rattle.rv_rows.specs.Bits.{Has}
+use Rattle.rv_log.specs.declared.record.Retired.{Retired}
+use Rattle.rv_commits.specs.Made.{made}
 use Rattle.rv_commits.specs.Rows.{parts_of}
+use Rattle.rv_commits.specs.declared.hart.NewRows.{NewRows}
+use Rattle.rv_commits.specs.declared.hart.NewRows.TheVariants.{Branch, Nothing, One}
 use Rattle.rv_commits.specs.declared.made.Made.{Made}
 
 -- a later instruction may depend on the operation
@@ -90,3 +96,30 @@ pub record AreOfBranch (hart : ℕ) (insn : Insn) (old new : Traced) (rows : Lis
   pub carriers : new.carriers ≡ old.carriers
   pub trace : (steps : List Step) → IsTraceOf steps old →
       IsTraceOf (with_next steps (record { insn = insn; event = None })) new
+
+-- an instruction without a row
+pub record IsWithoutRow (insn : Insn) (old new : Traced) : Type 0 where
+  pub rows : new.rows ≡ old.rows
+  pub carriers : new.carriers ≡ old.carriers
+  pub trace : (steps : List Step) → IsTraceOf steps old →
+      IsTraceOf (with_next steps (record { insn = insn; event = None })) new
+
+-- what an instruction that makes this operation adds to the rows of its hart: rows of a branch, the row of a fence,
+-- or that of an access to this word
+abbrev pub IsAddedAs : Op → ℕ → Insn → Made → ℕ → Traced → Traced → NewRows → Type 0
+IsAddedAs op.Branch hart insn made address old new rows =
+    (many : Vec Event Global) × (rows ≡ Branch many) × AreOfBranch hart insn old new many.items
+IsAddedAs (op.Fence pred succ) hart insn made address old new rows =
+    (row : Event) × (rows ≡ One row) × IsFenceRow hart insn made old new row
+IsAddedAs op.FenceTso hart insn made address old new rows =
+    (row : Event) × (rows ≡ One row) × IsFenceRow hart insn made old new row
+IsAddedAs _ hart insn made address old new rows =
+    (row : Event) × (rows ≡ One row) × IsAccessRow hart insn made address old new row
+
+abbrev pub IsAddedBy : Option Made → ℕ → Insn → ℕ → Traced → Traced → NewRows → Type 0
+IsAddedBy (Some m) hart insn address old new rows = IsAddedAs m.op hart insn m address old new rows
+IsAddedBy None hart insn address old new rows = (rows ≡ Nothing) × IsWithoutRow insn old new
+
+-- what an instruction adds to the rows of its hart
+abbrev pub IsAdded : ℕ → Retired → ℕ → Traced → Traced → NewRows → Type 0
+IsAdded hart r address old new rows = IsAddedBy (made r) hart r.insn address old new rows

@@ -18,7 +18,7 @@ fn add_parts(deps: &mut Vec<Dep>, kind: DepKind, parts: &[u32]) -> Result<(), Al
 }
 
 /// The dependencies of an access: by its address, and by the value that it stores.
-pub fn access_deps(alloc: Global, lists: &Lists) -> Result<Deps, AllocError>
+pub(crate) fn access_deps(alloc: Global, lists: &Lists) -> Result<Deps, AllocError>
     ensures { IfOk result (λ deps. deps ≡ parts_of Addr lists.now.address.items
         ++ parts_of DataOf lists.now.value.items) }
 {
@@ -29,7 +29,7 @@ pub fn access_deps(alloc: Global, lists: &Lists) -> Result<Deps, AllocError>
 }
 
 /// The dependencies of a row of this kind alone.
-pub fn deps_by(alloc: Global, kind: DepKind, parts: &[u32]) -> Result<Deps, AllocError>
+pub(crate) fn deps_by(alloc: Global, kind: DepKind, parts: &[u32]) -> Result<Deps, AllocError>
     ensures { IfOk result (λ deps. deps ≡ parts_of kind parts.now) }
 {
     let mut deps = Vec::new(alloc);

@@ -4,13 +4,14 @@ ghost use Rattle.rv_flow.specs.Flows.{with_next};
 ghost use Rattle.rv_flow.specs.Traces.{IsOneRowMore, IsStill, IsTraceOf};
 ghost use Rattle.rv_flow.specs.declared.step.Step.{Step};
 ghost use Rattle.rv_commits.specs.Harts.{AreOfBranch, IsAccessRow, IsBranchRow, IsFenceRow, IsRow};
-ghost use Rattle.rv_commits.specs.Harts.{IsTaken, gives_value, listed_by};
+ghost use Rattle.rv_commits.specs.Harts.{IsAdded, IsTaken, gives_value, listed_by};
 
 use crate::deps::{access_deps, deps_by};
-use crate::made::Made;
+use crate::made::{Made, made_by};
 use rv_event::{DepKind, Deps, Event, Id, Op};
 use rv_flow::{HartTrace, Unlisted};
 use rv_insn::Insn;
+use rv_log::Retired;
 use std::alloc::Global;
 
 /// How many rows of a hart a trace has at most.
@@ -36,6 +37,17 @@ pub struct HartRows {
     pub hart: u8,
     /// The numbers of its rows, and what each lists.
     pub trace: HartTrace,
+}
+
+/// What an instruction adds to the rows of its hart, beside carriers.
+#[derive(Drop)]
+pub enum NewRows {
+    /// Nothing.
+    Nothing,
+    /// The row of an access to memory or of a fence.
+    One(Event),
+    /// The rows of a branch.
+    Branch(Vec<Event>),
 }
 
 /// Whether a later instruction may depend on the operation: it returns a value from memory, or a
@@ -104,7 +116,7 @@ impl HartRows {
     /// # Errors
     /// Memory ran out, or the hart would have more than 4,096 rows. The instructions so far are
     /// those of before; carriers may have come.
-    pub fn access_row(&mut self, insn: Insn, made: Made, word: u32) -> Result<Event, Unlisted>
+    fn access_row(&mut self, insn: Insn, made: Made, word: u32) -> Result<Event, Unlisted>
         ensures hart { self.new.hart ≡ self.old.hart }
         ensures made { IfOk result
             (IsAccessRow self.old.hart insn made word self.old.trace self.new.trace) }
@@ -120,7 +132,7 @@ impl HartRows {
     ///
     /// # Errors
     /// Memory ran out, or the hart has 4,096 rows. The instructions so far are those of before.
-    pub fn fence_row(&mut self, insn: Insn, made: Made) -> Result<Event, Unlisted>
+    fn fence_row(&mut self, insn: Insn, made: Made) -> Result<Event, Unlisted>
         ensures hart { self.new.hart ≡ self.old.hart }
         ensures made { IfOk result
             (IsFenceRow self.old.hart insn made self.old.trace self.new.trace) }
@@ -152,7 +164,7 @@ impl HartRows {
     /// # Errors
     /// Memory ran out, or the hart would have more than 4,096 rows. The instructions so far are
     /// those of before; numbers of rows may have been taken.
-    pub fn branch_rows(&mut self, insn: Insn) -> Result<Vec<Event>, Unlisted>
+    fn branch_rows(&mut self, insn: Insn) -> Result<Vec<Event>, Unlisted>
         ensures hart { self.new.hart ≡ self.old.hart }
         ensures made { IfOk result (λ rows.
             AreOfBranch self.old.hart insn self.old.trace self.new.trace rows.items) }
@@ -169,5 +181,29 @@ impl HartRows {
         }
         self.trace.push(insn)?;
         Ok(rows)
+    }
+
+    /// What the hart's next instruction adds to its rows. If it is an access, it is one to this
+    /// word.
+    ///
+    /// # Errors
+    /// Memory ran out, or the hart would have more than 4,096 rows. The instructions so far are
+    /// those of before; carriers may have come, and numbers of rows may have been taken.
+    pub fn add(&mut self, instruction: &Retired, word: u32) -> Result<NewRows, Unlisted>
+        ensures hart { self.new.hart ≡ self.old.hart }
+        ensures added { IfOk result
+            (IsAdded self.old.hart instruction.now word self.old.trace self.new.trace) }
+        ensures kept { OnErr result (IsStill self.old.trace self.new.trace) }
+    {
+        let insn = instruction.insn;
+        let Some(made) = made_by(instruction) else {
+            self.trace.push(insn)?;
+            return Ok(NewRows::Nothing);
+        };
+        match made.op {
+            Op::Branch => Ok(NewRows::Branch(self.branch_rows(insn)?)),
+            Op::Fence { .. } | Op::FenceTso => Ok(NewRows::One(self.fence_row(insn, made)?)),
+            _ => Ok(NewRows::One(self.access_row(insn, made, word)?)),
+        }
     }
 }

@@ -4,6 +4,7 @@
 //!
 //! - [`made`]: the operation that an instruction makes.
 //! - [`deps`]: the dependencies of a row, from what it lists.
+//! - [`hart`]: the rows of a hart, instruction by instruction.
 //! - [`laws`]: what the rows of a hart depend on, by carriers.
 //! - `specs/`: the same by cases, with the manual's sections.
 //!
@@ -18,7 +19,6 @@ mod made;
 #[cfg(test)]
 mod tests;
 
-pub use deps::{access_deps, deps_by};
-pub use hart::HartRows;
+pub use hart::{HartRows, NewRows};
 pub use laws::rows_depend_as_listed;
 pub use made::{Made, has_stored, made_by};

@@ -1,15 +1,15 @@
 //! Tests of what instructions make.
 
-use crate::{HartRows, Made, made_by};
+use crate::{HartRows, Made, NewRows, made_by};
 use rv_event::{DepKind, Event, Id, Op, Set};
 use rv_insn::{Width, decode};
 use rv_log::{Retired, access_of};
 use std::process::Abort;
 use std::rt::HostRuntime;
 
-fn made(rt: &impl Abort, bits: u32, rdata: Option<u64>, wdata: Option<u64>) -> Option<Made> {
+fn retired(rt: &impl Abort, bits: u32, rdata: Option<u64>, wdata: Option<u64>) -> Retired {
     let insn = decode(bits, Width::Rv64).expect(rt, "an instruction");
-    made_by(&Retired {
+    Retired {
         hart: 0,
         order: 0,
         pc: 0,
@@ -20,7 +20,11 @@ fn made(rt: &impl Abort, bits: u32, rdata: Option<u64>, wdata: Option<u64>) -> O
         rdata,
         wdata,
         time: None,
-    })
+    }
+}
+
+fn made(rt: &impl Abort, bits: u32, rdata: Option<u64>, wdata: Option<u64>) -> Option<Made> {
+    made_by(&retired(rt, bits, rdata, wdata))
 }
 
 fn plain(op: Op) -> Option<Made> {
@@ -82,14 +86,23 @@ fn most_instructions_make_nothing(rt: HostRuntime) {
     assert_eq!(rt; made(&rt, 0x00628463, None, None), plain(Op::Branch));
 }
 
-fn access(rt: &impl Abort, hart: &mut HartRows, bits: u32, op: Op) -> Event {
-    let insn = decode(bits, Width::Rv64).expect(rt, "an instruction");
-    let made = Made {
-        op,
-        acquire: false,
-        release: false,
+fn add(rt: &impl Abort, hart: &mut HartRows, bits: u32) -> NewRows {
+    hart.add(&retired(rt, bits, None, None), 7)
+        .expect(rt, "rows")
+}
+
+fn add_one(rt: &impl Abort, hart: &mut HartRows, bits: u32) -> Event {
+    let NewRows::One(row) = add(rt, hart, bits) else {
+        panic!(rt; "not one row");
     };
-    hart.access_row(insn, made, 7).expect(rt, "a row")
+    row
+}
+
+fn add_branch(rt: &impl Abort, hart: &mut HartRows, bits: u32) -> Vec<Event> {
+    let NewRows::Branch(rows) = add(rt, hart, bits) else {
+        panic!(rt; "no branch");
+    };
+    rows
 }
 
 fn has_dep(row: &Event, kind: DepKind, seq: u32) -> bool {
@@ -103,22 +116,22 @@ fn has_dep(row: &Event, kind: DepKind, seq: u32) -> bool {
 fn rows_list_what_their_instructions_depend_on(rt: HostRuntime) {
     let mut hart = HartRows::new(rt.alloc(), 3);
     // ld x5, 0(x10); ld x6, 0(x5); sd x6, 0(x5)
-    let first = access(&rt, &mut hart, 0x00053283, Op::Load);
-    let second = access(&rt, &mut hart, 0x0002b303, Op::Load);
-    let third = access(&rt, &mut hart, 0x0062b023, Op::Store);
+    let first = add_one(&rt, &mut hart, 0x00053283);
+    let second = add_one(&rt, &mut hart, 0x0002b303);
+    let third = add_one(&rt, &mut hart, 0x0062b023);
     assert!(rt; first.deps.as_slice().is_empty());
     assert!(rt; second.deps.as_slice().len() == 1 && has_dep(&second, DepKind::Addr, 0));
     assert!(rt; third.deps.as_slice().len() == 2 && has_dep(&third, DepKind::Addr, 0));
     assert!(rt; has_dep(&third, DepKind::DataOf, 1));
-    assert!(rt; third.id == Id { hart: 3, seq: 2 });
-    assert!(rt; third.word == 7);
+    assert!(rt; third.id == Id { hart: 3, seq: 2 } && third.word == 7);
     // beq x5, x6, 8, twice: the second one has nothing to add
-    let branch = decode(0x00628463, Width::Rv64).expect(&rt, "a branch");
-    let rows = hart.branch_rows(branch).expect(&rt, "rows");
+    let rows = add_branch(&rt, &mut hart, 0x00628463);
     assert!(rt; rows.len() == 1);
     assert!(rt; has_dep(&rows[0], DepKind::Ctrl, 0) && has_dep(&rows[0], DepKind::Ctrl, 1));
-    let rows = hart.branch_rows(branch).expect(&rt, "rows");
-    assert!(rt; rows.is_empty());
+    assert!(rt; add_branch(&rt, &mut hart, 0x00628463).is_empty());
+    // fence rw,rw
+    let fence = add_one(&rt, &mut hart, 0x0330000f);
+    assert!(rt; fence.id.seq == 4 && fence.deps.as_slice().is_empty());
 }
 
 #[test]
@@ -126,14 +139,15 @@ fn a_branch_on_nine_loads_has_two_rows(rt: HostRuntime) {
     let mut hart = HartRows::new(rt.alloc(), 0);
     for _ in 0..9 {
         // ld x6, 0(x10); add x5, x5, x6
-        let _ = access(&rt, &mut hart, 0x00053303, Op::Load);
-        let sum = decode(0x006282b3, Width::Rv64).expect(&rt, "a sum");
-        hart.trace.push(sum).expect(&rt, "memory");
+        let _ = add_one(&rt, &mut hart, 0x00053303);
+        assert!(rt; matches!(add(&rt, &mut hart, 0x006282b3), NewRows::Nothing));
     }
     // bne x5, x0, 8
-    let branch = decode(0x00029463, Width::Rv64).expect(&rt, "a branch");
-    let rows = hart.branch_rows(branch).expect(&rt, "rows");
+    let rows = add_branch(&rt, &mut hart, 0x00029463);
     assert!(rt; rows.len() == 2);
     assert!(rt; rows[0].deps.as_slice().len() == 8 && rows[1].deps.as_slice().len() == 1);
     assert!(rt; rows[1].id.seq == 10);
+    // sd x5, 0(x10): a carrier comes first
+    let store = add_one(&rt, &mut hart, 0x00553023);
+    assert!(rt; store.id.seq == 12 && store.deps.as_slice().len() == 2);
 }
