@@ -1,3 +1,4 @@
+pub mod Awaited
 pub mod Harts
 pub mod Made
 pub mod Rows

@@ -5,13 +5,15 @@
 //! - [`made`]: the operation that an instruction makes.
 //! - [`deps`]: the dependencies of a row, from what it lists.
 //! - [`hart`]: the rows of a hart, instruction by instruction.
+//! - [`awaited`]: the versions of a row, from the order of stores.
 //! - [`laws`]: what the rows of a hart depend on, by carriers.
 //! - `specs/`: the same by cases, with the manual's sections.
 //!
-//! It stands on `rv_event`, `rv_flow` and `rv_log`. Its contracts to the others: an operation is
+//! It stands on `rv_event`, `rv_flow`, `rv_log` and `rv_memory`. Its contracts to the others: an operation is
 //! what the cases say; a row depends on just the rows behind its list.
 #![tactic(auto)]
 
+mod awaited;
 mod deps;
 mod hart;
 mod laws;
@@ -19,6 +21,7 @@ mod made;
 #[cfg(test)]
 mod tests;
 
+pub use awaited::{Awaited, Versions, versions_of};
 pub use hart::{HartRows, NewRows};
 pub use laws::rows_depend_as_listed;
 pub use made::{Made, has_stored, made_by};

@@ -1,9 +1,10 @@
 //! Tests of what instructions make.
 
-use crate::{HartRows, Made, NewRows, made_by};
+use crate::{Awaited, HartRows, Made, NewRows, Versions, made_by, versions_of};
 use rv_event::{DepKind, Event, Id, Op, Set};
 use rv_insn::{Width, decode};
-use rv_log::{Retired, access_of};
+use rv_log::{Performed, Retired, access_of};
+use rv_memory::{Load, Stores};
 use std::process::Abort;
 use std::rt::HostRuntime;
 
@@ -150,4 +151,44 @@ fn a_branch_on_nine_loads_has_two_rows(rt: HostRuntime) {
     // sd x5, 0(x10): a carrier comes first
     let store = add_one(&rt, &mut hart, 0x00553023);
     assert!(rt; store.id.seq == 12 && store.deps.as_slice().len() == 2);
+}
+
+#[test]
+fn an_amo_returned_the_version_before_its_own(rt: HostRuntime) {
+    let mut stores = Stores::new(rt.alloc());
+    let amo = Awaited::Amo(4);
+    assert_eq!(rt;
+        versions_of(&stores, 1, &Awaited::Nothing, false),
+        Some(versions(0, 0))
+    );
+    assert_eq!(rt; versions_of(&stores, 1, &amo, true), None);
+    assert_eq!(rt; stores.push(store(0, 9, 5)), Ok(1));
+    assert_eq!(rt; stores.push(store(1, 4, 6)), Ok(2));
+    assert_eq!(rt;
+        versions_of(&stores, 0, &Awaited::Store(9), false),
+        Some(versions(0, 1))
+    );
+    assert_eq!(rt; versions_of(&stores, 0, &amo, true), None);
+    assert_eq!(rt; versions_of(&stores, 1, &amo, false), Some(versions(1, 2)));
+    let load = Awaited::Load(Load {
+        hart: 1,
+        address: 0x1000,
+        time: 5,
+        own: Some(4),
+    });
+    assert_eq!(rt; versions_of(&stores, 1, &load, false), Some(versions(2, 0)));
+}
+
+fn store(hart: u8, order: u64, time: u64) -> Performed {
+    Performed {
+        hart,
+        order,
+        address: 0x1000,
+        wdata: None,
+        time,
+    }
+}
+
+fn versions(read: u32, wrote: u32) -> Versions {
+    Versions { read, wrote }
 }

@@ -2,4 +2,4 @@ mod Blocks
 mod Lists
 mod Orders
 mod Placed
-mod Reading
+pub mod Reading

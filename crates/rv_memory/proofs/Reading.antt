@@ -13,7 +13,7 @@ use Rattle.rv_memory.specs.Reads.{IsRead}
 use Rattle.rv_memory.specs.Stores.{IsEffect, IsLast, IsOrder, IsVersionAt, of_word}
 
 -- the effect of a store stays
-effect-more : (log more : List Performed) (hart order : ℕ) (effect : Effect) → IsEffect log hart order effect →
+pub effect-more : (log more : List Performed) (hart order : ℕ) (effect : Effect) → IsEffect log hart order effect →
     IsEffect (log ++ more) hart order effect
 effect-more log more hart order effect is = record {
   before = is.before;
