@@ -1,3 +1,4 @@
 mod Branches
 mod Carried
+mod Stored
 mod Traces

@@ -1,4 +1,5 @@
 pub mod Awaited
 pub mod Harts
 pub mod Made
+pub mod Owns
 pub mod Rows

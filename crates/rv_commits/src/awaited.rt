@@ -2,8 +2,11 @@
 ghost use Rattle.std.specs.Prelude.{◌≡◌, ◌++◌, [], IfSome, List, None, true};
 ghost use Rattle.rv_log.specs.declared.record.Performed.{Performed};
 ghost use Rattle.rv_memory.specs.Stores.{AreStores, IsOrder};
-ghost use Rattle.rv_commits.specs.Awaited.{AreVersions, IsWaiting};
+ghost use Rattle.rv_commits.specs.Awaited.{AreVersions, IsWaiting, awaited_by};
 
+use crate::made::made_by;
+use rv_event::Op;
+use rv_log::Retired;
 use rv_memory::{Load, Stores};
 
 /// What the versions of a row come from.
@@ -17,6 +20,8 @@ pub enum Awaited {
     Load(Load),
     /// The effect of the AMO of this order: it returned the version before its own.
     Amo(u64),
+    /// What a load returned that tells no time: the order of stores alone does not say.
+    Value,
 }
 
 /// The versions of a row; 0 where it has none.
@@ -59,5 +64,30 @@ pub fn versions_of(stores: &Stores, hart: u8, awaited: &Awaited, ended: bool) ->
                 wrote,
             })
         }
+        Awaited::Value => None,
+    }
+}
+
+/// What the versions of an instruction's row come from. `own` is its hart's last earlier store to
+/// the word, if there is one.
+pub fn awaited_by(instruction: &Retired, own: Option<u64>) -> Awaited
+    ensures { result ≡ awaited_by instruction.now own }
+{
+    let Some(made) = made_by(instruction) else {
+        return Awaited::Nothing;
+    };
+    match made.op {
+        Op::Store | Op::Sc => Awaited::Store(instruction.order),
+        Op::Amo => Awaited::Amo(instruction.order),
+        Op::Load | Op::Lr => match instruction.time {
+            Some(time) => Awaited::Load(Load {
+                hart: instruction.hart,
+                address: instruction.address,
+                time,
+                own,
+            }),
+            None => Awaited::Value,
+        },
+        _ => Awaited::Nothing,
     }
 }

@@ -6,11 +6,13 @@
 //! - [`deps`]: the dependencies of a row, from what it lists.
 //! - [`hart`]: the rows of a hart, instruction by instruction.
 //! - [`awaited`]: the versions of a row, from the order of stores.
+//! - [`owns`]: the last store of a hart to each word.
 //! - [`laws`]: what the rows of a hart depend on, by carriers.
 //! - `specs/`: the same by cases, with the manual's sections.
 //!
-//! It stands on `rv_event`, `rv_flow`, `rv_log` and `rv_memory`. Its contracts to the others: an operation is
-//! what the cases say; a row depends on just the rows behind its list.
+//! It stands on `rv_event`, `rv_flow`, `rv_log` and `rv_memory`. Its contracts to the others: an
+//! operation is what the cases say; a row lists just what its instruction depends on, and has the
+//! versions that the order of stores gives it.
 #![tactic(auto)]
 
 mod awaited;
@@ -18,10 +20,12 @@ mod deps;
 mod hart;
 mod laws;
 mod made;
+mod owns;
 #[cfg(test)]
 mod tests;
 
-pub use awaited::{Awaited, Versions, versions_of};
+pub use awaited::{Awaited, Versions, awaited_by, versions_of};
 pub use hart::{HartRows, NewRows};
 pub use laws::rows_depend_as_listed;
 pub use made::{Made, has_stored, made_by};
+pub use owns::{Owns, does_store};

@@ -1,6 +1,6 @@
 //! Tests of what instructions make.
 
-use crate::{Awaited, HartRows, Made, NewRows, Versions, made_by, versions_of};
+use crate::{Awaited, HartRows, Made, NewRows, Owns, Versions, awaited_by, made_by, versions_of};
 use rv_event::{DepKind, Event, Id, Op, Set};
 use rv_insn::{Width, decode};
 use rv_log::{Performed, Retired, access_of};
@@ -191,4 +191,29 @@ fn store(hart: u8, order: u64, time: u64) -> Performed {
 
 fn versions(read: u32, wrote: u32) -> Versions {
     Versions { read, wrote }
+}
+
+#[test]
+fn the_last_store_to_a_word_is_forwarded(rt: HostRuntime) {
+    let mut owns = Owns::new(rt.alloc());
+    // sd x6, 0(x5), twice, and one elsewhere; lw x5, 0(x10)
+    for (order, address) in [(3u64, 0x1000u64), (4, 0x2000), (7, 0x1000)] {
+        let mut instruction = retired(&rt, 0x0062b023, None, None);
+        instruction.order = order;
+        instruction.address = address;
+        owns.add(&instruction).expect(&rt, "memory");
+    }
+    assert_eq!(rt; owns.last(0x1000), Some(7));
+    assert_eq!(rt; owns.last(0x2000), Some(4));
+    assert_eq!(rt; owns.last(0x3000), None);
+    let mut load = retired(&rt, 0x00052283, None, None);
+    assert_eq!(rt; awaited_by(&load, Some(7)), Awaited::Value);
+    load.time = Some(9);
+    let awaited = Awaited::Load(Load {
+        hart: 0,
+        address: 0,
+        time: 9,
+        own: Some(7),
+    });
+    assert_eq!(rt; awaited_by(&load, Some(7)), awaited);
 }
