@@ -6,6 +6,7 @@
 //! - [`deps`]: the dependencies of a row, from what it lists.
 //! - [`hart`]: the rows of a hart, instruction by instruction.
 //! - [`awaited`]: the versions of a row, from the order of stores.
+//! - [`pending`]: rows that wait for their versions.
 //! - [`owns`]: the last store of a hart to each word.
 //! - [`laws`]: what the rows of a hart depend on, by carriers.
 //! - `specs/`: the same by cases, with the manual's sections.
@@ -21,6 +22,7 @@ mod hart;
 mod laws;
 mod made;
 mod owns;
+mod pending;
 #[cfg(test)]
 mod tests;
 
@@ -29,3 +31,4 @@ pub use hart::{HartRows, NewRows};
 pub use laws::rows_depend_as_listed;
 pub use made::{Made, has_stored, made_by};
 pub use owns::{Owns, does_store};
+pub use pending::Pending;
