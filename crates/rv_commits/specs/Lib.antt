@@ -2,4 +2,5 @@ pub mod Awaited
 pub mod Harts
 pub mod Made
 pub mod Owns
+pub mod Queues
 pub mod Rows

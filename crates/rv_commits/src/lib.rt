@@ -7,6 +7,7 @@
 //! - [`hart`]: the rows of a hart, instruction by instruction.
 //! - [`awaited`]: the versions of a row, from the order of stores.
 //! - [`pending`]: rows that wait for their versions.
+//! - [`queue`]: the rows of a hart that wait, in their order.
 //! - [`owns`]: the last store of a hart to each word.
 //! - [`laws`]: what the rows of a hart depend on, by carriers.
 //! - `specs/`: the same by cases, with the manual's sections.
@@ -23,6 +24,7 @@ mod laws;
 mod made;
 mod owns;
 mod pending;
+mod queue;
 #[cfg(test)]
 mod tests;
 
@@ -32,3 +34,4 @@ pub use laws::rows_depend_as_listed;
 pub use made::{Made, has_stored, made_by};
 pub use owns::{Owns, does_store};
 pub use pending::Pending;
+pub use queue::WaitingHart;

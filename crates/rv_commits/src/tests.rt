@@ -1,6 +1,8 @@
 //! Tests of what instructions make.
 
-use crate::{Awaited, HartRows, Made, NewRows, Owns, Versions, awaited_by, made_by, versions_of};
+use crate::{
+    Awaited, HartRows, Made, NewRows, Owns, Versions, WaitingHart, awaited_by, made_by, versions_of,
+};
 use rv_event::{DepKind, Event, Id, Op, Set};
 use rv_insn::{Width, decode};
 use rv_log::{Performed, Retired, access_of};
@@ -216,4 +218,28 @@ fn the_last_store_to_a_word_is_forwarded(rt: HostRuntime) {
         own: Some(7),
     });
     assert_eq!(rt; awaited_by(&load, Some(7)), awaited);
+}
+
+#[test]
+fn rows_wait_in_program_order(rt: HostRuntime) {
+    let mut hart = WaitingHart::new(rt.alloc(), 0);
+    let mut stores = Stores::new(rt.alloc());
+    // sd x6, 0(x5), of order 0; ld x5, 0(x10), of order 1, from the same word
+    let first = retired(&rt, 0x0062b023, None, None);
+    let mut second = retired(&rt, 0x00053283, None, None);
+    second.order = 1;
+    second.time = Some(4);
+    hart.retire(&first, 2).expect(&rt, "memory");
+    hart.retire(&second, 2).expect(&rt, "memory");
+    assert!(rt; hart.queue.len() == 2);
+    let mut front = hart.queue.pop_front().expect(&rt, "a row");
+    let mut load = hart.queue.pop_front().expect(&rt, "a row");
+    assert!(rt; !front.settle(&stores, false) && !load.settle(&stores, false));
+    let effect = Performed {
+        address: 0,
+        ..store(0, 0, 5)
+    };
+    assert_eq!(rt; stores.push(effect), Ok(1));
+    assert!(rt; front.settle(&stores, false) && load.settle(&stores, false));
+    assert!(rt; front.row.wrote == 1 && load.row.read == 1);
 }

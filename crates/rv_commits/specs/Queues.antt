@@ -1,0 +1,32 @@
+-- The rows of a hart that wait, in their order.
+use Rattle.std.specs.Prelude.{ℕ, ◌≡◌, ◌++◌, ◌∷◌, [], List, Option, map}
+use Rattle.rv_event.specs.declared.event.Event.{Event}
+use Rattle.rv_log.specs.declared.record.Retired.{Retired}
+use Rattle.rv_commits.specs.Awaited.{awaited_by}
+use Rattle.rv_commits.specs.Harts.{IsAdded}
+use Rattle.rv_commits.specs.Owns.{AreOwns, IsLastStore}
+use Rattle.rv_commits.specs.declared.awaited.Awaited.{Awaited}
+use Rattle.rv_commits.specs.declared.awaited.Awaited.TheVariants as awaited
+use Rattle.rv_commits.specs.declared.hart.NewRows.{NewRows}
+use Rattle.rv_commits.specs.declared.hart.NewRows.TheVariants.{Branch, Nothing, One}
+use Rattle.rv_commits.specs.declared.pending.Pending.{Pending}
+use Rattle.rv_commits.specs.declared.queue.WaitingHart.{WaitingHart}
+
+-- a row that waits for this
+abbrev pub pending : Awaited → Event → Pending
+pending a row = record { row = row; awaited = a }
+
+-- the rows that an instruction added: a branch's wait for nothing
+abbrev pub pendings : NewRows → Awaited → List Pending
+pendings Nothing a = []
+pendings (One row) a = pending a row ∷ []
+pendings (Branch rows) a = map (pending awaited.Nothing) rows.items
+
+-- the hart took the instruction: its rows wait behind the others
+pub record IsRetired (done : List Retired) (r : Retired) (address : ℕ) (old new : WaitingHart) : Type 0 where
+  pub added : NewRows
+  pub is_added : IsAdded old.rows.hart r address old.rows.trace new.rows.trace added
+  pub own : Option ℕ
+  pub is_own : IsLastStore done r.address own
+  pub queued : new.queue.items ≡ old.queue.items ++ pendings added (awaited_by r own)
+  pub owns : AreOwns (done ++ r ∷ []) new.owns
