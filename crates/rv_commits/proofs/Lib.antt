@@ -1,4 +1,5 @@
 mod Branches
 mod Carried
+mod Parts
 mod Stored
 mod Traces

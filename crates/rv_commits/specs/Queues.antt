@@ -1,8 +1,9 @@
 -- The rows of a hart that wait, in their order.
-use Rattle.std.specs.Prelude.{ℕ, ◌≡◌, ◌++◌, ◌∷◌, [], List, Option, map}
+use Rattle.std.specs.Prelude.{ℕ, ◌≡◌, ◌++◌, ◌∷◌, [], Bool, List, Option, map}
 use Rattle.rv_event.specs.declared.event.Event.{Event}
+use Rattle.rv_log.specs.declared.record.Performed.{Performed}
 use Rattle.rv_log.specs.declared.record.Retired.{Retired}
-use Rattle.rv_commits.specs.Awaited.{awaited_by}
+use Rattle.rv_commits.specs.Awaited.{IsSettled, IsWaiting, awaited_by}
 use Rattle.rv_commits.specs.Harts.{IsAdded}
 use Rattle.rv_commits.specs.Owns.{AreOwns, IsLastStore}
 use Rattle.rv_commits.specs.declared.awaited.Awaited.{Awaited}
@@ -30,3 +31,17 @@ pub record IsRetired (done : List Retired) (r : Retired) (address : ℕ) (old ne
   pub is_own : IsLastStore done r.address own
   pub queued : new.queue.items ≡ old.queue.items ++ pendings added (awaited_by r own)
   pub owns : AreOwns (done ++ r ∷ []) new.owns
+
+-- the row is the first that waited, with its versions; the others wait still
+pub record IsFirst (log : List Performed) (old new : List Pending) (event : Event) : Type 0 where
+  pub first : Pending
+  pub queue : old ≡ first ∷ new
+  pub settled : Pending
+  pub is_settled : IsSettled log first settled
+  pub row : event ≡ settled.row
+
+-- all wait that waited: there is none, or the first has no versions yet
+abbrev pub IsAtRest : List Performed → Bool → List Pending → List Pending → Type 0
+IsAtRest log ended [] new = new ≡ []
+IsAtRest log ended (first ∷ rest) new =
+    (new ≡ first ∷ rest) × IsWaiting log first.row.id.hart first.awaited ended

@@ -1,5 +1,6 @@
 //! The rows that the instructions of a hart make.
 ghost use Rattle.std.specs.Prelude.{◌≡◌, ◌≤◌, [], IfOk, OnErr, OnOk, length};
+ghost use Rattle.rv_commits.specs.Rows.{IsRowOf};
 ghost use Rattle.rv_flow.specs.Flows.{with_next};
 ghost use Rattle.rv_flow.specs.Traces.{IsOneRowMore, IsStill, IsTraceOf};
 ghost use Rattle.rv_flow.specs.declared.step.Step.{Step};
@@ -9,16 +10,22 @@ ghost use Rattle.rv_commits.specs.Harts.{IsAdded, IsTaken, gives_value, listed_b
 use crate::deps::{access_deps, deps_by};
 use crate::made::{Made, made_by};
 use rv_event::{DepKind, Deps, Event, Id, Op};
-use rv_flow::{HartTrace, Unlisted};
+use rv_flow::{Carrier, HartTrace, Unlisted};
 use rv_insn::Insn;
 use rv_log::Retired;
-use std::alloc::Global;
+use std::alloc::{AllocError, Global};
 
 /// How many rows of a hart a trace has at most.
 const MOST_ROWS: u32 = 4096;
 /// What each row of a branch makes.
 const BRANCH: Made = Made {
     op: Op::Branch,
+    acquire: false,
+    release: false,
+};
+/// What the row of a carrier makes.
+const CARRIER: Made = Made {
+    op: Op::Carrier,
     acquire: false,
     release: false,
 };
@@ -205,5 +212,18 @@ impl HartRows {
             Op::Fence { .. } | Op::FenceTso => Ok(NewRows::One(self.fence_row(insn, made)?)),
             _ => Ok(NewRows::One(self.access_row(insn, made, word)?)),
         }
+    }
+
+    /// The row of one of the hart's carriers.
+    ///
+    /// # Errors
+    /// Memory ran out.
+    pub fn carrier_row(&self, carrier: &Carrier) -> Result<Event, AllocError>
+        ensures id { IfOk result (λ row.
+            row.id ≡ record { hart = self.now.hart; seq = carrier.now.number }) }
+        ensures row { IfOk result (IsRowOf carrier.now) }
+    {
+        let deps = deps_by(self.alloc, DepKind::DataOf, &carrier.list.parts)?;
+        Ok(self.row_of(carrier.number, CARRIER, 0, deps))
     }
 }

@@ -1,10 +1,12 @@
 //! The rows of a hart that wait, in their order.
-ghost use Rattle.std.specs.Prelude.{◌≡◌, ◌++◌, [], List, OnOk, map};
+ghost use Rattle.std.specs.Prelude.{◌≡◌, ◌++◌, [], IfSome, List, None, OnOk, map, true};
 ghost use Rattle.rv_log.specs.declared.record.Retired.{Retired};
 ghost use Rattle.rv_commits.specs.Owns.{AreOwns};
 ghost use Rattle.rv_commits.specs.declared.awaited.Awaited.TheVariants.{Nothing};
 ghost use Rattle.rv_flow.specs.Traces.{IsTraceOf};
-ghost use Rattle.rv_commits.specs.Queues.{IsRetired, pending, pendings};
+ghost use Rattle.rv_commits.specs.Queues.{IsAtRest, IsFirst, IsRetired, pending, pendings};
+ghost use Rattle.rv_log.specs.declared.record.Performed.{Performed};
+ghost use Rattle.rv_memory.specs.Stores.{AreStores, IsOrder};
 
 use crate::awaited::{Awaited, awaited_by};
 use crate::hart::{HartRows, NewRows};
@@ -13,6 +15,7 @@ use crate::pending::Pending;
 use rv_event::Event;
 use rv_flow::Unlisted;
 use rv_log::Retired;
+use rv_memory::Stores;
 use std::alloc::{AllocError, Global};
 use std::collections::VecDeque;
 
@@ -69,8 +72,8 @@ impl WaitingHart {
         }
     }
 
-    /// Takes the hart's next instruction: its rows wait behind the others. If it is an access, it is
-    /// one to this word.
+    /// Takes the hart's next instruction: its rows wait behind the others. If it is an access, it
+    /// is one to this word.
     ///
     /// # Errors
     /// Memory ran out, or the hart would have more than 4,096 rows. The hart is of no more use.
@@ -84,5 +87,24 @@ impl WaitingHart {
         push(&mut self.queue, added, awaited_by(instruction, own))?;
         self.owns.add(instruction)?;
         Ok(())
+    }
+
+    /// The first of the rows that wait, once its versions are known; it waits no more. `None` where
+    /// no row waits, or the first still does. `ended`: no store comes after these.
+    pub fn settled(&mut self, stores: &Stores, ended: bool) -> Option<Event>
+        ensures rows { self.new.rows ≡ self.old.rows }
+        ensures owns { self.new.owns ≡ self.old.owns }
+        ensures first { (log more : List Performed) → AreStores log stores.now
+            → IsOrder (log ++ more) → (ended ≡ true → more ≡ [])
+            → IfSome result (IsFirst (log ++ more) self.old.queue.items self.new.queue.items) }
+        ensures waits { (log : List Performed) → AreStores log stores.now → result ≡ None
+            → IsAtRest log ended self.old.queue.items self.new.queue.items }
+    {
+        let front = self.queue.front_mut()?;
+        if !front.settle(stores, ended) {
+            return None;
+        }
+        let settled = self.queue.pop_front()?;
+        Some(settled.row)
     }
 }

@@ -153,6 +153,10 @@ fn a_branch_on_nine_loads_has_two_rows(rt: HostRuntime) {
     // sd x5, 0(x10): a carrier comes first
     let store = add_one(&rt, &mut hart, 0x00553023);
     assert!(rt; store.id.seq == 12 && store.deps.as_slice().len() == 2);
+    let carrier = hart.trace.carriers().first().expect(&rt, "a carrier");
+    let row = hart.carrier_row(carrier).expect(&rt, "memory");
+    assert!(rt; row.id.seq == 11 && row.op == Op::Carrier);
+    assert!(rt; row.deps.as_slice().len() == 8 && has_dep(&row, DepKind::DataOf, 0));
 }
 
 #[test]
@@ -232,14 +236,15 @@ fn rows_wait_in_program_order(rt: HostRuntime) {
     hart.retire(&first, 2).expect(&rt, "memory");
     hart.retire(&second, 2).expect(&rt, "memory");
     assert!(rt; hart.queue.len() == 2);
-    let mut front = hart.queue.pop_front().expect(&rt, "a row");
-    let mut load = hart.queue.pop_front().expect(&rt, "a row");
-    assert!(rt; !front.settle(&stores, false) && !load.settle(&stores, false));
+    assert!(rt; hart.settled(&stores, true).is_none());
     let effect = Performed {
         address: 0,
         ..store(0, 0, 5)
     };
     assert_eq!(rt; stores.push(effect), Ok(1));
-    assert!(rt; front.settle(&stores, false) && load.settle(&stores, false));
-    assert!(rt; front.row.wrote == 1 && load.row.read == 1);
+    let front = hart.settled(&stores, false).expect(&rt, "a row");
+    let load = hart.settled(&stores, false).expect(&rt, "a row");
+    assert!(rt; front.id.seq == 0 && front.wrote == 1);
+    assert!(rt; load.id.seq == 1 && load.read == 1);
+    assert!(rt; hart.settled(&stores, true).is_none());
 }
