@@ -1,5 +1,6 @@
 mod Branches
 mod Carried
+mod Merging
 mod Parts
 mod Stored
 mod Traces

@@ -32,5 +32,6 @@ names-parts kind parts p = (to, from)
 -- so does a row that has them alone
 pub lists-just : (kind : DepKind) (row : Event) (parts : List ℕ) → row.deps ≡ parts_of kind parts →
     ListsJust kind row parts
-lists-just kind row parts is p = subst
-    (λ (ds : List Dep). Contains ds (record { kind = kind; seq = p }) ↔ Contains parts p) (sym is) (names-parts kind parts p)
+lists-just kind row parts is p =
+    subst (λ (ds : List Dep). Contains ds (record { kind = kind; seq = p }) ↔ Contains parts p) (sym is)
+    (names-parts kind parts p)

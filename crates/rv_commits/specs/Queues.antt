@@ -1,6 +1,7 @@
 -- The rows of a hart that wait, in their order.
-use Rattle.std.specs.Prelude.{ℕ, ◌≡◌, ◌++◌, ◌∷◌, [], Bool, List, Option, map}
+use Rattle.std.specs.Prelude.{ℕ, ◌≡◌, ◌++◌, ◌∷◌, [], ◌≤◌, ◌+◌, Bool, List, Option, drop, length, map}
 use Rattle.rv_event.specs.declared.event.Event.{Event}
+use Rattle.rv_flow.specs.declared.carrier.Carrier.{Carrier}
 use Rattle.rv_log.specs.declared.record.Performed.{Performed}
 use Rattle.rv_log.specs.declared.record.Retired.{Retired}
 use Rattle.rv_commits.specs.Awaited.{IsSettled, IsWaiting, awaited_by}
@@ -45,3 +46,19 @@ abbrev pub IsAtRest : List Performed → Bool → List Pending → List Pending 
 IsAtRest log ended [] new = new ≡ []
 IsAtRest log ended (first ∷ rest) new =
     (new ≡ first ∷ rest) × IsWaiting log first.row.id.hart first.awaited ended
+
+-- the numbers from n up to the end are those of the carriers and of the rows that wait, in their order
+pub data Merged (hart : ℕ) : ℕ → ℕ → List Carrier → List Pending → Type 0 where
+  none : {end : ℕ} → Merged hart end end [] []
+  carrier :
+      {n end : ℕ} {c : Carrier} {carriers : List Carrier} {rows : List Pending} → c.number ≡ n →
+      Merged hart (n + 1) end carriers rows → Merged hart n end (c ∷ carriers) rows
+  row :
+      {n end : ℕ} {p : Pending} {carriers : List Carrier} {rows : List Pending} →
+      p.row.id ≡ record { hart = hart; seq = n } → Merged hart (n + 1) end carriers rows →
+      Merged hart n end carriers (p ∷ rows)
+
+-- the rows of the hart that were not given are the carriers that were not, and the rows that wait
+pub record HasNumbers (h : WaitingHart) : Type 0 where
+  pub few : h.carriers ≤ length h.rows.trace.carriers
+  pub merged : Merged h.rows.hart h.given h.rows.trace.rows (drop h.carriers h.rows.trace.carriers) h.queue.items

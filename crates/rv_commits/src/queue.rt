@@ -4,7 +4,7 @@ ghost use Rattle.rv_log.specs.declared.record.Retired.{Retired};
 ghost use Rattle.rv_commits.specs.Owns.{AreOwns};
 ghost use Rattle.rv_commits.specs.declared.awaited.Awaited.TheVariants.{Nothing};
 ghost use Rattle.rv_flow.specs.Traces.{IsTraceOf};
-ghost use Rattle.rv_commits.specs.Queues.{IsAtRest, IsFirst, IsRetired, pending, pendings};
+ghost use Rattle.rv_commits.specs.Queues.{HasNumbers, IsAtRest, IsFirst, IsRetired, pending, pendings};
 ghost use Rattle.rv_log.specs.declared.record.Performed.{Performed};
 ghost use Rattle.rv_memory.specs.Stores.{AreStores, IsOrder};
 
@@ -28,6 +28,10 @@ pub struct WaitingHart {
     pub owns: Owns,
     /// The rows that wait, in their order; carriers are not among them.
     pub queue: VecDeque<Pending>,
+    /// How many of its rows were given: the number of the next one.
+    pub given: u32,
+    /// How many of its carriers were given.
+    pub carriers: usize,
 }
 
 /// Adds the rows of a branch.
@@ -64,11 +68,17 @@ impl WaitingHart {
         ensures none { IsTraceOf [] result.rows.trace }
         ensures owns { AreOwns [] result.owns }
         ensures empty { result.queue.items ≡ [] }
+        ensures numbers { HasNumbers result }
     {
+        let rows = HartRows::new(alloc, hart);
+        let given = rows.trace.next();
+        let carriers = rows.trace.carriers().len();
         WaitingHart {
-            rows: HartRows::new(alloc, hart),
+            rows,
             owns: Owns::new(alloc),
             queue: VecDeque::new(alloc),
+            given,
+            carriers,
         }
     }
 
@@ -81,6 +91,7 @@ impl WaitingHart {
         ensures hart { self.new.rows.hart ≡ self.old.rows.hart }
         ensures retired { (done : List Retired) → AreOwns done self.old.owns
             → OnOk result (IsRetired done instruction.now word self.old self.new) }
+        ensures numbers { HasNumbers self.old → OnOk result (HasNumbers self.new) }
     {
         let own = self.owns.last(instruction.address);
         let added = self.rows.add(instruction, word)?;

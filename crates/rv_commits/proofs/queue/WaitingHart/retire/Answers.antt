@@ -1,6 +1,8 @@
-use Rattle.std.proofs.Common.{◌++◌, ◌∙◌, ap}
-use Rattle.rv_commits.specs.Queues.{pendings}
+use Rattle.std.proofs.Common.{ℕ, ◌++◌, ◌∙◌, ap, drop, subst, sym}
+use Rattle.rv_commits.specs.Made.{made}
+use Rattle.rv_commits.specs.Queues.{Merged, pendings}
 use Rattle.rv_commits.specs.declared.awaited.Awaited.{Awaited}
+use Rattle.rv_commits.proofs.Merging.{added-numbers, numbers-more}
 use Rattle.rv_commits.proofs.queue.WaitingHart.retire.Goals as goal
 
 pub returns-clause-retired : goal.returns-clause-retired
@@ -13,3 +15,20 @@ returns-clause-retired c = λ done are. record {
       c.awaited_by.ensures;
   owns = c.in_ok-add.ensures.added done are;
 }
+
+pub returns-clause-numbers : goal.returns-clause-numbers
+returns-clause-numbers c = λ numbers.
+    let old = c.args.self.now.rows.trace in
+    let new = c.add.new.self.trace in
+    let hart = c.args.self.now.rows.hart in
+    let insn = c.args.instruction.now.insn in
+    let adds = added-numbers hart insn c.args.word old new c.awaited_by.result (made c.args.instruction.now)
+    c.in_ok-added.added c.in_ok-added.ensures.added in
+    let more = numbers-more hart c.args.self.now.given c.args.self.now.carriers old new c.args.self.now.queue.items
+    (pendings c.in_ok-added.added c.awaited_by.result) numbers.few numbers.merged adds in record {
+      few = more.0;
+      merged = subst (λ (h : ℕ). Merged h c.args.self.now.given new.rows (drop c.args.self.now.carriers new.carriers)
+          c.push.new.queue.items) (sym c.in_ok-added.ensures.hart)
+          (subst (Merged hart c.args.self.now.given new.rows (drop c.args.self.now.carriers new.carriers))
+          (sym c.in_ok-push.ensures) more.1);
+    }
