@@ -1,22 +1,33 @@
 -- The numbers of carriers and of rows that wait, in their order.
 use Rattle.std.proofs.Common.{ℕ, suc, ◌≡◌, ◌∙◌, ◌+◌, ◌≤◌, ◌<◌, ◌++◌, ◌∷◌, [], List, ap, arith, drop, get_or, length, map}
-use Rattle.std.proofs.Common.{refl, subst, sym, append-nil, Option, Some, None}
-use Rattle.std.proofs.lemmas.List.{drop-append-le, get_or-append_right, get_or-map, length-append, length-map}
+use Rattle.std.proofs.Common.{◌≢◌, refl, subst, sym, append-nil, Option, Some, None}
+use Rattle.std.proofs.lemmas.List.{drop-append-le, get_or-append_right, get_or-map, length-append, length-drop, length-map}
+use Rattle.std.proofs.Math.Seq.{drop-cons}
 use Rattle.rv_event.specs.declared.event.Event.{Event}
 use Rattle.rv_event.specs.declared.event.Op.{Op}
 use Rattle.rv_event.specs.declared.event.Op.TheVariants as op
 use Rattle.rv_flow.specs.Carriers.{AreNextRows}
-use Rattle.rv_flow.specs.Traces.{Traced}
+use Rattle.rv_flow.specs.Traces.{IsTraceOf, Traced}
 use Rattle.rv_flow.specs.declared.carrier.Carrier.{Carrier}
+use Rattle.rv_flow.specs.declared.step.Step.{Step}
 use Rattle.rv_insn.specs.declared.insn.Insn.{Insn}
 use Rattle.rv_commits.specs.Harts.{AreOfBranch, IsAccessRow, IsAddedAs, IsAddedBy, IsFenceRow}
-use Rattle.rv_commits.specs.Queues.{Merged, carrier, none, pending, pendings, row}
+use Rattle.rv_commits.specs.Queues.{HasNumbers, IsCarrierNext, IsNextCarrier, Merged, carrier, none, pending, pendings, row}
 use Rattle.rv_commits.specs.declared.awaited.Awaited.{Awaited}
 use Rattle.rv_commits.specs.declared.awaited.Awaited.TheVariants as awaited
 use Rattle.rv_commits.specs.declared.hart.NewRows.{NewRows}
 use Rattle.rv_commits.specs.declared.hart.NewRows.TheVariants.{One}
 use Rattle.rv_commits.specs.declared.made.Made.{Made}
 use Rattle.rv_commits.specs.declared.pending.Pending.{Pending}
+use Rattle.rv_commits.specs.declared.queue.WaitingHart.{WaitingHart}
+
+nil-cons : {X : Type 0} (x : X) (xs : List X) → [] ≡ x ∷ xs → ⊥
+nil-cons x xs is = let long = ap (λ (l : List _). length l) is in omega (long, arith)
+
+-- the number of the first carrier
+abbrev first-number : ℕ → List Carrier → ℕ
+first-number n [] = n
+first-number n (c ∷ cs) = c.number
 
 module _ {hart : ℕ} where
   -- numbers behind others
@@ -62,6 +73,7 @@ pub record AddsNumbers (hart : ℕ) (old new : Traced) (ps : List Pending) : Typ
   pub more : List Carrier
   pub kept : new.carriers ≡ old.carriers ++ more
   pub merged : Merged hart old.rows new.rows more ps
+  pub traced : (steps : List Step) → IsTraceOf steps old → (longer : List Step) × IsTraceOf longer new
 
 module _ (hart : ℕ) (insn : Insn) (made : Made) (address : ℕ) (old new : Traced) (a : Awaited) where
   -- a row with its carriers
@@ -76,6 +88,7 @@ module _ (hart : ℕ) (insn : Insn) (made : Made) (address : ℕ) (old new : Tra
         (merged-append (new-carriers old.carriers is.grown.more old.rows is.listed.rows
         (subst (λ (cs : List Carrier). AreNextRows old.carriers old.rows cs is.listed.rows) is.grown.kept is.numbered))
         (row is.fields.id none)));
+    traced = λ steps trace. (_, is.taken.trace steps (is.still steps trace));
   }
 
   -- one without
@@ -85,6 +98,7 @@ module _ (hart : ℕ) (insn : Insn) (made : Made) (address : ℕ) (old new : Tra
     kept = is.taken.carriers ∙ sym (append-nil old.carriers);
     merged = subst (λ (end : ℕ). Merged hart old.rows end [] (pending a r ∷ [])) (sym is.taken.rows)
         (row is.fields.id none);
+    traced = λ steps trace. (_, is.taken.trace steps trace);
   }
 
   -- those of a branch
@@ -99,6 +113,7 @@ module _ (hart : ℕ) (insn : Insn) (made : Made) (address : ℕ) (old new : Tra
         let inside = subst (λ (n : ℕ). i < n) (length-map rows (pending awaited.Nothing)) low in
         ap (λ (x : Pending). x.row.id) (get_or-map (pending awaited.Nothing) rows i p.row p inside) ∙
         (is.are.each i p.row inside).id));
+    traced = λ steps trace. (_, is.trace steps trace);
   }
 
   abbrev Adds : NewRows → Type 0
@@ -132,6 +147,7 @@ added-numbers hart insn address old new a None rows is =
       more = [];
       kept = is.1.carriers ∙ sym (append-nil old.carriers);
       merged = subst (λ (end : ℕ). Merged hart old.rows end [] []) (sym is.1.rows) none;
+      traced = λ steps trace. (_, is.1.trace steps trace);
     })
 
 -- with them the hart's rows that were not given are numbered as before
@@ -150,3 +166,90 @@ numbers-more hart given given-carriers old new queue ps few merged adds = (
       (sym (ap (drop given-carriers) adds.kept ∙ drop-append-le given-carriers old.carriers adds.more few))
       (merged-append merged adds.merged),
 )
+
+module _ {hart : ℕ} where
+  -- numbers go up to the end
+  merged-end : {n end : ℕ} {cs : List Carrier} {ps : List Pending} → Merged hart n end cs ps → n ≤ end
+  merged-end none = omega arith
+  merged-end (carrier at rest) = let later = merged-end rest in omega (later, arith)
+  merged-end (row at rest) = let later = merged-end rest in omega (later, arith)
+
+  -- carriers are from the first number on
+  merged-from : {n end : ℕ} {cs : List Carrier} {ps : List Pending} → Merged hart n end cs ps → (c : Carrier)
+      (rest : List Carrier) → cs ≡ c ∷ rest → n ≤ c.number
+  merged-from none c rest is = absurd (nil-cons c rest is)
+  merged-from (carrier at later) c rest is = let same = ap (first-number 0) is in omega (at, same, arith)
+  merged-from (row at later) c rest is = let low = merged-from later c rest is in omega (low, arith)
+
+  -- behind the carrier that is next
+  pub behind-carrier : {n end : ℕ} {cs : List Carrier} {ps : List Pending} → Merged hart n end cs ps → (c : Carrier)
+      (rest : List Carrier) → cs ≡ c ∷ rest → c.number ≡ n → (n < end) × Merged hart (n + 1) end rest ps
+  behind-carrier none c rest is number = absurd (nil-cons c rest is)
+  behind-carrier {n = n} {end = end} {ps = ps} (carrier at later) c rest is number = (
+    (let upto = merged-end later in omega (upto, arith)),
+    subst (λ (cs : List Carrier). Merged hart (n + 1) end cs ps) (ap (drop 1) is) later,
+  )
+  behind-carrier (row at later) c rest is number =
+      let low = merged-from later c rest is in absurd (omega (low, number, arith))
+
+  -- and behind the row that waits first, where no carrier is
+  pub behind-row : {n end : ℕ} {cs : List Carrier} {ps : List Pending} → Merged hart n end cs ps → (p : Pending)
+      (rest : List Pending) → ps ≡ p ∷ rest → ((c : Carrier) (later : List Carrier) → cs ≡ c ∷ later → c.number ≢ n) →
+      (n < end) × (p.row.id ≡ record { hart = hart; seq = n }) × Merged hart (n + 1) end cs rest
+  behind-row none p rest is apart = absurd (nil-cons p rest is)
+  behind-row (carrier {c = c} {carriers = later} at _) p rest is apart = absurd (apart c later refl at)
+  behind-row {n = n} {end = end} {cs = cs} (row {p = own} at later) p rest is apart = (
+    (let upto = merged-end later in omega (upto, arith)),
+    ap (λ (ps : List Pending). (get_or ps 0 own).row.id) (sym is) ∙ at,
+    subst (λ (ps : List Pending). Merged hart (n + 1) end cs ps) (ap (drop 1) is) later,
+  )
+
+-- a carrier, and those behind it
+pub next-behind : (cs : List Carrier) (k : ℕ) (c : Carrier) → k < length cs → c ≡ get_or cs k c →
+    drop k cs ≡ c ∷ drop (k + 1) cs
+next-behind cs k c low at =
+    let one : suc k ≡ k + 1 = omega arith in
+    drop-cons cs k c low ∙ ap (λ (x : Carrier). x ∷ drop (suc k) cs) (sym at) ∙ ap (λ (n : ℕ). c ∷ drop n cs) one
+
+module _ (h : WaitingHart) (numbers : HasNumbers h) where
+  few-rows : h.rows.trace.rows ≤ 4096
+  few-rows = numbers.trace.carriers.few
+
+  -- there is room for a row more, and the carrier is followed by the hart's next number
+  pub carrier-room : (event : Event) → IsCarrierNext h event → h.given < 4096
+  carrier-room event next =
+      let behind = behind-carrier numbers.merged next.carrier _ next.is next.number in
+      let below = behind.0 in
+      let few = few-rows in
+      omega (below, few, arith)
+
+  pub carrier-given : (event : Event) → IsCarrierNext h event →
+      HasNumbers (record h { given = h.given + 1; carriers = h.carriers + 1 })
+  carrier-given event next =
+      let behind = behind-carrier numbers.merged next.carrier _ next.is next.number in record {
+        steps = numbers.steps;
+        trace = numbers.trace;
+        few = (
+            let long = length-drop h.carriers h.rows.trace.carriers in
+            let one = ap (λ (cs : List Carrier). length cs) next.is in
+            let before = numbers.few in
+            omega (long, one, before, arith));
+        merged = behind.1;
+      }
+
+  -- so is the row that waited first
+  module _ (first : Pending) (rest : List Pending) (queue : h.queue.items ≡ first ∷ rest)
+      (apart : IsNextCarrier h None) where
+    row-behind : (h.given < h.rows.trace.rows) × (first.row.id ≡ record { hart = h.rows.hart; seq = h.given }) ×
+        Merged h.rows.hart (h.given + 1) h.rows.trace.rows (drop h.carriers h.rows.trace.carriers) rest
+    row-behind = behind-row numbers.merged first rest queue apart
+
+    pub row-room : h.given < 4096
+    row-room = let below = row-behind.0 in let few = few-rows in omega (below, few, arith)
+
+    pub row-id : first.row.id ≡ record { hart = h.rows.hart; seq = h.given }
+    row-id = row-behind.1
+
+    pub row-merged :
+        Merged h.rows.hart (h.given + 1) h.rows.trace.rows (drop h.carriers h.rows.trace.carriers) rest
+    row-merged = row-behind.2

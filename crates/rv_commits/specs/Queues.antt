@@ -1,12 +1,15 @@
 -- The rows of a hart that wait, in their order.
-use Rattle.std.specs.Prelude.{ℕ, ◌≡◌, ◌++◌, ◌∷◌, [], ◌≤◌, ◌+◌, Bool, List, Option, drop, length, map}
+use Rattle.std.specs.Prelude.{ℕ, ◌≡◌, ◌++◌, ◌∷◌, [], ◌≤◌, ◌+◌, Bool, List, Option, Some, None, ◌≢◌, drop, length, map}
 use Rattle.rv_event.specs.declared.event.Event.{Event}
+use Rattle.rv_flow.specs.Traces.{IsTraceOf}
 use Rattle.rv_flow.specs.declared.carrier.Carrier.{Carrier}
+use Rattle.rv_flow.specs.declared.step.Step.{Step}
 use Rattle.rv_log.specs.declared.record.Performed.{Performed}
 use Rattle.rv_log.specs.declared.record.Retired.{Retired}
 use Rattle.rv_commits.specs.Awaited.{IsSettled, IsWaiting, awaited_by}
 use Rattle.rv_commits.specs.Harts.{IsAdded}
 use Rattle.rv_commits.specs.Owns.{AreOwns, IsLastStore}
+use Rattle.rv_commits.specs.Rows.{IsRowOf}
 use Rattle.rv_commits.specs.declared.awaited.Awaited.{Awaited}
 use Rattle.rv_commits.specs.declared.awaited.Awaited.TheVariants as awaited
 use Rattle.rv_commits.specs.declared.hart.NewRows.{NewRows}
@@ -41,6 +44,12 @@ pub record IsFirst (log : List Performed) (old new : List Pending) (event : Even
   pub is_settled : IsSettled log first settled
   pub row : event ≡ settled.row
 
+-- the row was the first that waited, by its id
+pub record IsFront (old new : List Pending) (event : Event) : Type 0 where
+  pub first : Pending
+  pub queue : old ≡ first ∷ new
+  pub id : event.id ≡ first.row.id
+
 -- all wait that waited: there is none, or the first has no versions yet
 abbrev pub IsAtRest : List Performed → Bool → List Pending → List Pending → Type 0
 IsAtRest log ended [] new = new ≡ []
@@ -60,5 +69,21 @@ pub data Merged (hart : ℕ) : ℕ → ℕ → List Carrier → List Pending →
 
 -- the rows of the hart that were not given are the carriers that were not, and the rows that wait
 pub record HasNumbers (h : WaitingHart) : Type 0 where
+  pub steps : List Step
+  pub trace : IsTraceOf steps h.rows.trace
   pub few : h.carriers ≤ length h.rows.trace.carriers
   pub merged : Merged h.rows.hart h.given h.rows.trace.rows (drop h.carriers h.rows.trace.carriers) h.queue.items
+
+-- the row is that of the next carrier, which has the hart's next number
+pub record IsCarrierNext (h : WaitingHart) (event : Event) : Type 0 where
+  pub carrier : Carrier
+  pub is : drop h.carriers h.rows.trace.carriers ≡ carrier ∷ drop (h.carriers + 1) h.rows.trace.carriers
+  pub number : carrier.number ≡ h.given
+  pub id : event.id ≡ record { hart = h.rows.hart; seq = h.given }
+  pub row : IsRowOf carrier event
+
+-- exactly where there is one
+abbrev pub IsNextCarrier : WaitingHart → Option Event → Type 0
+IsNextCarrier h (Some event) = IsCarrierNext h event
+IsNextCarrier h None =
+    (c : Carrier) (rest : List Carrier) → drop h.carriers h.rows.trace.carriers ≡ c ∷ rest → c.number ≢ h.given

@@ -65,6 +65,35 @@ fn gives_value(op: Op) -> bool
     matches!(op, Op::Load | Op::Lr | Op::Sc | Op::Amo)
 }
 
+/// The row of this number, with the fields that are known. Its versions are not: they are 0.
+fn row_of(hart: u8, seq: u32, made: Made, word: u32, deps: Deps) -> Event
+    ensures fields { IsRow hart made word result seq }
+    ensures deps { result.deps ≡ deps }
+{
+    Event {
+        id: Id { hart, seq },
+        op: made.op,
+        word,
+        read: 0,
+        wrote: 0,
+        acquire: made.acquire,
+        release: made.release,
+        deps,
+    }
+}
+
+/// The row of a carrier of the hart.
+///
+/// # Errors
+/// Memory ran out.
+pub(crate) fn carrier_row(alloc: Global, hart: u8, carrier: &Carrier) -> Result<Event, AllocError>
+    ensures id { IfOk result (λ row. row.id ≡ record { hart = hart; seq = carrier.now.number }) }
+    ensures row { IfOk result (IsRowOf carrier.now) }
+{
+    let deps = deps_by(alloc, DepKind::DataOf, &carrier.list.parts)?;
+    Ok(row_of(hart, carrier.number, CARRIER, 0, deps))
+}
+
 impl HartRows {
     /// No rows of the hart. It takes no memory.
     pub fn new(alloc: Global, hart: u8) -> HartRows
@@ -97,26 +126,6 @@ impl HartRows {
         self.trace.number_row()
     }
 
-    /// The row of this number, with the fields that are known. Its versions are not: they are 0.
-    fn row_of(&self, seq: u32, made: Made, word: u32, deps: Deps) -> Event
-        ensures fields { IsRow self.now.hart made word result seq }
-        ensures deps { result.deps ≡ deps }
-    {
-        Event {
-            id: Id {
-                hart: self.hart,
-                seq,
-            },
-            op: made.op,
-            word,
-            read: 0,
-            wrote: 0,
-            acquire: made.acquire,
-            release: made.release,
-            deps,
-        }
-    }
-
     /// The row of the hart's next instruction, which is an access to this word. Its versions are
     /// not known yet: they are 0.
     ///
@@ -132,7 +141,7 @@ impl HartRows {
         let lists = self.trace.lists(insn)?;
         let deps = access_deps(self.alloc, &lists)?;
         let seq = self.take(insn, made.op)?;
-        Ok(self.row_of(seq, made, word, deps))
+        Ok(row_of(self.hart, seq, made, word, deps))
     }
 
     /// The row of the hart's next instruction, which is a fence.
@@ -147,7 +156,7 @@ impl HartRows {
     {
         let seq = self.take(insn, made.op)?;
         let deps = Deps::from_vec(Vec::new(self.alloc));
-        Ok(self.row_of(seq, made, 0, deps))
+        Ok(row_of(self.hart, seq, made, 0, deps))
     }
 
     /// The next row of a branch, which lists these events.
@@ -162,7 +171,7 @@ impl HartRows {
     {
         let deps = deps_by(self.alloc, DepKind::Ctrl, events)?;
         let seq = self.trace.number_row()?;
-        Ok(self.row_of(seq, BRANCH, 0, deps))
+        Ok(row_of(self.hart, seq, BRANCH, 0, deps))
     }
 
     /// The rows of the hart's next instruction, which is a branch: one for each eight events on
@@ -212,18 +221,5 @@ impl HartRows {
             Op::Fence { .. } | Op::FenceTso => Ok(NewRows::One(self.fence_row(insn, made)?)),
             _ => Ok(NewRows::One(self.access_row(insn, made, word)?)),
         }
-    }
-
-    /// The row of one of the hart's carriers.
-    ///
-    /// # Errors
-    /// Memory ran out.
-    pub fn carrier_row(&self, carrier: &Carrier) -> Result<Event, AllocError>
-        ensures id { IfOk result (λ row.
-            row.id ≡ record { hart = self.now.hart; seq = carrier.now.number }) }
-        ensures row { IfOk result (IsRowOf carrier.now) }
-    {
-        let deps = deps_by(self.alloc, DepKind::DataOf, &carrier.list.parts)?;
-        Ok(self.row_of(carrier.number, CARRIER, 0, deps))
     }
 }

@@ -29,6 +29,7 @@ impl Pending {
         ensures waits { (log : List Performed) → AreStores log stores.now → result ≡ false
             → IsWaiting log self.old.row.id.hart self.old.awaited ended }
         ensures kept { result ≡ false → self.new ≡ self.old }
+        ensures id { self.new.row.id ≡ self.old.row.id }
     {
         match versions_of(stores, self.row.id.hart, &self.awaited, ended) {
             Some(versions) => {

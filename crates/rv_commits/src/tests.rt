@@ -1,5 +1,6 @@
 //! Tests of what instructions make.
 
+use crate::hart::carrier_row;
 use crate::{
     Awaited, HartRows, Made, NewRows, Owns, Versions, WaitingHart, awaited_by, made_by, versions_of,
 };
@@ -154,7 +155,7 @@ fn a_branch_on_nine_loads_has_two_rows(rt: HostRuntime) {
     let store = add_one(&rt, &mut hart, 0x00553023);
     assert!(rt; store.id.seq == 12 && store.deps.as_slice().len() == 2);
     let carrier = hart.trace.carriers().first().expect(&rt, "a carrier");
-    let row = hart.carrier_row(carrier).expect(&rt, "memory");
+    let row = carrier_row(rt.alloc(), 0, carrier).expect(&rt, "memory");
     assert!(rt; row.id.seq == 11 && row.op == Op::Carrier);
     assert!(rt; row.deps.as_slice().len() == 8 && has_dep(&row, DepKind::DataOf, 0));
 }
@@ -236,15 +237,23 @@ fn rows_wait_in_program_order(rt: HostRuntime) {
     hart.retire(&first, 2).expect(&rt, "memory");
     hart.retire(&second, 2).expect(&rt, "memory");
     assert!(rt; hart.queue.len() == 2);
-    assert!(rt; hart.settled(&stores, true).is_none());
+    let none = hart.next_row(&stores, true).expect(&rt, "memory");
+    assert!(rt; none.is_none());
     let effect = Performed {
         address: 0,
         ..store(0, 0, 5)
     };
     assert_eq!(rt; stores.push(effect), Ok(1));
-    let front = hart.settled(&stores, false).expect(&rt, "a row");
-    let load = hart.settled(&stores, false).expect(&rt, "a row");
+    let front = hart
+        .next_row(&stores, false)
+        .expect(&rt, "memory")
+        .expect(&rt, "a row");
+    let load = hart
+        .next_row(&stores, false)
+        .expect(&rt, "memory")
+        .expect(&rt, "a row");
     assert!(rt; front.id.seq == 0 && front.wrote == 1);
     assert!(rt; load.id.seq == 1 && load.read == 1);
-    assert!(rt; hart.settled(&stores, true).is_none());
+    let none = hart.next_row(&stores, true).expect(&rt, "memory");
+    assert!(rt; none.is_none());
 }

@@ -11,6 +11,8 @@ returns-clause-numbers c =
     let hart = c.new-rows.result.hart in
     let count = length c.carriers-carriers.result.now in
     let long = ap (λ (cs : List Carrier). length cs) c.carriers-carriers.ensures in record {
+      steps = [];
+      trace = c.new-rows.ensures.none;
       few = omega (long, arith);
       merged = subst (λ (n : ℕ). Merged hart n trace.rows (drop count trace.carriers) c.new-2.result.items)
           (sym c.next-given.ensures)

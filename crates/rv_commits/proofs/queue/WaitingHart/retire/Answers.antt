@@ -17,7 +17,8 @@ returns-clause-retired c = λ done are. record {
 }
 
 pub returns-clause-numbers : goal.returns-clause-numbers
-returns-clause-numbers c = λ numbers.
+returns-clause-numbers c =
+    let numbers = c.requires.numbers in
     let old = c.args.self.now.rows.trace in
     let new = c.add.new.self.trace in
     let hart = c.args.self.now.rows.hart in
@@ -25,7 +26,10 @@ returns-clause-numbers c = λ numbers.
     let adds = added-numbers hart insn c.args.word old new c.awaited_by.result (made c.args.instruction.now)
     c.in_ok-added.added c.in_ok-added.ensures.added in
     let more = numbers-more hart c.args.self.now.given c.args.self.now.carriers old new c.args.self.now.queue.items
-    (pendings c.in_ok-added.added c.awaited_by.result) numbers.few numbers.merged adds in record {
+    (pendings c.in_ok-added.added c.awaited_by.result) numbers.few numbers.merged adds in
+    let longer = adds.traced numbers.steps numbers.trace in record {
+      steps = longer.0;
+      trace = longer.1;
       few = more.0;
       merged = subst (λ (h : ℕ). Merged h c.args.self.now.given new.rows (drop c.args.self.now.carriers new.carriers)
           c.push.new.queue.items) (sym c.in_ok-added.ensures.hart)

@@ -2,7 +2,7 @@ use Rattle.std.proofs.Common.{◌∙◌, ap}
 use Rattle.rv_event.specs.declared.event.DepKind.TheVariants.{DataOf}
 use Rattle.rv_commits.specs.Rows.{parts_of}
 use Rattle.rv_commits.proofs.Parts.{lists-just}
-use Rattle.rv_commits.proofs.hart.HartRows.carrier_row.Goals as goal
+use Rattle.rv_commits.proofs.hart.carrier_row.Goals as goal
 
 pub returns-clause-row : goal.returns-clause-row
 returns-clause-row c = record {
