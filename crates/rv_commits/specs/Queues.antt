@@ -1,5 +1,5 @@
 -- The rows of a hart that wait, in their order.
-use Rattle.std.specs.Prelude.{ℕ, ◌≡◌, ◌++◌, ◌∷◌, [], ◌≤◌, ◌+◌, Bool, List, Option, Some, None, ◌≢◌, drop, length, map}
+use Rattle.std.specs.Prelude.{ℕ, ◌≡◌, ◌++◌, ◌∷◌, [], ◌≤◌, ◌+◌, Bool, List, Option, Some, None, ◌≢◌, ◌⊎◌, drop, length, map}
 use Rattle.rv_event.specs.declared.event.Event.{Event}
 use Rattle.rv_flow.specs.Traces.{IsTraceOf}
 use Rattle.rv_flow.specs.declared.carrier.Carrier.{Carrier}
@@ -87,3 +87,8 @@ abbrev pub IsNextCarrier : WaitingHart → Option Event → Type 0
 IsNextCarrier h (Some event) = IsCarrierNext h event
 IsNextCarrier h None =
     (c : Carrier) (rest : List Carrier) → drop h.carriers h.rows.trace.carriers ≡ c ∷ rest → c.number ≢ h.given
+
+-- the row is that of the next carrier, or the first that waited, with its versions
+abbrev pub IsGiven : List Performed → WaitingHart → WaitingHart → Event → Type 0
+IsGiven log old new event =
+    (IsCarrierNext old event × (new.queue.items ≡ old.queue.items)) ⊎ IsFirst log old.queue.items new.queue.items event

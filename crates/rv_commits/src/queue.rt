@@ -1,11 +1,11 @@
 //! The rows of a hart that wait, in their order.
-ghost use Rattle.std.specs.Prelude.{◌≡◌, ◌<◌, ◌++◌, [], IfOk, IfSome, List, None, OnErr, OnOk, map, true};
+ghost use Rattle.std.specs.Prelude.{◌≡◌, ◌<◌, ◌++◌, [], IfOk, IfSome, List, None, Ok, OnErr, OnOk, map, true};
 ghost use Rattle.rv_log.specs.declared.record.Retired.{Retired};
 ghost use Rattle.rv_commits.specs.Owns.{AreOwns};
 ghost use Rattle.rv_commits.specs.declared.awaited.Awaited.TheVariants.{Nothing};
 ghost use Rattle.rv_flow.specs.Traces.{IsTraceOf};
 ghost use Rattle.rv_commits.specs.Queues.{HasNumbers, IsAtRest, IsFirst, IsFront, IsNextCarrier, IsRetired};
-ghost use Rattle.rv_commits.specs.Queues.{pending, pendings};
+ghost use Rattle.rv_commits.specs.Queues.{IsGiven, pending, pendings};
 ghost use Rattle.rv_log.specs.declared.record.Performed.{Performed};
 ghost use Rattle.rv_memory.specs.Stores.{AreStores, IsOrder};
 
@@ -148,6 +148,11 @@ impl WaitingHart {
         requires numbers { HasNumbers self.old }
         ensures rows { self.new.rows ≡ self.old.rows }
         ensures owns { self.new.owns ≡ self.old.owns }
+        ensures given { (log more : List Performed) → AreStores log stores.now
+            → IsOrder (log ++ more) → (ended ≡ true → more ≡ [])
+            → IfOk result (λ found. IfSome found (IsGiven (log ++ more) self.old self.new)) }
+        ensures waits { (log : List Performed) → AreStores log stores.now → result ≡ Ok None
+            → IsAtRest log ended self.old.queue.items self.new.queue.items }
         ensures number { IfOk result (λ found. IfSome found (λ row.
             row.id ≡ record { hart = self.old.rows.hart; seq = self.old.given })) }
         ensures numbers { HasNumbers self.new }
