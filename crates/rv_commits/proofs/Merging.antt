@@ -1,7 +1,9 @@
 -- The numbers of carriers and of rows that wait, in their order.
-use Rattle.std.proofs.Common.{ℕ, suc, ◌≡◌, ◌∙◌, ◌+◌, ◌≤◌, ◌<◌, ◌++◌, ◌∷◌, [], List, ap, arith, drop, get_or, length, map}
+use Rattle.std.proofs.Common.{ℕ, suc, ◌≡◌, ◌∙◌, ◌+◌, ◌≤◌, ◌<◌, ◌++◌, ◌∷◌, [], List, ap, arith, drop}
+use Rattle.std.proofs.Common.{get_or, length, map}
 use Rattle.std.proofs.Common.{◌≢◌, refl, subst, sym, append-nil, Option, Some, None}
-use Rattle.std.proofs.lemmas.List.{drop-append-le, get_or-append_right, get_or-map, length-append, length-drop, length-map}
+use Rattle.std.proofs.lemmas.List.{drop-append-le, get_or-append_right, get_or-map, length-append}
+use Rattle.std.proofs.lemmas.List.{length-drop, length-map}
 use Rattle.std.proofs.Math.Seq.{drop-cons}
 use Rattle.rv_event.specs.declared.event.Event.{Event}
 use Rattle.rv_event.specs.declared.event.Op.{Op}
@@ -12,7 +14,8 @@ use Rattle.rv_flow.specs.declared.carrier.Carrier.{Carrier}
 use Rattle.rv_flow.specs.declared.step.Step.{Step}
 use Rattle.rv_insn.specs.declared.insn.Insn.{Insn}
 use Rattle.rv_commits.specs.Harts.{AreOfBranch, IsAccessRow, IsAddedAs, IsAddedBy, IsFenceRow}
-use Rattle.rv_commits.specs.Queues.{HasNumbers, IsCarrierNext, IsNextCarrier, Merged, carrier, none, pending, pendings, row}
+use Rattle.rv_commits.specs.Queues.{HasNumbers, IsCarrierNext, IsNextCarrier, Merged, carrier, none, row}
+use Rattle.rv_commits.specs.Queues.{pending, pendings}
 use Rattle.rv_commits.specs.declared.awaited.Awaited.{Awaited}
 use Rattle.rv_commits.specs.declared.awaited.Awaited.TheVariants as awaited
 use Rattle.rv_commits.specs.declared.hart.NewRows.{NewRows}
@@ -50,7 +53,8 @@ module _ {hart : ℕ} where
       ((i : ℕ) (p : Pending) → i < length ps → (get_or ps i p).row.id ≡ record { hart = hart; seq = n + i }) →
       Merged hart n (n + length ps) [] ps
   merged-rows [] n are = subst (λ (end : ℕ). Merged hart n end [] []) (omega arith) none
-  merged-rows (p ∷ ps) n are = row (are 0 p (omega arith) ∙ ap (λ (k : ℕ). record { hart = hart; seq = k }) (omega arith))
+  merged-rows (p ∷ ps) n are = row
+      (are 0 p (omega arith) ∙ ap (λ (k : ℕ). record { hart = hart; seq = k }) (omega arith))
       (subst (λ (end : ℕ). Merged hart (n + 1) end [] ps) (omega arith)
       (merged-rows ps (n + 1) (λ i d low. are (suc i) d (omega (low, arith)) ∙
       ap (λ (k : ℕ). record { hart = hart; seq = k }) (omega arith))))

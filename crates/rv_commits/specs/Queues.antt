@@ -1,5 +1,6 @@
 -- The rows of a hart that wait, in their order.
-use Rattle.std.specs.Prelude.{ℕ, ◌≡◌, ◌++◌, ◌∷◌, [], ◌≤◌, ◌+◌, Bool, List, Option, Some, None, ◌≢◌, ◌⊎◌, drop, length, map}
+use Rattle.std.specs.Prelude.{ℕ, ◌≡◌, ◌++◌, ◌∷◌, [], ◌≤◌, ◌+◌, Bool, List, Option, Some, None}
+use Rattle.std.specs.Prelude.{◌≢◌, ◌⊎◌, drop, length, map}
 use Rattle.rv_event.specs.declared.event.Event.{Event}
 use Rattle.rv_flow.specs.Traces.{IsTraceOf}
 use Rattle.rv_flow.specs.declared.carrier.Carrier.{Carrier}

@@ -139,8 +139,8 @@ impl WaitingHart {
     }
 
     /// The hart's next row, once its versions are known: rows come in the order of their numbers,
-    /// carriers among them. `None` where there is no row, or it waits. `ended`: no store comes after
-    /// these.
+    /// carriers among them. `None` where there is no row, or it waits. `ended`: no store comes
+    /// after these.
     ///
     /// # Errors
     /// Memory ran out. All stays as it is.
