@@ -79,9 +79,9 @@ pub record AddsNumbers (hart : ℕ) (old new : Traced) (ps : List Pending) : Typ
   pub merged : Merged hart old.rows new.rows more ps
   pub traced : (steps : List Step) → IsTraceOf steps old → (longer : List Step) × IsTraceOf longer new
 
-module _ (hart : ℕ) (insn : Insn) (made : Made) (address : ℕ) (old new : Traced) (a : Awaited) where
+module _ (hart : ℕ) (insn : Insn) (made : Made) (word_number : ℕ) (old new : Traced) (a : Awaited) where
   -- a row with its carriers
-  access-numbers : (r : Event) → IsAccessRow hart insn made address old new r →
+  access-numbers : (r : Event) → IsAccessRow hart insn made word_number old new r →
       AddsNumbers hart old new (pending a r ∷ [])
   access-numbers r is = record {
     more = is.grown.more;
@@ -123,14 +123,14 @@ module _ (hart : ℕ) (insn : Insn) (made : Made) (address : ℕ) (old new : Tra
   abbrev Adds : NewRows → Type 0
   Adds rows = AddsNumbers hart old new (pendings rows a)
 
-  one : (rows : NewRows) → (r : Event) × (rows ≡ One r) × IsAccessRow hart insn made address old new r → Adds rows
+  one : (rows : NewRows) → (r : Event) × (rows ≡ One r) × IsAccessRow hart insn made word_number old new r → Adds rows
   one rows is = subst Adds (sym is.1) (access-numbers is.0 is.2)
 
   fence : (rows : NewRows) → (r : Event) × (rows ≡ One r) × IsFenceRow hart insn made old new r → Adds rows
   fence rows is = subst Adds (sym is.1) (fence-numbers is.0 is.2)
 
   -- by the operation
-  by-operation : (o : Op) (rows : NewRows) → IsAddedAs o hart insn made address old new rows → Adds rows
+  by-operation : (o : Op) (rows : NewRows) → IsAddedAs o hart insn made word_number old new rows → Adds rows
   by-operation op.Branch rows is = subst Adds (sym is.1) (branch-numbers is.0.items is.2)
   by-operation (op.Fence pred succ) rows is = fence rows is
   by-operation op.FenceTso rows is = fence rows is
@@ -143,10 +143,11 @@ module _ (hart : ℕ) (insn : Insn) (made : Made) (address : ℕ) (old new : Tra
   by-operation op.Carrier rows is = one rows is
 
 -- of any instruction
-pub added-numbers : (hart : ℕ) (insn : Insn) (address : ℕ) (old new : Traced) (a : Awaited) (o : Option Made)
-    (rows : NewRows) → IsAddedBy o hart insn address old new rows → AddsNumbers hart old new (pendings rows a)
-added-numbers hart insn address old new a (Some m) rows is = by-operation hart insn m address old new a m.op rows is
-added-numbers hart insn address old new a None rows is =
+pub added-numbers : (hart : ℕ) (insn : Insn) (word_number : ℕ) (old new : Traced) (a : Awaited) (o : Option Made)
+    (rows : NewRows) → IsAddedBy o hart insn word_number old new rows → AddsNumbers hart old new (pendings rows a)
+added-numbers hart insn word_number old new a (Some m) rows is =
+    by-operation hart insn m word_number old new a m.op rows is
+added-numbers hart insn word_number old new a None rows is =
     subst (λ (r : NewRows). AddsNumbers hart old new (pendings r a)) (sym is.0) (record {
       more = [];
       kept = is.1.carriers ∙ sym (append-nil old.carriers);

@@ -42,26 +42,26 @@ pub record IsTaken (insn : Insn) (o : Op) (old new : Traced) (n : ℕ) : Type 0 
   pub trace : (steps : List Step) → IsTraceOf steps old → IsTraceOf (with_next steps (step_of insn o n)) new
 
 -- the fields of a row but its dependencies; versions are not known yet
-pub record IsRow (hart : ℕ) (made : Made) (address : ℕ) (row : Event) (n : ℕ) : Type 0 where
+pub record IsRow (hart : ℕ) (made : Made) (word_number : ℕ) (row : Event) (n : ℕ) : Type 0 where
   pub id : row.id ≡ record { hart = hart; seq = n }
   pub op : row.op ≡ made.op
-  pub word : row.word ≡ address
+  pub word : row.word ≡ word_number
   pub acquire : row.acquire ≡ made.acquire
   pub release : row.release ≡ made.release
 
 -- The row of an access to memory. New carriers come first, the next rows of the hart; then the row, which lists at
 -- most eight rows, behind which are just the events on which its address and its data depend.
-pub record IsAccessRow (hart : ℕ) (insn : Insn) (made : Made) (address : ℕ) (old new : Traced) (row : Event) : Type 0
-  where
-    pub listed : Traced
-    pub lists : Lists
-    pub still : IsStill old listed
-    pub grown : IsGrown old.carriers old.rows listed.carriers listed.rows
-    pub numbered : AreNextRows old.carriers old.rows listed.carriers listed.rows
-    pub dependencies : ListsNext old insn listed lists
-    pub deps : row.deps ≡ parts_of Addr lists.address.items ++ parts_of DataOf lists.value.items
-    pub fields : IsRow hart made address row listed.rows
-    pub taken : IsTaken insn made.op listed new listed.rows
+pub record IsAccessRow (hart : ℕ) (insn : Insn) (made : Made) (word_number : ℕ) (old new : Traced)
+    (row : Event) : Type 0 where
+  pub listed : Traced
+  pub lists : Lists
+  pub still : IsStill old listed
+  pub grown : IsGrown old.carriers old.rows listed.carriers listed.rows
+  pub numbered : AreNextRows old.carriers old.rows listed.carriers listed.rows
+  pub dependencies : ListsNext old insn listed lists
+  pub deps : row.deps ≡ parts_of Addr lists.address.items ++ parts_of DataOf lists.value.items
+  pub fields : IsRow hart made word_number row listed.rows
+  pub taken : IsTaken insn made.op listed new listed.rows
 
 -- the row of a fence, which depends on nothing
 pub record IsFenceRow (hart : ℕ) (insn : Insn) (made : Made) (old new : Traced) (row : Event) : Type 0 where
@@ -107,19 +107,19 @@ pub record IsWithoutRow (insn : Insn) (old new : Traced) : Type 0 where
 -- what an instruction that makes this operation adds to the rows of its hart: rows of a branch, the row of a fence,
 -- or that of an access to this word
 abbrev pub IsAddedAs : Op → ℕ → Insn → Made → ℕ → Traced → Traced → NewRows → Type 0
-IsAddedAs op.Branch hart insn made address old new rows =
+IsAddedAs op.Branch hart insn made word_number old new rows =
     (many : Vec Event Global) × (rows ≡ Branch many) × AreOfBranch hart insn old new many.items
-IsAddedAs (op.Fence pred succ) hart insn made address old new rows =
+IsAddedAs (op.Fence pred succ) hart insn made word_number old new rows =
     (row : Event) × (rows ≡ One row) × IsFenceRow hart insn made old new row
-IsAddedAs op.FenceTso hart insn made address old new rows =
+IsAddedAs op.FenceTso hart insn made word_number old new rows =
     (row : Event) × (rows ≡ One row) × IsFenceRow hart insn made old new row
-IsAddedAs _ hart insn made address old new rows =
-    (row : Event) × (rows ≡ One row) × IsAccessRow hart insn made address old new row
+IsAddedAs _ hart insn made word_number old new rows =
+    (row : Event) × (rows ≡ One row) × IsAccessRow hart insn made word_number old new row
 
 abbrev pub IsAddedBy : Option Made → ℕ → Insn → ℕ → Traced → Traced → NewRows → Type 0
-IsAddedBy (Some m) hart insn address old new rows = IsAddedAs m.op hart insn m address old new rows
-IsAddedBy None hart insn address old new rows = (rows ≡ Nothing) × IsWithoutRow insn old new
+IsAddedBy (Some m) hart insn word_number old new rows = IsAddedAs m.op hart insn m word_number old new rows
+IsAddedBy None hart insn word_number old new rows = (rows ≡ Nothing) × IsWithoutRow insn old new
 
 -- what an instruction adds to the rows of its hart
 abbrev pub IsAdded : ℕ → Retired → ℕ → Traced → Traced → NewRows → Type 0
-IsAdded hart r address old new rows = IsAddedBy (made r) hart r.insn address old new rows
+IsAdded hart r word_number old new rows = IsAddedBy (made r) hart r.insn word_number old new rows

@@ -29,9 +29,9 @@ pendings (One row) a = pending a row ∷ []
 pendings (Branch rows) a = map (pending awaited.Nothing) rows.items
 
 -- the hart took the instruction: its rows wait behind the others
-pub record IsRetired (done : List Retired) (r : Retired) (address : ℕ) (old new : WaitingHart) : Type 0 where
+pub record IsRetired (done : List Retired) (r : Retired) (word_number : ℕ) (old new : WaitingHart) : Type 0 where
   pub added : NewRows
-  pub is_added : IsAdded old.rows.hart r address old.rows.trace new.rows.trace added
+  pub is_added : IsAdded old.rows.hart r word_number old.rows.trace new.rows.trace added
   pub own : Option ℕ
   pub is_own : IsLastStore done r.address own
   pub queued : new.queue.items ≡ old.queue.items ++ pendings added (awaited_by r own)

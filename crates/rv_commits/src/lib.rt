@@ -12,7 +12,7 @@
 //! - [`laws`]: what the rows of a hart depend on, by carriers.
 //! - `specs/`: the same by cases, with the manual's sections.
 //!
-//! It stands on `rv_insn`, `rv_event`, `rv_flow`, `rv_log` and `rv_memory`; a proof names `rv_rows`.
+//! It stands on `rv_insn`, `rv_event`, `rv_flow`, `rv_log` and `rv_memory`; proofs name `rv_rows`.
 //! Its contracts to the others: an operation is what the cases say; a row lists just what its
 //! instruction depends on, and has the versions that the order of stores gives it.
 #![tactic(auto)]
