@@ -3,3 +3,4 @@ mod Lists
 mod Orders
 mod Placed
 pub mod Reading
+mod Single

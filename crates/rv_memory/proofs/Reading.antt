@@ -29,7 +29,8 @@ abbrev late-one : ℕ → Performed
 late-one time = record { hart = 0; order = 0; address = 0; wdata = None; time = time + 1 }
 
 -- no more stores had taken effect than there are
-within : (log : List Performed) (address time n : ℕ) → IsVersionAt log address time n → n ≤ length (of_word address log)
+pub within : (log : List Performed) (address time n : ℕ) → IsVersionAt log address time n →
+    n ≤ length (of_word address log)
 within log address time n is = from (cases_lt (length (of_word address log)) n)
   where
     from : (length (of_word address log) < n) ⊎ (n ≤ length (of_word address log)) → n ≤ length (of_word address log)

@@ -1,3 +1,4 @@
+pub mod Laws
 pub mod Reads
 pub mod Stores
 pub mod Words

@@ -6,17 +6,20 @@
 //! - [`words`]: the words, numbered as they first come.
 //! - [`stores`]: the stores that took effect, and the versions of words from them.
 //! - [`reads`]: the versions that loads returned.
+//! - [`laws`]: a load returned one version.
 //! - `specs/`: which bytes accesses have together; the order of stores; what a load returns.
 //!
 //! It stands on `rv_log`.
 #![tactic(auto)]
 
+mod laws;
 mod reads;
 mod stores;
 #[cfg(test)]
 mod tests;
 mod words;
 
+pub use laws::loads_return_one_version;
 pub use reads::Load;
 pub use stores::{Effect, StoreFault, Stores};
 pub use words::{Word, WordFault, Words};
