@@ -116,7 +116,7 @@ module _ (hart : ℕ) (insn : Insn) (made : Made) (word_number : ℕ) (old new :
         (merged-rows (map (pending awaited.Nothing) rows) old.rows (λ i p low.
         let inside = subst (λ (n : ℕ). i < n) (length-map rows (pending awaited.Nothing)) low in
         ap (λ (x : Pending). x.row.id) (get_or-map (pending awaited.Nothing) rows i p.row p inside) ∙
-        (is.are.each i p.row inside).id));
+        (is.are.each i p.row inside).fields.id));
     traced = λ steps trace. (_, is.trace steps trace);
   }
 

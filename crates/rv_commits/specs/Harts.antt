@@ -16,7 +16,7 @@ use Rattle.rv_flow.specs.declared.step.Step.{Step}
 use Rattle.rv_insn.specs.declared.insn.Insn.{Insn}
 use Rattle.rv_rows.specs.Bits.{Has}
 use Rattle.rv_log.specs.declared.record.Retired.{Retired}
-use Rattle.rv_commits.specs.Made.{made}
+use Rattle.rv_commits.specs.Made.{made, plain}
 use Rattle.rv_commits.specs.Rows.{parts_of}
 use Rattle.rv_commits.specs.declared.hart.NewRows.{NewRows}
 use Rattle.rv_commits.specs.declared.hart.NewRows.TheVariants.{Branch, Nothing, One}
@@ -41,13 +41,19 @@ pub record IsTaken (insn : Insn) (o : Op) (old new : Traced) (n : ℕ) : Type 0 
   pub carriers : new.carriers ≡ old.carriers
   pub trace : (steps : List Step) → IsTraceOf steps old → IsTraceOf (with_next steps (step_of insn o n)) new
 
--- the fields of a row but its dependencies; versions are not known yet
+-- the fields of a row but its dependencies; versions are not known yet, and are 0
 pub record IsRow (hart : ℕ) (made : Made) (word_number : ℕ) (row : Event) (n : ℕ) : Type 0 where
   pub id : row.id ≡ record { hart = hart; seq = n }
   pub op : row.op ≡ made.op
   pub word : row.word ≡ word_number
   pub acquire : row.acquire ≡ made.acquire
   pub release : row.release ≡ made.release
+  pub read : row.read ≡ 0
+  pub wrote : row.wrote ≡ 0
+
+-- those of a carrier
+abbrev pub IsCarrierFields : ℕ → ℕ → Event → Type 0
+IsCarrierFields hart n row = IsRow hart (plain op.Carrier) 0 row n
 
 -- The row of an access to memory. New carriers come first, the next rows of the hart; then the row, which lists at
 -- most eight rows, behind which are just the events on which its address and its data depend.
@@ -75,8 +81,7 @@ listed_by row = map (λ d. d.seq) row.deps
 
 -- row n of a branch, which lists these events
 pub record IsBranchRow (hart n : ℕ) (row : Event) : Type 0 where
-  pub id : row.id ≡ record { hart = hart; seq = n }
-  pub op : row.op ≡ op.Branch
+  pub fields : IsRow hart (plain op.Branch) 0 row n
   pub few : length row.deps ≤ 8
   pub control : All (λ d. d.kind ≡ Ctrl) row.deps
 

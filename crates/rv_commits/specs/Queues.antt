@@ -8,7 +8,7 @@ use Rattle.rv_flow.specs.declared.step.Step.{Step}
 use Rattle.rv_log.specs.declared.record.Performed.{Performed}
 use Rattle.rv_log.specs.declared.record.Retired.{Retired}
 use Rattle.rv_commits.specs.Awaited.{IsSettled, IsWaiting, awaited_by}
-use Rattle.rv_commits.specs.Harts.{IsAdded}
+use Rattle.rv_commits.specs.Harts.{IsAdded, IsCarrierFields}
 use Rattle.rv_commits.specs.Owns.{AreOwns, IsLastStore}
 use Rattle.rv_commits.specs.Rows.{IsRowOf}
 use Rattle.rv_commits.specs.declared.awaited.Awaited.{Awaited}
@@ -81,6 +81,7 @@ pub record IsCarrierNext (h : WaitingHart) (event : Event) : Type 0 where
   pub is : drop h.carriers h.rows.trace.carriers ≡ carrier ∷ drop (h.carriers + 1) h.rows.trace.carriers
   pub number : carrier.number ≡ h.given
   pub id : event.id ≡ record { hart = h.rows.hart; seq = h.given }
+  pub fields : IsCarrierFields h.rows.hart h.given event
   pub row : IsRowOf carrier event
 
 -- exactly where there is one

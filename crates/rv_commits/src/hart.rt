@@ -5,7 +5,7 @@ ghost use Rattle.rv_flow.specs.Flows.{with_next};
 ghost use Rattle.rv_flow.specs.Traces.{IsOneRowMore, IsStill, IsTraceOf};
 ghost use Rattle.rv_flow.specs.declared.step.Step.{Step};
 ghost use Rattle.rv_commits.specs.Harts.{AreOfBranch, IsAccessRow, IsBranchRow, IsFenceRow, IsRow};
-ghost use Rattle.rv_commits.specs.Harts.{IsAdded, IsTaken, gives_value, listed_by};
+ghost use Rattle.rv_commits.specs.Harts.{IsAdded, IsCarrierFields, IsTaken, gives_value, listed_by};
 
 use crate::deps::{access_deps, deps_by};
 use crate::made::{Made, made_by};
@@ -88,6 +88,7 @@ fn row_of(hart: u8, seq: u32, made: Made, word: u32, deps: Deps) -> Event
 /// Memory ran out.
 pub(crate) fn carrier_row(alloc: Global, hart: u8, carrier: &Carrier) -> Result<Event, AllocError>
     ensures id { IfOk result (λ row. row.id ≡ record { hart = hart; seq = carrier.now.number }) }
+    ensures fields { IfOk result (IsCarrierFields hart carrier.now.number) }
     ensures row { IfOk result (IsRowOf carrier.now) }
 {
     let deps = deps_by(alloc, DepKind::DataOf, &carrier.list.parts)?;

@@ -5,13 +5,10 @@ use Rattle.std.proofs.lemmas.Bool.{cases_eq, cases_lt}
 use Rattle.std.proofs.lemmas.List.{get_or_append_left, get_or_at, get_or_default, length_push}
 use Rattle.std.proofs.lemmas.List.Elements.{Contains-get_or, Contains-push_cases}
 use Rattle.std.proofs.lemmas.Option.{none-some}
-use Rattle.std.specs.Prelude.{unwrap_or}
 use Rattle.rv_memory.specs.Words.{AreWords, IsAligned, IsApart, IsSize, Meets}
 use Rattle.rv_memory.specs.declared.words.Word.{Word}
+use Rattle.rv_memory.proofs.Lists.{some-same}
 use Rattle.rv_memory.proofs.Blocks.{meets-block, meets-bounds, meets-from, some-bytes}
-
-some-same : (a b : ℕ) → Some a ≡ Some b → a ≡ b
-some-same a b same = ap (λ o. unwrap_or o 0) same
 
 -- where the eight bytes of a word begin
 abbrev base : Word → ℕ

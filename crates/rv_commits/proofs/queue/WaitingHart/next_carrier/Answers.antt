@@ -1,5 +1,6 @@
 use Rattle.std.proofs.Common.{ℕ, List, ◌≡◌, ◌+◌, ◌∷◌, ◌∙◌, ap, drop, subst}
 use Rattle.rv_flow.specs.declared.carrier.Carrier.{Carrier}
+use Rattle.rv_commits.specs.Harts.{IsCarrierFields}
 use Rattle.rv_commits.proofs.Merging.{next-behind}
 use Rattle.rv_commits.proofs.queue.WaitingHart.next_carrier.Goals as goal
 
@@ -13,5 +14,7 @@ returns-in_ok-carrier_row-in-Some-clause-next c =
       number = c.if-carrier-self.true;
       id = c.in_ok-carrier_row-in-Some.ensures.id ∙
           ap (λ (n : ℕ). record { hart = c.args.self.now.rows.hart; seq = n }) c.if-carrier-self.true;
+      fields = subst (λ (n : ℕ). IsCarrierFields c.args.self.now.rows.hart n c.in_ok-carrier_row-in-Some.field-0)
+          c.if-carrier-self.true c.in_ok-carrier_row-in-Some.ensures.fields;
       row = c.in_ok-carrier_row-in-Some.ensures.row;
     }
