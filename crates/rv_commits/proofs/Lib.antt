@@ -4,3 +4,4 @@ mod Merging
 mod Parts
 mod Stored
 mod Traces
+mod Valued

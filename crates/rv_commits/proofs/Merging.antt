@@ -16,12 +16,11 @@ use Rattle.rv_insn.specs.declared.insn.Insn.{Insn}
 use Rattle.rv_commits.specs.Harts.{AreOfBranch, IsAccessRow, IsAddedAs, IsAddedBy, IsFenceRow}
 use Rattle.rv_commits.specs.Queues.{HasNumbers, IsCarrierNext, IsNextCarrier, Merged, carrier, none, row}
 use Rattle.rv_commits.specs.Queues.{pending, pendings}
-use Rattle.rv_commits.specs.declared.awaited.Awaited.{Awaited}
-use Rattle.rv_commits.specs.declared.awaited.Awaited.TheVariants as awaited
 use Rattle.rv_commits.specs.declared.hart.NewRows.{NewRows}
 use Rattle.rv_commits.specs.declared.hart.NewRows.TheVariants.{One}
 use Rattle.rv_commits.specs.declared.made.Made.{Made}
 use Rattle.rv_commits.specs.declared.pending.Pending.{Pending}
+use Rattle.rv_commits.specs.declared.pending.Waiting.{Waiting}
 use Rattle.rv_commits.specs.declared.queue.WaitingHart.{WaitingHart}
 
 nil-cons : {X : Type 0} (x : X) (xs : List X) → [] ≡ x ∷ xs → ⊥
@@ -79,7 +78,7 @@ pub record AddsNumbers (hart : ℕ) (old new : Traced) (ps : List Pending) : Typ
   pub merged : Merged hart old.rows new.rows more ps
   pub traced : (steps : List Step) → IsTraceOf steps old → (longer : List Step) × IsTraceOf longer new
 
-module _ (hart : ℕ) (insn : Insn) (made : Made) (word_number : ℕ) (old new : Traced) (a : Awaited) where
+module _ (hart : ℕ) (insn : Insn) (made : Made) (word_number : ℕ) (old new : Traced) (a : Waiting) where
   -- a row with its carriers
   access-numbers : (r : Event) → IsAccessRow hart insn made word_number old new r →
       AddsNumbers hart old new (pending a r ∷ [])
@@ -107,15 +106,15 @@ module _ (hart : ℕ) (insn : Insn) (made : Made) (word_number : ℕ) (old new :
 
   -- those of a branch
   branch-numbers : (rows : List Event) → AreOfBranch hart insn old new rows →
-      AddsNumbers hart old new (map (pending awaited.Nothing) rows)
+      AddsNumbers hart old new (map (pending a) rows)
   branch-numbers rows is = record {
     more = [];
     kept = is.carriers ∙ sym (append-nil old.carriers);
-    merged = subst (λ (end : ℕ). Merged hart old.rows end [] (map (pending awaited.Nothing) rows))
-        (ap (λ (n : ℕ). old.rows + n) (length-map rows (pending awaited.Nothing)) ∙ sym is.count)
-        (merged-rows (map (pending awaited.Nothing) rows) old.rows (λ i p low.
-        let inside = subst (λ (n : ℕ). i < n) (length-map rows (pending awaited.Nothing)) low in
-        ap (λ (x : Pending). x.row.id) (get_or-map (pending awaited.Nothing) rows i p.row p inside) ∙
+    merged = subst (λ (end : ℕ). Merged hart old.rows end [] (map (pending a) rows))
+        (ap (λ (n : ℕ). old.rows + n) (length-map rows (pending a)) ∙ sym is.count)
+        (merged-rows (map (pending a) rows) old.rows (λ i p low.
+        let inside = subst (λ (n : ℕ). i < n) (length-map rows (pending a)) low in
+        ap (λ (x : Pending). x.row.id) (get_or-map (pending a) rows i p.row p inside) ∙
         (is.are.each i p.row inside).fields.id));
     traced = λ steps trace. (_, is.trace steps trace);
   }
@@ -143,7 +142,7 @@ module _ (hart : ℕ) (insn : Insn) (made : Made) (word_number : ℕ) (old new :
   by-operation op.Carrier rows is = one rows is
 
 -- of any instruction
-pub added-numbers : (hart : ℕ) (insn : Insn) (word_number : ℕ) (old new : Traced) (a : Awaited) (o : Option Made)
+pub added-numbers : (hart : ℕ) (insn : Insn) (word_number : ℕ) (old new : Traced) (a : Waiting) (o : Option Made)
     (rows : NewRows) → IsAddedBy o hart insn word_number old new rows → AddsNumbers hart old new (pendings rows a)
 added-numbers hart insn word_number old new a (Some m) rows is =
     by-operation hart insn m word_number old new a m.op rows is

@@ -13,7 +13,6 @@ use Rattle.rv_memory.specs.declared.stores.Effect.{Effect}
 use Rattle.rv_commits.specs.declared.awaited.Awaited.{Awaited}
 use Rattle.rv_commits.specs.declared.awaited.Awaited.TheVariants.{Nothing, Store, Load, Amo, Value}
 use Rattle.rv_commits.specs.declared.awaited.Versions.{Versions}
-use Rattle.rv_commits.specs.declared.pending.Pending.{Pending}
 
 -- the store of this order took effect, and made this version
 abbrev pub Wrote : List Performed → ℕ → ℕ → ℕ → Type 0
@@ -60,9 +59,3 @@ awaited_of r own None = Nothing
 -- what the versions of an instruction's row come from, where this is its hart's last earlier store to the word
 abbrev pub awaited_by : Retired → Option ℕ → Awaited
 awaited_by r own = awaited_of r own (made r)
-
--- the row has its versions now, and is the same else
-pub record IsSettled (log : List Performed) (old new : Pending) : Type 0 where
-  pub versions : Versions
-  pub are : AreVersions log old.row.id.hart old.awaited versions
-  pub row : new.row ≡ record old.row { read = versions.read; wrote = versions.wrote }

@@ -4,3 +4,4 @@ pub mod Made
 pub mod Owns
 pub mod Queues
 pub mod Rows
+pub mod Settled

@@ -33,5 +33,5 @@ pub use hart::{HartRows, NewRows};
 pub use laws::rows_depend_as_listed;
 pub use made::{Made, has_stored, made_by};
 pub use owns::{Owns, does_store};
-pub use pending::Pending;
-pub use queue::WaitingHart;
+pub use pending::{Pending, Stage, ValueFault, Waiting, returned_by, waiting_by};
+pub use queue::{RowFault, WaitingHart};

@@ -1,13 +1,17 @@
 //! Tests of what instructions make.
+ghost use Rattle.rv_commits.specs.Queues.{HasNumbers};
 
 use crate::hart::carrier_row;
 use crate::{
-    Awaited, HartRows, Made, NewRows, Owns, Versions, WaitingHart, awaited_by, made_by, versions_of,
+    Awaited, HartRows, Made, NewRows, Owns, Pending, Stage, ValueFault, Versions, Waiting,
+    WaitingHart, awaited_by, made_by, versions_of, waiting_by,
 };
 use rv_event::{DepKind, Event, Id, Op, Set};
 use rv_insn::{Width, decode};
 use rv_log::{Performed, Retired, access_of};
-use rv_memory::{Load, Stores};
+use rv_memory::{Load, Stores, Word};
+use rv_values::{Index, Issued, Memory};
+use std::alloc::Global;
 use std::process::Abort;
 use std::rt::HostRuntime;
 
@@ -225,35 +229,117 @@ fn the_last_store_to_a_word_is_forwarded(rt: HostRuntime) {
     assert_eq!(rt; awaited_by(&load, Some(7)), awaited);
 }
 
+/// The store of an `sd` that retired.
+fn issued(hart: u8, order: u64, address: u64, wdata: u64) -> Issued {
+    Issued {
+        hart,
+        order,
+        word: Word { address, size: 8 },
+        wdata: Some(wdata),
+    }
+}
+
 #[test]
 fn rows_wait_in_program_order(rt: HostRuntime) {
     let mut hart = WaitingHart::new(rt.alloc(), 0);
-    let mut stores = Stores::new(rt.alloc());
+    let mut memory = Memory::new(rt.alloc());
     // sd x6, 0(x5), of order 0; ld x5, 0(x10), of order 1, from the same word
     let first = retired(&rt, 0x0062b023, None, None);
     let mut second = retired(&rt, 0x00053283, None, None);
     second.order = 1;
     second.time = Some(4);
-    hart.retire(&first, 2).expect(&rt, "memory");
-    hart.retire(&second, 2).expect(&rt, "memory");
+    hart.retire(&first, 2, 1).expect(&rt, "memory");
+    hart.retire(&second, 2, 2).expect(&rt, "memory");
     assert!(rt; hart.queue.len() == 2);
-    let none = hart.next_row(&stores, true).expect(&rt, "memory");
-    assert!(rt; none.is_none());
+    assert_eq!(rt; hart.first_log_row(), Some(1));
+    assert!(rt; next(&rt, &mut hart, &memory, &Stage::Reading).is_none());
     let effect = Performed {
         address: 0,
         ..store(0, 0, 5)
     };
-    assert_eq!(rt; stores.push(effect), Ok(1));
-    let front = hart
-        .next_row(&stores, false)
-        .expect(&rt, "memory")
-        .expect(&rt, "a row");
-    let load = hart
-        .next_row(&stores, false)
-        .expect(&rt, "memory")
-        .expect(&rt, "a row");
+    memory.issue(issued(0, 0, 0, 7)).expect(&rt, "a store");
+    assert_eq!(rt; memory.perform(effect), Ok(1));
+    let front = next(&rt, &mut hart, &memory, &Stage::Reading).expect(&rt, "a row");
+    let load = next(&rt, &mut hart, &memory, &Stage::Reading).expect(&rt, "a row");
     assert!(rt; front.id.seq == 0 && front.wrote == 1);
     assert!(rt; load.id.seq == 1 && load.read == 1);
-    let none = hart.next_row(&stores, true).expect(&rt, "memory");
-    assert!(rt; none.is_none());
+    assert!(rt; next(&rt, &mut hart, &memory, &Stage::Reading).is_none());
+    assert_eq!(rt; hart.first_log_row(), None);
+}
+
+/// The hart's next row; memory is 0 at first.
+fn next(rt: &impl Abort, hart: &mut WaitingHart, memory: &Memory, stage: &Stage) -> Option<Event>
+    requires { HasNumbers hart.old }
+    ensures { HasNumbers hart.new }
+{
+    match hart.next_row(memory, Some(0), stage) {
+        Ok(found) => found,
+        Err(_) => panic!(rt; "no row"),
+    }
+}
+
+#[test]
+fn a_value_that_does_not_fit_its_time_tells_the_version(rt: HostRuntime) {
+    let mut memory = Memory::new(rt.alloc());
+    memory.issue(issued(1, 0, 0, 7)).expect(&rt, "a store");
+    memory.issue(issued(1, 1, 0, 8)).expect(&rt, "a store");
+    memory.issue(issued(1, 2, 0, 8)).expect(&rt, "a store");
+    assert_eq!(rt; memory.perform(store_at_0(1, 0, 1)), Ok(1));
+    assert_eq!(rt; memory.perform(store_at_0(1, 1, 2)), Ok(2));
+    // ld x5, 0(x10) at time 2 that returns 7, which was version 1
+    let mut stale = waits(&rt, rt.alloc(), 7);
+    assert_eq!(rt; stale.settle(&memory, Some(0), &Stage::Reading), Ok(false));
+    assert_eq!(rt; memory.perform(store_at_0(1, 2, 4)), Ok(3));
+    assert_eq!(rt; stale.settle(&memory, Some(0), &Stage::Reading), Ok(false));
+    let ended = Stage::Ended(Index::new(rt.alloc(), &memory).expect(&rt, "memory"));
+    assert_eq!(rt; stale.settle(&memory, Some(0), &ended), Ok(true));
+    assert_eq!(rt; stale.row.read, 1);
+    let mut right = waits(&rt, rt.alloc(), 8);
+    assert_eq!(rt; right.settle(&memory, Some(0), &Stage::Reading), Ok(true));
+    assert_eq!(rt; right.row.read, 2);
+    let mut nowhere = waits(&rt, rt.alloc(), 9);
+    assert_eq!(rt;
+        nowhere.settle(&memory, Some(0), &ended),
+        Err(ValueFault::Nowhere)
+    );
+    assert_eq!(rt; nowhere.settle(&memory, None, &ended), Ok(true));
+    assert_eq!(rt; nowhere.row.read, 0);
+    let mut several = Pending {
+        waiting: Waiting {
+            awaited: Awaited::Value,
+            ..waits(&rt, rt.alloc(), 8).waiting
+        },
+        row: waits(&rt, rt.alloc(), 8).row,
+    };
+    assert_eq!(rt;
+        several.settle(&memory, Some(0), &ended),
+        Err(ValueFault::Several)
+    );
+    several.waiting.returned = None;
+    assert_eq!(rt;
+        several.settle(&memory, Some(0), &ended),
+        Err(ValueFault::Unshown)
+    );
+}
+
+/// A store to the word at 0 that took effect.
+fn store_at_0(hart: u8, order: u64, time: u64) -> Performed {
+    Performed {
+        address: 0,
+        ..store(hart, order, time)
+    }
+}
+
+/// A load of hart 0 from the word at 0 at time 2 that returned this value.
+fn waits(rt: &impl Abort, alloc: Global, value: u64) -> Pending {
+    let mut load = retired(rt, 0x00053283, Some(value), None);
+    load.time = Some(2);
+    let mut rows = HartRows::new(alloc, 0);
+    match rows.add(&load, 0) {
+        Ok(NewRows::One(row)) => Pending {
+            row,
+            waiting: waiting_by(&load, None, 1),
+        },
+        _ => panic!(rt; "no row"),
+    }
 }

@@ -1,6 +1,7 @@
 mod Blocks
 mod Lists
 mod Orders
+pub mod Performed
 mod Placed
 pub mod Reading
 mod Single

@@ -111,6 +111,7 @@ module _ {log : List Performed} {kept : Kept} (are : AreStores log kept) where
       (here : kept_of new p.address ≡ kept_of kept p.address ++ p ∷ [])
       (others : (address : ℕ) → p.address ≢ address → kept_of new address ≡ kept_of kept address)
       (effect : effect_kept new p.hart p.order ≡ Some (record {
+        address = p.address;
         version = length (kept_of kept p.address) + 1;
         time = p.time;
       }))
@@ -143,6 +144,7 @@ module _ {log : List Performed} {kept : Kept} (are : AreStores log kept) where
       after = is.after ++ p ∷ [];
       is = ap (λ (l : List Performed). l ++ p ∷ []) is.is ∙ append_assoc is.before (is.store ∷ is.after) (p ∷ []);
       issuer = is.issuer;
+      address = is.address;
       version = is.version;
       time = is.time;
     }
@@ -161,6 +163,7 @@ module _ {log : List Performed} {kept : Kept} (are : AreStores log kept) where
           after = [];
           is = refl;
           issuer = issuer;
+          address = refl;
           version = ap (λ (w : List Performed). length w + 1) (are.words p.address);
           time = refl;
         })

@@ -21,6 +21,7 @@ effect-more log more hart order effect is = record {
   after = is.after ++ more;
   is = ap (λ (l : List Performed). l ++ more) is.is ∙ append_assoc is.before (is.store ∷ is.after) more;
   issuer = is.issuer;
+  address = is.address;
   version = is.version;
   time = is.time;
 }

@@ -38,8 +38,14 @@ pub record IsEffect (log : List Performed) (hart order : ℕ) (effect : Effect) 
   pub after : List Performed
   pub is : log ≡ before ++ store ∷ after
   pub issuer : HasIssuer hart order store
+  pub address : effect.address ≡ store.address
   pub version : effect.version ≡ length (of_word store.address before) + 1
   pub time : effect.time ≡ store.time
+
+-- the store of the instruction, exactly where it took effect
+abbrev pub IsPerformedBy : List Performed → ℕ → ℕ → Option Performed → Type 0
+IsPerformedBy log hart order (Some p) = Contains log p × HasIssuer hart order p
+IsPerformedBy log hart order None = (p : Performed) → Contains log p → HasIssuer hart order p → ⊥
 
 -- the effect of the instruction's store, exactly where it has one
 abbrev pub IsEffectOf : List Performed → ℕ → ℕ → Option Effect → Type 0

@@ -3,6 +3,7 @@ ghost use Rattle.std.specs.Prelude.{◌≡◌, ◌<◌, ◌≤◌, ◌+◌, ◌+
 ghost use Rattle.std.specs.Prelude.{length, nat_eq, ℕ, true, false};
 ghost use Rattle.rv_log.specs.declared.record.Performed.{Performed};
 ghost use Rattle.rv_memory.specs.Stores.{AreNumbers, AreStores, IsEffectOf, IsLast, IsLastOf, IsNext};
+ghost use Rattle.rv_memory.specs.Stores.{IsPerformedBy};
 ghost use Rattle.rv_memory.specs.Stores.{IsRefused, IsTold};
 ghost use Rattle.rv_memory.specs.Stores.{IsVersionAt, IsWrittenAt, at_place, kept_of, lists, of_word};
 ghost use Rattle.std.specs.HashMap.{get};
@@ -30,9 +31,11 @@ pub enum StoreFault {
     NoMemory,
 }
 
-/// When a store took effect.
+/// What came of a store that took effect.
 #[derive(Clone, Copy, PartialEq, Eq, Debug)]
 pub struct Effect {
+    /// The address of its word.
+    pub address: u64,
     /// The version that it made of its word.
     pub version: u32,
     /// The time.
@@ -125,6 +128,14 @@ impl Stores {
         self.of_word(address).get(before as usize).copied()
     }
 
+    /// The store of a hart's instruction, if that took effect.
+    pub fn performed_by(&self, hart: u8, order: u64) -> Option<Performed>
+        ensures { (log : List Performed) → AreStores log self.now → IsPerformedBy log hart order result }
+    {
+        let effect = self.effect_of(hart, order)?;
+        self.store(effect.address, effect.version)
+    }
+
     /// The time of the last store; 0 where there is none.
     pub fn latest(&self) -> u64
         ensures { (log : List Performed) → AreStores log self.now → IsLast log result }
@@ -196,6 +207,7 @@ impl Stores {
         word.reserve(1)?;
         let version = word.len() as u32 + 1;
         let effect = Effect {
+            address: store.address,
             version,
             time: store.time,
         };

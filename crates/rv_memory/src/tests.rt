@@ -55,6 +55,7 @@ fn versions_are_numbered_by_word(rt: HostRuntime) {
     assert_eq!(rt;
         stores.effect_of(1, 3),
         Some(Effect {
+            address: 0x1000,
             version: 2,
             time: 6
         })

@@ -1,7 +1,7 @@
 use Rattle.std.proofs.Common.{ℕ, ◌++◌, ◌∙◌, ap, drop, subst, sym}
 use Rattle.rv_commits.specs.Made.{made}
 use Rattle.rv_commits.specs.Queues.{Merged, pendings}
-use Rattle.rv_commits.specs.declared.awaited.Awaited.{Awaited}
+use Rattle.rv_commits.specs.declared.pending.Waiting.{Waiting}
 use Rattle.rv_commits.proofs.Merging.{added-numbers, numbers-more}
 use Rattle.rv_commits.proofs.queue.WaitingHart.retire.Goals as goal
 
@@ -11,8 +11,8 @@ returns-clause-retired c = λ done are. record {
   is_added = c.in_ok-added.ensures.added;
   own = c.last-own.result;
   is_own = c.last-own.ensures done are;
-  queued = c.in_ok-push.ensures ∙ ap (λ (a : Awaited). c.args.self.now.queue.items ++ pendings c.in_ok-added.added a)
-      c.awaited_by.ensures;
+  queued = c.in_ok-push.ensures ∙ ap (λ (a : Waiting). c.args.self.now.queue.items ++ pendings c.in_ok-added.added a)
+      c.waiting_by.ensures;
   owns = c.in_ok-add.ensures.added done are;
 }
 
@@ -23,10 +23,10 @@ returns-clause-numbers c =
     let new = c.add.new.self.trace in
     let hart = c.args.self.now.rows.hart in
     let insn = c.args.instruction.now.insn in
-    let adds = added-numbers hart insn c.args.word old new c.awaited_by.result (made c.args.instruction.now)
+    let adds = added-numbers hart insn c.args.word old new c.waiting_by.result (made c.args.instruction.now)
     c.in_ok-added.added c.in_ok-added.ensures.added in
     let more = numbers-more hart c.args.self.now.given c.args.self.now.carriers old new c.args.self.now.queue.items
-    (pendings c.in_ok-added.added c.awaited_by.result) numbers.few numbers.merged adds in
+    (pendings c.in_ok-added.added c.waiting_by.result) numbers.few numbers.merged adds in
     let longer = adds.traced numbers.steps numbers.trace in record {
       steps = longer.0;
       trace = longer.1;

@@ -164,7 +164,7 @@ module _ (c : After-push_reserved) where
   }
 
   abbrev effect : ℕ → Effect
-  effect n = record { version = n + 1; time = p.time }
+  effect n = record { address = p.address; version = n + 1; time = p.time }
 
   kept-same : kept_of before p.address ≡ kept_of c.args.self.now p.address
   kept-same = c.in_ok-place.ensures.same p.address ∙ ap (λ (kept : Kept). kept_of kept p.address) c.self.view_is

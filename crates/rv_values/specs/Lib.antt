@@ -1,0 +1,4 @@
+pub mod Index
+pub mod Issues
+pub mod Memory
+pub mod Values
