@@ -1,0 +1,3 @@
+pub mod Harts
+pub mod Log
+pub mod Stored
