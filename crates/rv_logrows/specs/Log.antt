@@ -108,6 +108,14 @@ IsUnretired performed s (Some id) =
     (p : Performed) × Contains performed p × HasIssuer id.hart id.order p × (retired_of s p.hart ≤ p.order)
 IsUnretired performed s None = (p : Performed) → Contains performed p → p.order < retired_of s p.hart
 
+-- a store whose instruction retired and which has not taken effect, exactly where there is one
+abbrev pub IsUnperformed : List Issued → List Performed → Option StoreId → Type 0
+IsUnperformed issued performed (Some id) =
+    ((i : Issued) × Contains issued i × IsOf id.hart id.order i) ×
+    ((p : Performed) → Contains performed p → HasIssuer id.hart id.order p → ⊥)
+IsUnperformed issued performed None =
+    (i : Issued) → Contains issued i → (p : Performed) × Contains performed p × HasIssuer i.hart i.order p
+
 -- why it is refused
 abbrev pub IsEffectRefused : List Issued → List Performed → Performed → LogRows → LogFault → Type 0
 IsEffectRefused issued performed p s fault.Hart = 15 < p.hart

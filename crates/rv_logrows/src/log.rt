@@ -10,7 +10,7 @@ ghost use Rattle.rv_logrows.specs.declared.fault.LogFault.TheVariants.{Full};
 ghost use Rattle.rv_logrows.specs.Harts.{AreHarts, IsGivenBy, IsHartAtRest, IsHartRefused};
 ghost use Rattle.rv_logrows.specs.Log.{IsEffectRefused, IsInstructionRefused, IsIssueRefused};
 ghost use Rattle.rv_logrows.specs.Log.{HasNoRecords, IsLog, IsPast, IsPerformed, IsRetired};
-ghost use Rattle.rv_logrows.specs.Log.{IsUnretired, IsUnstored};
+ghost use Rattle.rv_logrows.specs.Log.{IsUnperformed, IsUnretired, IsUnstored};
 ghost use Rattle.rv_logrows.specs.Log.{issue_of, issues};
 
 use crate::fault::LogFault;
@@ -275,7 +275,22 @@ impl LogRows {
         self.harts.next_row(hart, &self.memory, initial, stage)
     }
 
-    /// A store that took effect, and whose instruction has not retired; `None` where there is none.
+    /// The first store whose instruction retired and which has not taken effect; `None` where there
+    /// is none.
+    pub fn unperformed(&self) -> Option<StoreId>
+        ensures { (issued : List Issued) (performed : List Performed)
+            → IsLog issued performed self.now → IsUnperformed issued performed result }
+    {
+        'issues: for issued in self.memory.issues.all() {
+            let (hart, order) = (issued.hart, issued.order);
+            if self.memory.stores.effect_of(hart, order).is_none() {
+                return Some(StoreId { hart, order });
+            }
+        }
+        None
+    }
+
+    /// A store that took effect and whose instruction has not retired; `None` where there is none.
     pub fn unretired(&self) -> Option<StoreId>
         ensures { (issued : List Issued) (performed : List Performed)
             → IsLog issued performed self.now → IsUnretired performed self.now result }

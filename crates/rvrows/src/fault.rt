@@ -1,0 +1,238 @@
+//! The numbers and the texts of faults.
+
+use crate::{FAILED, WRONG_INPUT};
+use rv_commits::{RowFault, ValueFault};
+use rv_insn::Undecoded;
+use rv_log::{Field, RecordFault};
+use rv_logrows::{LogFault, StoreId};
+use rv_memory::{StoreFault, Word};
+use rv_values::Mismatch;
+use std::alloc::AllocError;
+use std::fmt;
+use std::io::{self, Write};
+
+/// What is wrong with a log.
+#[derive(Clone, Copy, PartialEq, Eq, Debug, Drop)]
+pub(crate) enum Fault {
+    /// It has no header, or another one.
+    Header,
+    /// What is wrong with a record alone.
+    Record(RecordFault),
+    /// What is wrong with it among the others.
+    Log(LogFault),
+    /// What is wrong with the value that a row returned.
+    Value(ValueFault),
+    /// A store took effect whose instruction never retired.
+    NoInstruction(StoreId),
+    /// A store never took effect.
+    NeverPerformed(StoreId),
+    /// A record stands behind the end.
+    AfterEnd,
+    /// There is no end.
+    NoEnd,
+}
+
+/// Why the rows end early.
+#[derive(Clone, Copy, PartialEq, Eq, Debug, Drop)]
+pub(crate) enum Stop {
+    /// The log has a fault in this row.
+    Fault(u64, Fault),
+    /// Reading failed.
+    Read,
+    /// Writing failed.
+    Write,
+    /// Memory ran out.
+    NoMemory,
+}
+
+impl From<AllocError> for Stop {
+    fn from(_: AllocError) -> Self {
+        Stop::NoMemory
+    }
+}
+
+impl From<io::Error> for Stop {
+    fn from(_: io::Error) -> Self {
+        Stop::Write
+    }
+}
+
+impl Stop {
+    /// What comes of a fault of the log in this row: want of memory is none.
+    pub(crate) fn of_log(row: u64, fault: LogFault) -> Stop {
+        match fault {
+            LogFault::NoMemory | LogFault::Store(StoreFault::NoMemory) => Stop::NoMemory,
+            _ => Stop::Fault(row, Fault::Log(fault)),
+        }
+    }
+
+    /// What comes of a fault of a row of the trace.
+    pub(crate) fn of_row(row: u64, fault: RowFault) -> Stop {
+        match fault {
+            RowFault::NoMemory => Stop::NoMemory,
+            RowFault::Value(value) => Stop::Fault(row, Fault::Value(value)),
+        }
+    }
+}
+
+/// The name of a field.
+fn name_of(field: Field) -> &'static str {
+    match field {
+        Field::Hart => "hart",
+        Field::Order => "order",
+        Field::Pc => "pc",
+        Field::Insn => "insn",
+        Field::Addr => "addr",
+        Field::Rdata => "rdata",
+        Field::Wdata => "wdata",
+        Field::Time => "time",
+    }
+}
+
+/// Why a word is no instruction that is taken.
+fn reason_of(why: Undecoded) -> &'static str {
+    match why {
+        Undecoded::Unknown => "unknown",
+        Undecoded::Illegal => "illegal",
+        Undecoded::Reserved => "reserved",
+        Undecoded::Vector => "vector",
+        Undecoded::HalfPrecision => "half precision",
+        Undecoded::QuadPrecision => "quad precision",
+        Undecoded::CacheBlock => "cache block operation",
+        Undecoded::Custom => "custom",
+        Undecoded::Hypervisor => "hypervisor load or store",
+    }
+}
+
+/// Writes the number, the name and the details of a record's fault.
+fn write_record<W: fmt::Write>(f: &mut fmt::Formatter<W>, fault: RecordFault) -> fmt::Result {
+    match fault {
+        RecordFault::Fields => write!(f, "2 fields: a record has nine"),
+        RecordFault::Number(field) => {
+            let name = name_of(field);
+            write!(f, "3 number: {name}")
+        }
+        RecordFault::Kind => write!(f, "4 kind: C, P or E"),
+        RecordFault::Missing(field) => {
+            let name = name_of(field);
+            write!(f, "5 missing: {name}")
+        }
+        RecordFault::NotBlank(field) => {
+            let name = name_of(field);
+            write!(f, "6 not blank: {name}")
+        }
+        RecordFault::Order(count) => {
+            write!(f, "7 order: {count} instructions of the hart came before")
+        }
+        RecordFault::Instruction(why) => {
+            let reason = reason_of(why);
+            write!(f, "8 instruction: {reason}")
+        }
+        RecordFault::Hart => write!(f, "21 hart: 0 to 15"),
+        RecordFault::End => write!(f, "23 no end: another number of records came before"),
+    }
+}
+
+/// Writes the number, the name and the details of a store's fault.
+fn write_store<W: fmt::Write>(f: &mut fmt::Formatter<W>, fault: StoreFault) -> fmt::Result {
+    match fault {
+        StoreFault::TimeGoesBack(time) => {
+            write!(f, "11 time goes back: a store took effect at {time}")
+        }
+        StoreFault::Twice => write!(f, "14 performed twice"),
+        StoreFault::SameTime => write!(f, "12 two stores at one time"),
+        StoreFault::Full | StoreFault::NoMemory => write!(f, "24 too long: stores of one word"),
+    }
+}
+
+/// Writes a word.
+fn write_word<W: fmt::Write>(f: &mut fmt::Formatter<W>, word: Word) -> fmt::Result {
+    let Word { address, size } = word;
+    write!(f, "{size} bytes at {address:x}")
+}
+
+/// Writes what is wrong with a record among the others.
+fn write_log<W: fmt::Write>(f: &mut fmt::Formatter<W>, fault: LogFault) -> fmt::Result {
+    match fault {
+        LogFault::Misaligned(word) => {
+            write!(f, "9 misaligned: ")?;
+            write_word(f, word)
+        }
+        LogFault::MixedSizes(word, other) => {
+            write!(f, "10 mixed sizes: ")?;
+            write_word(f, word)?;
+            write!(f, ", and ")?;
+            write_word(f, other)
+        }
+        LogFault::Store(fault) => write_store(f, fault),
+        LogFault::NoSuchStore => write!(f, "13 no such store: the instruction makes none"),
+        LogFault::Differs(Mismatch::Address(first, second)) => {
+            write!(f, "16 store differs: address {first:x}, and {second:x}")
+        }
+        LogFault::Differs(Mismatch::Value(first, second)) => {
+            write!(f, "16 store differs: value {first:x}, and {second:x}")
+        }
+        LogFault::Stored => write!(f, "19 success code: it failed, and took effect"),
+        LogFault::Order(count) => {
+            write!(f, "7 order: {count} instructions of the hart came before")
+        }
+        LogFault::RetiredTwice => write!(f, "7 order: the instruction retired before"),
+        LogFault::Hart => write!(f, "21 hart: 0 to 15"),
+        LogFault::TooManyRows => write!(f, "24 too long: a hart has 4096 rows"),
+        LogFault::Full | LogFault::NoMemory => write!(f, "24 too long"),
+        LogFault::Value(fault) => write_value(f, fault),
+    }
+}
+
+/// Writes what is wrong with the value that a row returned.
+fn write_value<W: fmt::Write>(f: &mut fmt::Formatter<W>, fault: ValueFault) -> fmt::Result {
+    match fault {
+        ValueFault::Unshown => write!(f, "17 value from nowhere: neither value nor time"),
+        ValueFault::Nowhere => write!(f, "17 value from nowhere: no store of the word has it"),
+        ValueFault::Several => write!(f, "18 value of several stores"),
+    }
+}
+
+impl fmt::Display for Fault {
+    fn fmt<W: fmt::Write>(&self, f: &mut fmt::Formatter<W>) -> fmt::Result {
+        match *self {
+            Fault::Header => write!(f, "1 header: kind,hart,order,pc,insn,addr,rdata,wdata,time"),
+            Fault::Record(fault) => write_record(f, fault),
+            Fault::Log(fault) => write_log(f, fault),
+            Fault::Value(fault) => write_value(f, fault),
+            Fault::NoInstruction(StoreId { hart, order }) => {
+                write!(
+                    f,
+                    "13 no such store: order {order} of hart {hart} never retired"
+                )
+            }
+            Fault::NeverPerformed(StoreId { hart, order }) => {
+                write!(f, "15 never performed: order {order} of hart {hart}")
+            }
+            Fault::AfterEnd => write!(f, "22 after the end"),
+            Fault::NoEnd => write!(f, "23 no end: the log is cut off"),
+        }
+    }
+}
+
+/// Tells why the rows end early, and gives the status.
+pub(crate) fn tell<E: Write>(errors: &mut E, stop: &Stop) -> u8 {
+    match stop {
+        Stop::Fault(row, fault) => {
+            let _ = writeln!(errors, "rvrows: row {row}: fault {fault}");
+            WRONG_INPUT
+        }
+        Stop::Read => {
+            let _ = writeln!(errors, "rvrows: the log can't be read");
+            FAILED
+        }
+        Stop::Write => {
+            let _ = writeln!(errors, "rvrows: the rows can't be written");
+            FAILED
+        }
+        Stop::NoMemory => {
+            let _ = writeln!(errors, "rvrows: no memory");
+            FAILED
+        }
+    }
+}
