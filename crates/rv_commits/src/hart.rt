@@ -100,6 +100,7 @@ impl HartRows {
     pub fn new(alloc: Global, hart: u8) -> HartRows
         ensures hart { result.hart ≡ hart }
         ensures none { IsTraceOf [] result.trace }
+        ensures rows { (result.trace.rows ≡ 0) × (result.trace.carriers ≡ []) }
     {
         HartRows {
             alloc,

@@ -82,6 +82,7 @@ impl WaitingHart {
         ensures none { IsTraceOf [] result.rows.trace }
         ensures owns { AreOwns [] result.owns }
         ensures empty { result.queue.items ≡ [] }
+        ensures given { result.given ≡ 0 }
         ensures numbers { HasNumbers result }
     {
         let rows = HartRows::new(alloc, hart);

@@ -49,7 +49,8 @@ impl HartTrace {
 
     /// Before any instruction. It takes no memory.
     pub fn new(alloc: Global) -> HartTrace
-        ensures { IsTraceOf [] result }
+        ensures trace { IsTraceOf [] result }
+        ensures none { (result.rows ≡ 0) × (result.carriers ≡ []) }
     {
         HartTrace {
             alloc,

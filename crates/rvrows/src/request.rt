@@ -15,7 +15,7 @@ Usage: rvrows [--xlen 32|64] [--zero] [--complete] [LOG]
   LOG           the log; standard input is read where no file is named
   --xlen 32|64  the width of the integer registers; 64 where it is not said
   --zero        memory is 0 at first
-  --complete    the log must end with E; then the rows end with `end,N`
+  --complete    the log must end with E
 
 A log is CSV: this header, and then a record for each instruction and store.
 

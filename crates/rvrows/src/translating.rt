@@ -17,7 +17,7 @@ const HARTS: u8 = 16;
 /// How many rows a hart has at most.
 const MOST_ROWS: u32 = 4096;
 
-/// A log that is translated. Contracts see how many rows were written.
+/// A log that is translated. Contracts see whether its end was read.
 #[derive(Drop)]
 pub(crate) struct Translation<W: Write + Drop> {
     out: W,
@@ -27,17 +27,15 @@ pub(crate) struct Translation<W: Write + Drop> {
     begun: bool,
     /// Whether the end was read.
     ended: bool,
-    /// How many rows were written.
-    written: u64,
 }
 
 impl<W: Write + Drop> Model for Translation<W> {
-    ghost use Rattle.std.specs.Prelude.{ℕ};
+    ghost use Rattle.std.specs.Prelude.{Bool};
     ghost use Rattle.rv_logrows.specs.Harts.{AreHarts};
 
-    ghost Value = { ℕ };
+    ghost Value = { Bool };
 
-    ghost view = { λ t. t.written };
+    ghost view = { λ t. t.ended };
 
     ghost invariant = { λ t. AreHarts 16 t.log.harts.all.items };
 }
@@ -64,7 +62,6 @@ impl<W: Write + Drop> Translation<W> {
             log: LogRows::new(alloc)?,
             begun: false,
             ended: false,
-            written: 0,
         })
     }
 
@@ -98,10 +95,7 @@ impl<W: Write + Drop> Translation<W> {
         let initial = self.request.zero.then_some(0);
         'rows: for _ in 0..MOST_ROWS {
             match self.log.next_row(hart, initial, stage) {
-                Ok(Some(row)) => {
-                    writeln!(self.out, "{row}")?;
-                    self.written = self.written.saturating_add(1);
-                }
+                Ok(Some(row)) => writeln!(self.out, "{row}")?,
                 Ok(None) => return Ok(()),
                 Err(fault) => return Err(Stop::of_row(self.waiting_row(hart), fault)),
             }
@@ -168,10 +162,6 @@ impl<W: Write + Drop> Translation<W> {
         }
         let stage = Stage::Ended(Index::new(alloc, &self.log.memory)?);
         self.write_all(&stage)?;
-        if self.request.complete {
-            let written = self.written;
-            writeln!(self.out, "end,{written}")?;
-        }
         self.out.flush()?;
         Ok(())
     }
