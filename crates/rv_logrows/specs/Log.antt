@@ -80,12 +80,18 @@ IsIssueRefused issued performed r fault.RetiredTwice = (i : Issued) × Contains 
 IsIssueRefused issued performed r fault.NoMemory = ⊤
 IsIssueRefused issued performed r _ = ⊥
 
+-- a counter of 64 bits is at its end, or there are too many words
+abbrev pub IsFull : Retired → LogRows → Type 0
+IsFull r s =
+    (18446744073709551615 ≤ retired_of s r.hart) ⊎ (18446744073709551615 ≤ s.before.records) ⊎
+    IsWordRefused r s.words fault.Full
+
 -- why an instruction is
 abbrev pub IsInstructionRefused : List Issued → List Performed → Retired → LogRows → LogFault → Type 0
 IsInstructionRefused issued performed r s fault.Hart = 15 < r.hart
 IsInstructionRefused issued performed r s (fault.Order count) = (count ≡ retired_of s r.hart) × (r.order ≢ count)
 IsInstructionRefused issued performed r s fault.TooManyRows = ⊤
-IsInstructionRefused issued performed r s fault.Full = ⊤
+IsInstructionRefused issued performed r s fault.Full = IsFull r s
 IsInstructionRefused issued performed r s (fault.Misaligned word) =
     IsWordRefused r s.words (fault.Misaligned word)
 IsInstructionRefused issued performed r s (fault.MixedSizes word other) =

@@ -157,11 +157,17 @@ impl LogRows {
         let Some(next) = order.checked_add(1) else {
             return Err(LogFault::Full);
         };
-        let word = word_of(&mut self.words, instruction)?;
+        let word = match word_of(&mut self.words, instruction) {
+            Ok(word) => word,
+            Err(fault) => return Err(fault),
+        };
         if let Err(fault) = self.store(instruction) {
             return Err(fault);
         }
-        let row = self.next_record()?;
+        let row = match self.next_record() {
+            Ok(row) => row,
+            Err(fault) => return Err(fault),
+        };
         self.harts.retire(instruction, word, row)?;
         self.before.retired[hart] = next;
         Ok(())
@@ -175,7 +181,8 @@ impl LogRows {
             × (self.new.past ≡ self.old.past) }
         ensures counted { IfOk result (λ row. (row ≡ self.old.before.records + 1)
             × (self.new.before.records ≡ row)) }
-        ensures full { IfErr result (λ fault. fault ≡ Full) }
+        ensures full { IfErr result (λ fault. (fault ≡ Full)
+            × (18446744073709551615 ≤ self.old.before.records)) }
     {
         let Some(row) = self.before.records.checked_add(1) else {
             return Err(LogFault::Full);

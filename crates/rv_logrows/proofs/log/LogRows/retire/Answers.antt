@@ -10,17 +10,17 @@ use Rattle.rv_logrows.specs.declared.harts.Harts.{Harts}
 use Rattle.rv_logrows.proofs.log.LogRows.retire.Goals.{In_ok-retire}
 use Rattle.rv_logrows.proofs.log.LogRows.retire.Goals as goal
 
-pub returns-in-Err-clause-refused : goal.returns-in-Err-clause-refused
-returns-in-Err-clause-refused c = λ issued performed log.
-    refused-for issued performed c.args.instruction.now c.args.self.now c.in-Err.fault
-    (c.in-Err.ensures.refused issued performed log.memory)
+pub returns-in-Err-store-clause-refused : goal.returns-in-Err-store-clause-refused
+returns-in-Err-store-clause-refused c = λ issued performed log.
+    refused-for issued performed c.args.instruction.now c.args.self.now c.in-Err-store.fault
+    (c.in-Err-store.ensures.refused issued performed log.memory)
 
 -- the counts of the harts, with this instruction
 counts : (c : In_ok-retire) → set c.next_record.new.self.before.retired c.args.instruction.now.hart c.in-Some.next ≡
     set c.args.self.now.before.retired c.args.instruction.now.hart (c.args.instruction.now.order + 1)
 counts c =
     ap (λ (l : List ℕ). set l c.args.instruction.now.hart c.in-Some.next)
-    (c.in_ok-row.ensures.same.3 ∙ ap (λ (b : Before). b.retired) c.in_default-store.ensures.same.2) ∙
+    (c.in-Ok-next_record.ensures.same.3 ∙ ap (λ (b : Before). b.retired) c.in_default-store.ensures.same.2) ∙
     ap (set c.args.self.now.before.retired c.args.instruction.now.hart)
     (c.in-Some.ensures.1 ∙ ap (λ (n : ℕ). n + 1) (sym c.if-instruction-order.false))
 
@@ -31,18 +31,18 @@ returns-clause-retired c = λ issued performed log.
     let same = c.in_default-store.ensures.same in record {
       log = retired-log issued performed c.args.self.now log c.args.instruction.now _ c.if-instruction-order.false
           (counts r)
-          (subst (IsMemory (issued ++ issues c.args.instruction.now) performed) (sym c.in_ok-row.ensures.same.2)
-          stored.0) stored.1 (c.in_ok-row.ensures.same.4 ∙ same.3);
+          (subst (IsMemory (issued ++ issues c.args.instruction.now) performed) (sym c.in-Ok-next_record.ensures.same.2)
+          stored.0) stored.1 (c.in-Ok-next_record.ensures.same.4 ∙ same.3);
       next = c.if-instruction-order.false;
       retired = counts r;
-      records = c.in_ok-row.ensures.counted.1 ∙ c.in_ok-row.ensures.counted.0 ∙
+      records = c.in-Ok-next_record.ensures.counted.1 ∙ c.in-Ok-next_record.ensures.counted.0 ∙
           ap (λ (b : Before). b.records + 1) same.2;
-      word = c.in_ok-word.word;
+      word = c.in-Ok.word;
       is_word = subst (λ (words : List Word).
-          IsWordOf c.args.instruction.now c.args.self.now.words words c.in_ok-word.word)
-          (sym (c.in_ok-row.ensures.same.0 ∙ same.0)) c.in_ok-word.ensures.numbered;
-      hart = subst (λ (n : ℕ). IsRetiredBy c.args.instruction.now c.in_ok-word.word n c.args.self.now.harts.all.items
-          c.retire.new.self.all.items) (sym c.in_ok-row.ensures.counted.1)
-          (subst (λ (h : Harts). IsRetiredBy c.args.instruction.now c.in_ok-word.word c.in_ok-row.row h.all.items
-          c.retire.new.self.all.items) (c.in_ok-row.ensures.same.1 ∙ same.1) c.in_ok-retire.ensures.retired);
+          IsWordOf c.args.instruction.now c.args.self.now.words words c.in-Ok.word)
+          (sym (c.in-Ok-next_record.ensures.same.0 ∙ same.0)) c.in-Ok.ensures.numbered;
+      hart = subst (λ (n : ℕ). IsRetiredBy c.args.instruction.now c.in-Ok.word n c.args.self.now.harts.all.items
+          c.retire.new.self.all.items) (sym c.in-Ok-next_record.ensures.counted.1)
+          (subst (λ (h : Harts). IsRetiredBy c.args.instruction.now c.in-Ok.word c.in-Ok-next_record.row h.all.items
+          c.retire.new.self.all.items) (c.in-Ok-next_record.ensures.same.1 ∙ same.1) c.in_ok-retire.ensures.retired);
     }
