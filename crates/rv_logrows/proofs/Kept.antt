@@ -228,7 +228,6 @@ refused-for issued performed r s (fault.Store f) is = absurd is
 refused-for issued performed r s (fault.Order count) is = absurd is
 refused-for issued performed r s fault.TooManyRows is = absurd is
 refused-for issued performed r s fault.Hart is = absurd is
-refused-for issued performed r s (fault.Value f) is = absurd is
 refused-for issued performed r s fault.Full is = absurd is
 
 -- the highest store of a hart, where its instruction has not retired

@@ -130,6 +130,7 @@ IsEffectRefused issued performed p s fault.NoSuchStore =
 IsEffectRefused issued performed p s (fault.Differs m) =
     (i : Issued) × Contains issued i × IsOf p.hart p.order i × Differ i p m
 IsEffectRefused issued performed p s (fault.Store f) = stores.IsRefused performed p f
-IsEffectRefused issued performed p s fault.Full = ⊤
+IsEffectRefused issued performed p s fault.Full =
+    (18446744073709551615 ≤ p.order) ⊎ (18446744073709551615 ≤ s.before.records)
 IsEffectRefused issued performed p s fault.NoMemory = ⊤
 IsEffectRefused issued performed p s _ = ⊥

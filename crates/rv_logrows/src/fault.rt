@@ -1,6 +1,5 @@
 //! What is wrong with a log.
 
-use rv_commits::ValueFault;
 use rv_memory::{StoreFault, Word};
 use rv_values::Mismatch;
 
@@ -27,8 +26,6 @@ pub enum LogFault {
     TooManyRows,
     /// Its hart is above 15.
     Hart,
-    /// The value that a row returned tells no version.
-    Value(ValueFault),
     /// A log may not have more words or instructions.
     Full,
     /// Memory ran out.

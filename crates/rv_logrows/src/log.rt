@@ -15,11 +15,11 @@ ghost use Rattle.rv_logrows.specs.Log.{issue_of, issues};
 
 use crate::fault::LogFault;
 use crate::harts::Harts;
-use crate::stored::word_of;
+use crate::stored::{word_by, word_of};
 use rv_commits::{RowFault, Stage, does_store, made_by};
 use rv_event::{Event, Op};
 use rv_log::{Before, Performed, Retired};
-use rv_memory::{Word, Words};
+use rv_memory::Words;
 use rv_values::{Issued, Memory, MemoryFault};
 use std::alloc::{AllocError, Global};
 
@@ -51,17 +51,10 @@ pub struct StoreId {
 fn issue_of(instruction: &Retired) -> Issued
     ensures { result ≡ issue_of instruction.now }
 {
-    let size = match instruction.access {
-        Some(access) => access.size,
-        None => 0,
-    };
     Issued {
         hart: instruction.hart,
         order: instruction.order,
-        word: Word {
-            address: instruction.address,
-            size,
-        },
+        word: word_by(instruction),
         wdata: instruction.wdata,
     }
 }
@@ -237,7 +230,9 @@ impl LogRows {
         let Some(past) = store.order.checked_add(1) else {
             return Err(LogFault::Full);
         };
-        self.next_record()?;
+        if let Err(fault) = self.next_record() {
+            return Err(fault);
+        }
         match self.memory.perform(*store) {
             Ok(_) => {
                 self.pass(store, past);
@@ -261,6 +256,8 @@ impl LogRows {
         stage: &Stage,
     ) -> Result<Option<Event>, RowFault>
         requires harts { AreHarts 16 self.old.harts.all.items }
+        ensures same { (self.new.words ≡ self.old.words) × (self.new.memory ≡ self.old.memory)
+            × (self.new.before ≡ self.old.before) × (self.new.past ≡ self.old.past) }
         ensures log { (issued : List Issued) (performed : List Performed)
             → IsLog issued performed self.old → IsLog issued performed self.new }
         ensures harts { AreHarts 16 self.new.harts.all.items }

@@ -7,7 +7,7 @@ use rv_log::Retired;
 use rv_memory::{Word, WordFault, Words};
 
 /// The bytes that an instruction accesses; none at its address where it accesses none.
-fn word_by(instruction: &Retired) -> Word
+pub(crate) fn word_by(instruction: &Retired) -> Word
     ensures { result ≡ word_by instruction.now }
 {
     let address = instruction.address;

@@ -180,7 +180,6 @@ fn write_log<W: fmt::Write>(f: &mut fmt::Formatter<W>, fault: LogFault) -> fmt::
         LogFault::Hart => write!(f, "21 hart: 0 to 15"),
         LogFault::TooManyRows => write!(f, "24 too long: a hart has 4096 rows"),
         LogFault::Full | LogFault::NoMemory => write!(f, "24 too long"),
-        LogFault::Value(fault) => write_value(f, fault),
     }
 }
 

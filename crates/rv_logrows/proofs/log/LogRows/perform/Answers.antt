@@ -33,7 +33,7 @@ own c issued performed log low = elim c.else-has_retired.branch [
 
 pub returns-in-Ok-clause-performed : goal.returns-in-Ok-clause-performed
 returns-in-Ok-clause-performed c = λ issued performed log.
-    let same = c.in_ok-next_record.ensures.same in
+    let same = c.in_default-next_record.ensures.same in
     let still = c.pass.ensures.same in
     let taken = c.in-Ok.ensures.taken issued performed
     (subst (IsMemory issued performed) (sym same.2) log.memory) in
@@ -44,8 +44,8 @@ returns-in-Ok-clause-performed c = λ issued performed log.
           (c.pass.ensures.past performed (subst (IsPast performed) (sym same.4) log.past));
       next = taken.0;
       retired = retired;
-      records = ap (λ (b : Before). b.records) still.3 ∙ c.in_ok-next_record.ensures.counted.1 ∙
-          c.in_ok-next_record.ensures.counted.0;
+      records = ap (λ (b : Before). b.records) still.3 ∙ c.in_default-next_record.ensures.counted.1 ∙
+          c.in_default-next_record.ensures.counted.0;
       words = still.0 ∙ same.0;
       harts = still.1 ∙ same.1;
     }
@@ -54,10 +54,10 @@ pub returns-in-Err-Differs-clause-refused : goal.returns-in-Err-Differs-clause-r
 returns-in-Err-Differs-clause-refused c = λ issued performed log.
     subst (IsPerformRefused issued performed c.args.store.now) c.in-Err-Differs.field-0-is
     (c.in-Err-Differs.ensures.refused issued performed
-    (subst (IsMemory issued performed) (sym c.in_ok-next_record.ensures.same.2) log.memory))
+    (subst (IsMemory issued performed) (sym c.in_default-next_record.ensures.same.2) log.memory))
 
 pub returns-in-Err-Store-clause-refused : goal.returns-in-Err-Store-clause-refused
 returns-in-Err-Store-clause-refused c = λ issued performed log.
     subst (IsPerformRefused issued performed c.args.store.now) c.in-Err-Store.field-0-is
     (c.in-Err-Store.ensures.refused issued performed
-    (subst (IsMemory issued performed) (sym c.in_ok-next_record.ensures.same.2) log.memory))
+    (subst (IsMemory issued performed) (sym c.in_default-next_record.ensures.same.2) log.memory))
