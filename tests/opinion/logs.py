@@ -1,19 +1,18 @@
-"""A second opinion on commit logs, written from docs/LOGS.md: random logs, and the rows and the fault of a log.
+"""A second opinion on commit logs, written from docs/LOGS.md: the rows of a log, or its fault.
 
-The logs have accesses of eight bytes, fences, branches and additions alone, so that decoding is a matter of masks.
-Their harts have store buffers that give their stores to memory in any order among harts. Some logs are broken on
-purpose.
+Of instructions it knows loads, stores, LR, SC and AMOs of integer registers, fences, branches, JALR and ADD, so that
+decoding is a matter of masks.
 """
 
 import csv
 import io
-import random
 from dataclasses import dataclass, field
 
-HEADER = "kind,hart,order,pc,insn,addr,rdata,wdata,time"
-INSN = HEADER.split(",").index("insn")
+from opinion.commits import HEADER
+
 MOST_PARTS = 8
 SETS = ["", "w", "r", "rw"]
+TRACE_HEADER = "hart,seq,op,word,read,wrote,ann,deps"
 
 
 class Fault(Exception):
@@ -25,120 +24,18 @@ class Fault(Exception):
         self.number = number
 
 
-# Random logs
-
-
 @dataclass
-class Design:
-    """Harts with store buffers over one memory, and what they log."""
+class Asked:
+    """What is asked of the rows."""
 
-    chance: random.Random
-    harts: int
-    timed: bool
-    shown: bool
-    records: list = field(default_factory=list)
-    memory: dict = field(default_factory=dict)
-    time: int = 0
-    value: int = 0
+    zero: bool = False
+    complete: bool = True
+    pending: bool = False
+    low: int = 0
+    high: int = 2**64
 
-    def __post_init__(self):
-        self.buffers = [[] for _ in range(self.harts)]
-        self.orders = [0] * self.harts
-
-    def retire(self, hart, insn, addr="", rdata="", wdata="", time=""):
-        order = self.orders[hart]
-        self.orders[hart] += 1
-        self.records.append(["C", hart, order, f"{0x80000000 + 4 * order:x}", f"{insn:08x}", addr, rdata, wdata, time])
-        return order
-
-    def perform(self, hart, order, address, value, shown):
-        self.time += 1
-        self.memory[address] = value
-        wdata = f"{value:x}" if shown else ""
-        self.records.append(["P", hart, order, "", "", f"{address:x}", "", wdata, self.time])
-
-    def drain(self, hart):
-        order, address, value = self.buffers[hart].pop(0)
-        self.perform(hart, order, address, value, self.chance.random() < 0.5)
-
-    def load(self, hart, address, insn):
-        own = [value for _, at, value in self.buffers[hart] if at == address]
-        value = own[-1] if own else self.memory.get(address, 0)
-        rdata = f"{value:x}" if self.shown or not self.timed else ""
-        self.retire(hart, insn, f"{address:x}", rdata, "", self.time if self.timed else "")
-        self.time += self.chance.randint(0, 1)
-
-    def store(self, hart, address, insn):
-        self.value += 1
-        order = self.retire(hart, insn, f"{address:x}", "", f"{self.value:x}")
-        self.buffers[hart].append((order, address, self.value))
-
-    def swap(self, hart, address, insn):
-        while self.buffers[hart]:
-            self.drain(hart)
-        old = f"{self.memory.get(address, 0):x}" if self.shown else ""
-        self.value += 1
-        order = self.retire(hart, insn, f"{address:x}", old, f"{self.value:x}")
-        self.perform(hart, order, address, self.value, False)
-        if self.chance.random() < 0.5:
-            self.records[-2:] = reversed(self.records[-2:])
-
-    def step(self, words):
-        chance = self.chance
-        hart = chance.randrange(self.harts)
-        address = 0x1000 + 8 * chance.randrange(words)
-        rd, rs1, rs2 = (chance.randint(0, 7) for _ in range(3))
-        if self.buffers[hart] and chance.random() < 0.3:
-            self.drain(hart)
-            return
-        kind = chance.random()
-        if kind < 0.35:
-            self.load(hart, address, 0x3003 | rd << 7 | rs1 << 15)
-        elif kind < 0.6:
-            self.store(hart, address, 0x3023 | rs1 << 15 | rs2 << 20)
-        elif kind < 0.7:
-            bits = chance.randint(0, 3) << 25
-            self.swap(hart, address, 0x0800302F | bits | rs2 << 20 | rs1 << 15 | rd << 7)
-        elif kind < 0.75:
-            self.retire(hart, 0x0F | chance.randint(0, 15) << 24 | chance.randint(0, 15) << 20)
-        elif kind < 0.85:
-            self.retire(hart, 0x63 | rs1 << 15 | rs2 << 20)
-        else:
-            self.retire(hart, 0x33 | rd << 7 | rs1 << 15 | rs2 << 20)
-
-
-def break_records(chance, records):
-    """Takes a record away, exchanges two, or changes a field."""
-    way = chance.random()
-    place = chance.randrange(len(records))
-    if way < 0.3:
-        del records[place]
-    elif way < 0.6:
-        other = chance.randrange(len(records))
-        records[place], records[other] = records[other], records[place]
-    else:
-        column = chance.randrange(9)
-        others = ["", "x", "0", "ffffffff"] if column == INSN else ["", "x", "99", "1", "0", "1008"]
-        records[place][column] = chance.choice(others)
-
-
-def random_log(seed):
-    """The log of a seed, as a text."""
-    chance = random.Random(seed)
-    design = Design(chance, chance.randint(1, 4), chance.random() < 0.7, chance.random() < 0.8)
-    words = chance.randint(1, 4)
-    for _ in range(chance.randint(1, 60)):
-        design.step(words)
-    for hart in range(design.harts):
-        while design.buffers[hart]:
-            design.drain(hart)
-    records = design.records
-    if chance.random() < 0.3:
-        for _ in range(chance.randint(1, 2)):
-            if records:
-                break_records(chance, records)
-    records.append(["E", "", len(records), "", "", "", "", "", ""])
-    return "\n".join([HEADER] + [",".join(map(str, record)) for record in records]) + "\n"
+    def has(self, addr):
+        return self.low <= addr < self.high
 
 
 # What a record says
@@ -193,25 +90,52 @@ class Instruction:
     data: tuple = ()
     sources: tuple = ()
     marks: str = ""
+    size: int = 0
+
+
+def atomic(row, bits):
+    """An LR, SC or AMO. LR.rl and SC.aq have no marks (manual, 8.2)."""
+    rd, rs1, rs2 = bits >> 7 & 31, bits >> 15 & 31, bits >> 20 & 31
+    function, both = bits >> 27, bits >> 25 & 3
+    size = {2: 4, 3: 8}.get(bits >> 12 & 7)
+    if size is None or function not in (0, 1, 2, 3, 4, 8, 12, 16, 20, 24, 28):
+        raise Fault(row, 8)
+    marks = ["", "R", "A", "AR"][both]
+    if function == 2:
+        if rs2:
+            raise Fault(row, 8)
+        return Instruction("LR", rd, (rs1,), (), (rs1,), marks if both & 2 else "", size)
+    if function == 3:
+        return Instruction("SC", rd, (rs1,), (rs2,), (rs1, rs2), marks if both & 1 else "", size)
+    return Instruction("AMO", rd, (rs1,), (rs2,), (rs1, rs2), marks, size)
+
+
+def fence(bits):
+    """A FENCE. What orders no memory has no row."""
+    if bits >> 20 == 0x833:
+        return Instruction("FT")
+    before, after = SETS[bits >> 24 & 3], SETS[bits >> 20 & 3]
+    return Instruction("F" if before and after else "N", marks=f"{before}-{after}")
 
 
 def decode(row, bits):
     """An instruction of those that the logs have."""
+    opcode, function = bits & 127, bits >> 12 & 7
     rd, rs1, rs2 = bits >> 7 & 31, bits >> 15 & 31, bits >> 20 & 31
-    if bits & 0x707F == 0x3003:
-        return Instruction("L", rd, (rs1,), (), (rs1,))
-    if bits & 0x707F == 0x3023:
-        return Instruction("S", 0, (rs1,), (rs2,), (rs1, rs2))
-    if bits & 0xF800707F == 0x0800302F:
-        marks = ("A" if bits >> 26 & 1 else "") + ("R" if bits >> 25 & 1 else "")
-        return Instruction("AMO", rd, (rs1,), (rs2,), (rs1, rs2), marks)
-    if bits & 0x707F == 0x0F:
-        before, after = SETS[bits >> 24 & 3], SETS[bits >> 20 & 3]
-        return Instruction("F" if before and after else "N", marks=f"{before}-{after}")
-    if bits & 0x707F == 0x63:
-        return Instruction("BR", 0, (), (), (rs1, rs2))
+    if opcode == 0x03 and function != 7:
+        return Instruction("L", rd, (rs1,), (), (rs1,), size=1 << (function & 3))
+    if opcode == 0x23 and function < 4:
+        return Instruction("S", 0, (rs1,), (rs2,), (rs1, rs2), size=1 << function)
+    if opcode == 0x2F:
+        return atomic(row, bits)
+    if opcode == 0x0F and function == 0:
+        return fence(bits)
+    if opcode == 0x63 and function not in (2, 3):
+        return Instruction("BR", sources=(rs1, rs2))
+    if opcode == 0x67 and function == 0:
+        return Instruction("BR", rd, sources=(rs1,))
     if bits & 0xFE00707F == 0x33:
-        return Instruction("N", rd, (), (), (rs1, rs2))
+        return Instruction("N", rd, sources=(rs1, rs2))
     raise Fault(row, 8)
 
 
@@ -228,6 +152,22 @@ class Retired:
     wdata: int
     time: int
 
+    @property
+    def op(self):
+        """Its operation in a trace."""
+        kind = self.instruction.kind
+        if kind != "SC":
+            return kind
+        stored = self.wdata is not None if self.rdata is None else self.rdata == 0
+        return "SC" if stored else "SF"
+
+    def stores(self):
+        return self.op in ("S", "SC", "AMO")
+
+    def low(self, value):
+        """The bytes of a value that it accesses."""
+        return None if value is None else value % 256**self.instruction.size
+
 
 @dataclass
 class Performed:
@@ -241,35 +181,16 @@ class Performed:
     time: int
 
 
-class Log:
-    """The records of a log, each checked beside those before it."""
+class Records:
+    """The records of a log so far, each checked beside those before it."""
 
-    def __init__(self, text, complete):
-        self.complete = complete
+    def __init__(self, asked):
+        self.asked = asked
         self.retired = []
         self.performed = []
         self.counts = [0] * 16
+        self.words = []
         self.ended = False
-        self.rows = -1
-        for record in csv.reader(io.StringIO(text)):
-            if record:
-                self.rows += 1
-                self.take(self.rows, record)
-        self.end()
-
-    def take(self, row, record):
-        if row == 0:
-            if record != HEADER.split(","):
-                raise Fault(0, 1)
-            return
-        if self.ended:
-            raise Fault(row, 22)
-        if len(record) != 9:
-            raise Fault(row, 2)
-        takes = {"C": self.take_retired, "P": self.take_performed, "E": self.take_end}
-        if record[0] not in takes:
-            raise Fault(row, 4)
-        takes[record[0]](row, record)
 
     def take_retired(self, row, record):
         hart = hart_of(row, record[1])
@@ -279,19 +200,32 @@ class Log:
         number(row, record[3], 16, 16, 2**64 - 1)
         instruction = decode(row, number(row, record[4], 16, 8, 2**32 - 1))
         kind = instruction.kind
-        addr = hexadecimal(row, record[5], kind in ("L", "S", "AMO"), True)
-        rdata = hexadecimal(row, record[6], kind in ("L", "AMO"), False)
-        wdata = hexadecimal(row, record[7], kind in ("S", "AMO"), False)
+        addr = hexadecimal(row, record[5], kind in ("L", "LR", "S", "SC", "AMO"), True)
+        rdata = hexadecimal(row, record[6], kind in ("L", "LR", "SC", "AMO"), False)
+        wdata = hexadecimal(row, record[7], kind in ("S", "SC", "AMO"), False)
         time = None if record[8] == "" else time_of(row, record[8])
-        if addr is not None and addr % 8:
-            raise Fault(row, 9)
+        if addr is not None and not self.asked.has(addr):
+            instruction, addr = Instruction("N", instruction.rd), None
         new = Retired(row, hart, order, instruction, addr, rdata, wdata, time)
+        if addr is not None:
+            self.take_word(row, addr, instruction.size)
         for effect in self.effects(hart, order):
-            if kind not in ("S", "AMO"):
-                raise Fault(row, 13)
+            if not new.stores():
+                raise Fault(row, 19 if new.op == "SF" else 13)
             self.agree(row, new, effect)
         self.counts[hart] += 1
         self.retired.append(new)
+        return new
+
+    def take_word(self, row, addr, size):
+        """The bytes of an access: the word's number is its place among the words."""
+        if addr % size:
+            raise Fault(row, 9)
+        if (addr, size) in self.words:
+            return
+        if any(addr < other + more and other < addr + size for other, more in self.words):
+            raise Fault(row, 10)
+        self.words.append((addr, size))
 
     def take_performed(self, row, record):
         hart = hart_of(row, record[1])
@@ -302,17 +236,20 @@ class Log:
         blank(row, record[6])
         wdata = hexadecimal(row, record[7], True, False)
         time = time_of(row, record[8])
-        new = Performed(row, hart, order, addr, wdata, time)
-        stores = [store for store in self.stores() if (store.hart, store.order) == (hart, order)]
-        if order < self.counts[hart] and not stores:
+        if self.asked.has(addr):
+            self.perform(Performed(row, hart, order, addr, wdata, time))
+
+    def perform(self, new):
+        row, stores = new.row, self.stores(new.hart, new.order)
+        if new.order < self.counts[new.hart] and not stores:
             raise Fault(row, 13)
         for store in stores:
             self.agree(row, store, new)
-        if self.performed and time < self.performed[-1].time:
+        if self.performed and new.time < self.performed[-1].time:
             raise Fault(row, 11)
-        if self.effects(hart, order):
+        if self.effects(new.hart, new.order):
             raise Fault(row, 14)
-        if any(effect.addr == addr and effect.time == time for effect in self.performed):
+        if any(effect.addr == new.addr and effect.time == new.time for effect in self.performed):
             raise Fault(row, 12)
         self.performed.append(new)
 
@@ -324,20 +261,22 @@ class Log:
             blank(row, text)
         self.ended = True
 
-    def end(self):
-        if self.rows < 0:
-            raise Fault(0, 1)
-        last = self.rows - 1 if self.ended else self.rows
-        if self.complete and not self.ended:
-            raise Fault(self.rows + 1, 23)
+    def end(self, row):
+        """The log ends behind this row."""
+        last = row - 1 if self.ended else row
+        if self.asked.complete and not self.ended:
+            raise Fault(row + 1, 23)
         if any(effect.order >= self.counts[effect.hart] for effect in self.performed):
             raise Fault(last, 13)
-        for store in self.stores():
-            if not self.effects(store.hart, store.order):
-                raise Fault(store.row, 15)
+        for store in self.retired:
+            if store.stores() and not self.effects(store.hart, store.order):
+                if not self.asked.pending:
+                    raise Fault(store.row, 15)
+                time = self.performed[-1].time + 1 if self.performed else 1
+                self.performed.append(Performed(store.row, store.hart, store.order, store.addr, None, time))
 
-    def stores(self):
-        return [store for store in self.retired if store.instruction.kind in ("S", "AMO")]
+    def stores(self, hart, order):
+        return [one for one in self.retired if one.stores() and (one.hart, one.order) == (hart, order)]
 
     def effects(self, hart, order):
         return [effect for effect in self.performed if (effect.hart, effect.order) == (hart, order)]
@@ -346,128 +285,236 @@ class Log:
     def agree(row, store, effect):
         if store.addr != effect.addr:
             raise Fault(row, 16)
-        if None not in (store.wdata, effect.wdata) and store.wdata != effect.wdata:
+        if None not in (store.wdata, effect.wdata) and store.low(store.wdata) != store.low(effect.wdata):
             raise Fault(row, 16)
 
 
-# The rows of a log
+# The versions of words
+
+
+UNKNOWN = "unknown"  # what more records may tell
 
 
 class Memory:
-    """The versions of words."""
+    """The versions of words, by the records so far."""
 
-    def __init__(self, log, zero):
-        self.log = log
-        self.zero = zero
-        self.numbers = {}
-        for one in log.retired:
-            if one.addr is not None:
-                self.numbers.setdefault(one.addr, len(self.numbers))
+    def __init__(self, records):
+        self.records = records
+        self.first = {}  # what version 0 of a word holds, as a load told
 
     def effects(self, addr):
-        return [effect for effect in self.log.performed if effect.addr == addr]
+        return [effect for effect in self.records.performed if effect.addr == addr]
 
-    def wrote(self, store):
+    def wrote(self, hart, order):
         """The version that a store made, and when."""
-        for version, effect in enumerate(self.effects(store.addr), 1):
-            if (effect.hart, effect.order) == (store.hart, store.order):
-                return version, effect.time
-        raise AssertionError("a store has no effect")
+        for mine in self.records.effects(hart, order):
+            return self.effects(mine.addr).index(mine) + 1, mine.time
+        return UNKNOWN
 
     def value(self, addr, version):
-        """What a version holds, where a record shows it."""
+        """What a version holds: a number, None where no record shows it, or UNKNOWN."""
         if version == 0:
-            return 0 if self.zero else None
+            return 0 if self.records.asked.zero else self.first.get(addr)
         effect = self.effects(addr)[version - 1]
-        if effect.wdata is not None:
-            return effect.wdata
-        of = (effect.hart, effect.order)
-        return next(store.wdata for store in self.log.stores() if (store.hart, store.order) == of)
+        for store in self.records.stores(effect.hart, effect.order):
+            return store.low(store.wdata if effect.wdata is None else effect.wdata)
+        return UNKNOWN
 
-    def by_time(self, one):
-        """The version that the times tell an instruction returned, if they do."""
-        if one.instruction.kind == "AMO":
-            return self.wrote(one)[0] - 1
+    def by_time(self, one, ended):
+        """The version that the times tell an instruction returned."""
+        if one.op == "AMO":
+            wrote = self.wrote(one.hart, one.order)
+            return UNKNOWN if wrote == UNKNOWN else wrote[0] - 1
         if one.time is None:
-            return None
-        own = [store for store in self.log.stores() if (store.hart, store.addr) == (one.hart, one.addr)]
-        own = [store for store in own if store.order < one.order]
-        if own and self.wrote(own[-1])[1] > one.time:
-            return self.wrote(own[-1])[0]
+            return None if ended else UNKNOWN
+        own = [store for store in self.records.retired if (store.hart, store.addr) == (one.hart, one.addr)]
+        own = [store for store in own if store.stores() and store.order < one.order]
+        if own:
+            wrote = self.wrote(own[-1].hart, own[-1].order)
+            if wrote == UNKNOWN:
+                return UNKNOWN
+            if wrote[1] > one.time:
+                return wrote[0]
+        if not ended and not any(effect.time > one.time for effect in self.records.performed):
+            return UNKNOWN
         return sum(effect.time <= one.time for effect in self.effects(one.addr))
 
-    def returned(self, one):
-        """The version that an instruction returned."""
-        version = self.by_time(one)
-        if version is not None and (one.rdata is None or self.value(one.addr, version) in (None, one.rdata)):
-            return version
-        if one.rdata is None:
+    def returned(self, one, ended):
+        """The version that an instruction returned, or UNKNOWN. A fault where there is none."""
+        version, shown = self.by_time(one, ended), one.low(one.rdata)
+        if version == UNKNOWN:
+            return UNKNOWN
+        if version is not None:
+            holds = None if shown is None else self.value(one.addr, version)
+            if holds in (None, shown):
+                return version
+            if not ended:
+                return UNKNOWN
+        if shown is None:
             raise Fault(one.row, 17)
         versions = range(len(self.effects(one.addr)) + 1)
-        found = [version for version in versions if self.value(one.addr, version) == one.rdata]
-        if not found and not self.zero:
+        found = [version for version in versions if self.value(one.addr, version) == shown]
+        if not found and self.value(one.addr, 0) is None:
             return 0
         if len(found) != 1:
             raise Fault(one.row, 18 if found else 17)
         return found[0]
 
+    def tell(self, one, version):
+        """A row came that returned this version."""
+        if version == 0 and one.rdata is not None:
+            self.first.setdefault(one.addr, one.low(one.rdata))
 
-class Rows:
-    """The rows of a hart, each as its text."""
 
-    def __init__(self, hart, memory):
-        self.hart = hart
-        self.memory = memory
-        self.texts = []
-        self.events = {}
-        self.tested = set()
-        self.most = 0
+# The rows of a log
+
+
+@dataclass
+class Row:
+    """A row that waits for its versions: of which instruction it is, if it has some."""
+
+    op: str
+    marks: str
+    deps: str
+    one: Retired = None
+
+
+@dataclass
+class Hart:
+    """The rows of a hart, and what its registers depend on."""
+
+    hart: int
+    rows: list = field(default_factory=list)
+    given: int = 0
+    events: dict = field(default_factory=dict)
+    tested: set = field(default_factory=set)
+    carriers: list = field(default_factory=list)
 
     def of(self, registers):
         return set().union(*(self.events.get(register, set()) for register in registers))
 
-    def add(self, op, word, read, wrote, marks, deps):
-        text = " ".join(f"{letter}{number}" for letter, numbers in deps for number in sorted(numbers))
-        self.texts.append(f"{self.hart},{len(self.texts)},{op},{word},{read},{wrote},{marks},{text}")
+    def fold(self, parts, events):
+        """A carrier that lists the parts, in their place."""
+        self.carriers.append((len(self.rows), events))
+        self.rows.append(Row("I", "", " ".join(f"d{part}" for part in parts)))
+        return [len(self.rows) - 1], events
 
-    def access(self, one):
-        insn = one.instruction
-        address, data = self.of(insn.address), self.of(insn.data)
-        self.most = max(self.most, len(address) + len(data))
-        read = "" if insn.kind == "S" else self.memory.returned(one)
-        wrote = "" if insn.kind == "L" else self.memory.wrote(one)[0]
-        number = len(self.texts)
-        self.add(insn.kind, self.memory.numbers[one.addr], read, wrote, insn.marks, [("a", address), ("d", data)])
-        return set() if insn.kind == "S" else {number}
+    def collect(self, events):
+        """Eight parts at most that stand for the events: the latest carriers that can, then events."""
+        parts, listed, rest = [], set(), set(events)
+        for carrier, carried in reversed(list(self.carriers)):
+            if len(parts) < MOST_PARTS and carried <= rest:
+                parts, listed, rest = parts + [carrier], listed | carried, rest - carried
+        for event in sorted(rest):
+            if len(parts) == MOST_PARTS:
+                parts, listed = self.fold(parts, listed)
+            parts, listed = parts + [event], listed | {event}
+        return parts, listed
+
+    def lists(self, address, data):
+        first, second = self.collect(address), self.collect(data)
+        if len(first[0]) + len(second[0]) > MOST_PARTS:
+            second = self.fold(*second)
+        if len(first[0]) + len(second[0]) > MOST_PARTS:
+            first = self.fold(*first)
+        return " ".join([f"a{part}" for part in first[0]] + [f"d{part}" for part in second[0]])
 
     def branch(self, insn):
         events = sorted(self.of(insn.sources) - self.tested)
         self.tested.update(events)
         for start in range(0, len(events), MOST_PARTS):
-            self.add("BR", "", "", "", "", [("c", events[start:start + MOST_PARTS])])
+            self.rows.append(Row("BR", "", " ".join(f"c{event}" for event in events[start:start + MOST_PARTS])))
 
     def take(self, one):
-        insn = one.instruction
-        if insn.kind in ("L", "S", "AMO"):
-            carried = self.access(one)
-        else:
-            carried = self.of(insn.sources) if insn.kind == "N" else set()
-        if insn.kind == "F":
-            self.add("F", "", "", "", insn.marks, [])
-        if insn.kind == "BR":
+        """Adds the rows of the next instruction."""
+        insn, carried = one.instruction, set()
+        if one.op in ("L", "LR", "S", "SC", "SF", "AMO"):
+            deps = self.lists(self.of(insn.address), self.of(insn.data))
+            carried = {len(self.rows)} if one.op in ("L", "LR", "SC", "AMO") else set()
+            self.rows.append(Row(one.op, insn.marks, deps, one))
+        elif one.op in ("F", "FT"):
+            self.rows.append(Row(one.op, insn.marks, ""))
+        elif one.op == "BR":
             self.branch(insn)
+        else:
+            carried = self.of(insn.sources)
         if insn.rd:
             self.events[insn.rd] = carried
-            self.most = max(self.most, len(carried))
+
+    def give(self, memory, ended):
+        """The rows that are known, as texts."""
+        while self.given < len(self.rows):
+            row = self.rows[self.given]
+            word, read, wrote = "", "", ""
+            if row.one is not None:
+                one = row.one
+                word = memory.records.words.index((one.addr, one.instruction.size))
+                if one.stores():
+                    wrote = memory.wrote(one.hart, one.order)
+                    if wrote == UNKNOWN:
+                        return
+                    wrote = wrote[0]
+                if one.op in ("L", "LR", "AMO"):
+                    read = memory.returned(one, ended)
+                    if read == UNKNOWN:
+                        return
+                    memory.tell(one, read)
+            yield f"{self.hart},{self.given},{row.op},{word},{read},{wrote},{row.marks},{row.deps}"
+            self.given += 1
 
 
-def rows_of(text, zero, complete):
-    """The rows of a log by hart, and whether a row would need carriers. A fault is raised."""
-    log = Log(text, complete)
-    memory = Memory(log, zero)
-    rows = [Rows(hart, memory) for hart in range(16)]
-    for hart in range(16):
-        for one in log.retired:
-            if one.hart == hart:
-                rows[hart].take(one)
-    return [one.texts for one in rows], max(one.most for one in rows) > MOST_PARTS
+class Translation:
+    """The rows of a log, record by record."""
+
+    def __init__(self, asked):
+        self.records = Records(asked)
+        self.memory = Memory(self.records)
+        self.harts = [Hart(hart) for hart in range(16)]
+        self.lines = [TRACE_HEADER]
+        self.row = -1
+
+    def give(self, harts, ended):
+        for hart in harts:
+            for line in hart.give(self.memory, ended):
+                self.lines.append(line)
+
+    def take(self, record):
+        self.row += 1
+        row, records = self.row, self.records
+        if row == 0:
+            if record != HEADER.split(","):
+                raise Fault(0, 1)
+        elif records.ended:
+            raise Fault(row, 22)
+        elif len(record) != 9:
+            raise Fault(row, 2)
+        elif record[0] == "C":
+            one = records.take_retired(row, record)
+            self.harts[one.hart].take(one)
+            self.give([self.harts[one.hart]], False)
+        elif record[0] == "P":
+            records.take_performed(row, record)
+            self.give(self.harts, False)
+        elif record[0] == "E":
+            records.take_end(row, record)
+        else:
+            raise Fault(row, 4)
+
+    def finish(self):
+        if self.row < 0:
+            raise Fault(0, 1)
+        self.records.end(self.row)
+        self.give(self.harts, True)
+
+
+def rows_of(text, asked):
+    """The lines that come of a log, and its fault if it has one."""
+    translation = Translation(asked)
+    try:
+        for record in csv.reader(io.StringIO(text)):
+            if record:
+                translation.take(record)
+        translation.finish()
+    except Fault as fault:
+        return translation.lines, (fault.row, fault.number)
+    return translation.lines, None

@@ -5,3 +5,4 @@ mod Parts
 mod Stored
 mod Traces
 mod Valued
+mod Whole

@@ -5,3 +5,4 @@ pub mod Owns
 pub mod Queues
 pub mod Rows
 pub mod Settled
+pub mod Whole

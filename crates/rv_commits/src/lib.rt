@@ -9,7 +9,7 @@
 //! - [`pending`]: rows that wait for their versions.
 //! - [`queue`]: the rows of a hart that wait, in their order.
 //! - [`owns`]: the last store of a hart to each word.
-//! - [`laws`]: what the rows of a hart depend on, by carriers.
+//! - [`laws`]: what the rows of a hart depend on, by carriers, and that none is lost or added.
 //! - `specs/`: the same by cases, with the manual's sections.
 //!
 //! It stands on `rv_insn`, `rv_event`, `rv_flow`, `rv_log` and `rv_memory`; proofs name `rv_rows`.
@@ -30,7 +30,7 @@ mod tests;
 
 pub use awaited::{Awaited, Versions, awaited_by, versions_of};
 pub use hart::{HartRows, NewRows};
-pub use laws::rows_depend_as_listed;
+pub use laws::{rows_are_whole, rows_depend_as_listed};
 pub use made::{Made, has_stored, made_by};
 pub use owns::{Owns, does_store};
 pub use pending::{Pending, Stage, ValueFault, Waiting, returned_by, waiting_by};

@@ -1,5 +1,6 @@
 //! The numbers and the texts of faults.
 
+use crate::judging::Judgement;
 use crate::{FAILED, WRONG_INPUT};
 use rv_commits::{RowFault, ValueFault};
 use rv_insn::Undecoded;
@@ -33,14 +34,20 @@ pub(crate) enum Fault {
 }
 
 /// Why the rows end early.
-#[derive(Clone, Copy, PartialEq, Eq, Debug, Drop)]
+#[derive(Debug, Drop)]
 pub(crate) enum Stop {
     /// The log has a fault in this row.
     Fault(u64, Fault),
+    /// The rows were judged: one was refused.
+    Judged(Judgement),
+    /// This file does not open.
+    Open(String),
     /// Reading failed.
     Read,
     /// Writing failed.
     Write,
+    /// Writing where the rows come from failed.
+    WritePlaces,
     /// Memory ran out.
     NoMemory,
 }
@@ -214,24 +221,14 @@ impl fmt::Display for Fault {
     }
 }
 
-/// Tells why the rows end early, and gives the status.
-pub(crate) fn tell<E: Write>(errors: &mut E, stop: &Stop) -> u8 {
-    match stop {
-        Stop::Fault(row, fault) => {
-            let _ = writeln!(errors, "rvrows: row {row}: fault {fault}");
-            WRONG_INPUT
-        }
-        Stop::Read => {
-            let _ = writeln!(errors, "rvrows: the log can't be read");
-            FAILED
-        }
-        Stop::Write => {
-            let _ = writeln!(errors, "rvrows: the rows can't be written");
-            FAILED
-        }
-        Stop::NoMemory => {
-            let _ = writeln!(errors, "rvrows: no memory");
-            FAILED
-        }
-    }
+/// Tells what went wrong, and gives the status. The first word is the name of the program.
+pub(crate) fn tell<E: Write>(errors: &mut E, name: &str, row: u64, fault: Fault) -> u8 {
+    let _ = writeln!(errors, "{name}: row {row}: fault {fault}");
+    WRONG_INPUT
+}
+
+/// Tells what failed, and gives the status. The first word is the name of the program.
+pub(crate) fn tell_failure<E: Write>(errors: &mut E, name: &str, what: &str) -> u8 {
+    let _ = writeln!(errors, "{name}: {what}");
+    FAILED
 }

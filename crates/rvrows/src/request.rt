@@ -1,6 +1,8 @@
 //! What the words of the command line ask for.
 
+use rv_event::MemoryModel;
 use rv_insn::Width;
+use std::alloc::Global;
 use std::env;
 use thiserror::Error;
 
@@ -8,14 +10,21 @@ use thiserror::Error;
 pub(crate) const HELP: &str = "\
 Writes the rows of a trace from a commit log: what a design or a simulator logs of
 its harts, an instruction or a store that took effect in each record. rvmon
---carriers judges the rows.
+--carriers judges the rows; rvmon --log judges them as they come.
 
-Usage: rvrows [--xlen 32|64] [--zero] [--complete] [LOG]
+Usage: rvrows [WORD..] [LOG..]
+       rvmon --log [WORD..] [LOG..]
 
-  LOG           the log; standard input is read where no file is named
-  --xlen 32|64  the width of the integer registers; 64 where it is not said
-  --zero        memory is 0 at first
-  --complete    the log must end with E
+  LOG               the log, or its parts in order, each with the header; standard
+                    input is read where no file is named
+  --xlen 32|64      the width of the integer registers; 64 where it is not said
+  --zero            memory is 0 at first
+  --complete        the log must end with E
+  --pending         stores that wait at the end take effect then
+  --range LO-HI     leaves out accesses below LO, and from HI on; both are hexadecimal
+                    and multiples of 8
+  --where FILE      rvrows: writes where each row comes from, as source,row,text
+  --model rvwmo|tso rvmon: the memory model; rvwmo where it is not said
 
 A log is CSV: this header, and then a record for each instruction and store.
 
@@ -38,8 +47,16 @@ For example, hart 0 stores 1 to 0x1000 at time 7:
   C,0,0,80000000,0062b023,1000,,1,
   P,0,0,,,1000,,1,7
 
-Status: 0 all rows are written, 2 wrong words or a fault of the log, which is told
-on standard error, 3 reading, writing or memory failed.";
+Status of rvrows: 0 all rows are written, 2 wrong words or a fault of the log, which
+is told on standard error, 3 reading, writing or memory failed. Of rvmon: 0 allowed,
+1 forbidden, 2 malformed, wrong words or a fault of the log, 3 as rvrows.";
+
+/// The addresses of accesses that are taken.
+#[derive(Clone, Copy, PartialEq, Eq, Debug)]
+pub(crate) struct Range {
+    low: u64,
+    high: u64,
+}
 
 /// What is asked of the rows.
 #[derive(Clone, Copy, PartialEq, Eq, Debug)]
@@ -50,6 +67,20 @@ pub(crate) struct Request {
     pub(crate) zero: bool,
     /// Whether the log must end with `E`.
     pub(crate) complete: bool,
+    /// Whether stores that wait at the end take effect then.
+    pub(crate) pending: bool,
+    /// The accesses that are taken; `None` for all.
+    pub(crate) range: Option<Range>,
+}
+
+impl Request {
+    /// Whether accesses to this address are taken.
+    pub(crate) fn has(&self, address: u64) -> bool {
+        match self.range {
+            Some(Range { low, high }) => low <= address && address < high,
+            None => true,
+        }
+    }
 }
 
 /// What is asked.
@@ -57,8 +88,14 @@ pub(crate) struct Request {
 pub(crate) struct Words {
     /// What is asked of the rows.
     pub(crate) request: Request,
-    /// The file of the log; `None` for standard input.
-    pub(crate) file: Option<String>,
+    /// Whether the rows are judged, in place of being written.
+    pub(crate) judges: bool,
+    /// The memory model that they are judged by.
+    pub(crate) model: MemoryModel,
+    /// The files of the log; none for standard input.
+    pub(crate) files: Vec<String>,
+    /// The file that tells where rows come from, if there is one.
+    pub(crate) places: Option<String>,
     /// Whether help is asked for.
     pub(crate) help: bool,
 }
@@ -72,12 +109,119 @@ pub(crate) enum WordsFault {
     /// `--xlen` has no width behind it.
     #[error("--xlen takes 32 or 64")]
     Width,
+    /// `--model` has no model behind it.
+    #[error("--model takes rvwmo or tso")]
+    Model,
+    /// `--range` has no range behind it.
+    #[error("--range takes LO-HI, hexadecimal and multiples of 8")]
+    Range,
+    /// `--where` has no file behind it.
+    #[error("--where takes a file")]
+    Where,
     /// This word begins with `-` and is none of those that there are.
     #[error("unknown word {0}")]
     Unknown(String),
-    /// There are two files.
-    #[error("one log at a time")]
-    TwoFiles,
+}
+
+/// A word that has another one behind it.
+#[derive(Clone, Copy, PartialEq, Eq, Debug)]
+enum Setting {
+    /// `--xlen`.
+    Width,
+    /// `--model`.
+    Model,
+    /// `--range`.
+    Range,
+    /// `--where`.
+    Where,
+}
+
+impl Setting {
+    /// The one of this name.
+    fn named(word: &str) -> Option<Setting> {
+        match word {
+            "--xlen" => Some(Setting::Width),
+            "--model" => Some(Setting::Model),
+            "--range" => Some(Setting::Range),
+            "--where" => Some(Setting::Where),
+            _ => None,
+        }
+    }
+
+    /// The fault where nothing, or something else is behind it.
+    fn fault(self) -> WordsFault {
+        match self {
+            Setting::Width => WordsFault::Width,
+            Setting::Model => WordsFault::Model,
+            Setting::Range => WordsFault::Range,
+            Setting::Where => WordsFault::Where,
+        }
+    }
+}
+
+/// The range that a word names.
+fn range_of(text: &str) -> Option<Range> {
+    let (low, high) = text.split_once('-')?;
+    let low = u64::from_str_radix(low, 16).ok()?;
+    let high = u64::from_str_radix(high, 16).ok()?;
+    if low % 8 != 0 || high % 8 != 0 {
+        return None;
+    }
+    Some(Range { low, high })
+}
+
+impl Words {
+    /// Those of a command line without words.
+    fn new(alloc: Global) -> Words {
+        Words {
+            request: Request {
+                width: Width::Rv64,
+                zero: false,
+                complete: false,
+                pending: false,
+                range: None,
+            },
+            judges: false,
+            model: MemoryModel::Rvwmo,
+            files: Vec::new(alloc),
+            places: None,
+            help: false,
+        }
+    }
+
+    /// Takes the word behind a setting.
+    fn set(&mut self, setting: Setting, value: String) -> Result<(), WordsFault> {
+        match (setting, value.as_str()) {
+            (Setting::Width, "32") => self.request.width = Width::Rv32,
+            (Setting::Width, "64") => self.request.width = Width::Rv64,
+            (Setting::Model, "rvwmo") => self.model = MemoryModel::Rvwmo,
+            (Setting::Model, "tso") => self.model = MemoryModel::Ztso,
+            (Setting::Range, text) => match range_of(text) {
+                Some(range) => self.request.range = Some(range),
+                None => return Err(WordsFault::Range),
+            },
+            (Setting::Where, _) => self.places = Some(value),
+            (Setting::Width | Setting::Model, _) => return Err(setting.fault()),
+        }
+        Ok(())
+    }
+
+    /// Takes a word that has none behind it.
+    fn take(&mut self, word: String) -> Result<(), WordsFault> {
+        match word.as_str() {
+            "--zero" => self.request.zero = true,
+            "--complete" => self.request.complete = true,
+            "--pending" => self.request.pending = true,
+            "--log" => self.judges = true,
+            "--help" | "-h" => self.help = true,
+            _ if word.as_str().starts_with("-") => return Err(WordsFault::Unknown(word)),
+            _ => match self.files.push(word) {
+                Ok(()) => {}
+                Err(_) => return Err(WordsFault::Unread),
+            },
+        }
+        Ok(())
+    }
 }
 
 /// Reads the command line.
@@ -85,38 +229,26 @@ pub(crate) fn request_of(rt: &HostRuntime) -> Result<Words, WordsFault> {
     let Ok(all) = env::args(rt) else {
         return Err(WordsFault::Unread);
     };
-    let mut words = Words {
-        request: Request {
-            width: Width::Rv64,
-            zero: false,
-            complete: false,
-        },
-        file: None,
-        help: false,
-    };
-    let mut wants_width = false;
+    let mut words = Words::new(rt.alloc());
+    let mut waiting: Option<Setting> = None;
     for word in all.skip(1) {
-        if wants_width {
-            words.request.width = match word.as_str() {
-                "32" => Width::Rv32,
-                "64" => Width::Rv64,
-                _ => return Err(WordsFault::Width),
-            };
-            wants_width = false;
-            continue;
-        }
-        match word.as_str() {
-            "--xlen" => wants_width = true,
-            "--zero" => words.request.zero = true,
-            "--complete" => words.request.complete = true,
-            "--help" | "-h" => words.help = true,
-            _ if word.as_str().starts_with("-") => return Err(WordsFault::Unknown(word)),
-            _ if words.file.is_some() => return Err(WordsFault::TwoFiles),
-            _ => words.file = Some(word),
+        let taken = match (waiting, Setting::named(word.as_str())) {
+            (Some(setting), _) => {
+                waiting = None;
+                words.set(setting, word)
+            }
+            (None, Some(setting)) => {
+                waiting = Some(setting);
+                Ok(())
+            }
+            (None, None) => words.take(word),
+        };
+        if let Err(fault) = taken {
+            return Err(fault);
         }
     }
-    if wants_width {
-        return Err(WordsFault::Width);
+    match waiting {
+        Some(setting) => Err(setting.fault()),
+        None => Ok(words),
     }
-    Ok(words)
 }

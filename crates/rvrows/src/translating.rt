@@ -1,14 +1,16 @@
 //! The rows of a log, record by record.
 
 use crate::fault::{Fault, Stop};
+use crate::initial::{Initial, Returned};
+use crate::places::Place;
 use crate::request::Request;
+use crate::sink::Sink;
 use csv::ByteRecord;
-use rv_commits::{Awaited, Pending, Stage};
-use rv_log::{Record, record_of};
+use rv_commits::{Awaited, Pending, Stage, WaitingHart};
+use rv_log::{Performed, Record, Retired, record_of};
 use rv_logrows::{LogRows, StoreId};
 use rv_values::Index;
-use std::alloc::Global;
-use std::io::Write;
+use std::alloc::{AllocError, Global};
 use std::marker::Model;
 
 /// How many harts a log has.
@@ -19,17 +21,23 @@ const MOST_ROWS: u32 = 4096;
 
 /// A log that is translated. Contracts see whether its end was read.
 #[derive(Drop)]
-pub(crate) struct Translation<W: Write + Drop> {
-    out: W,
+pub(crate) struct Translation<S: Sink + Drop> {
+    alloc: Global,
+    sink: S,
     request: Request,
     log: LogRows,
-    /// Whether the header was read.
+    initial: Initial,
+    /// The time of the last store that took effect.
+    time: u64,
+    /// How many records were left out, as their addresses are not of the range.
+    left_out: u64,
+    /// Whether the header of the file at hand was read.
     begun: bool,
     /// Whether the end was read.
     ended: bool,
 }
 
-impl<W: Write + Drop> Model for Translation<W> {
+impl<S: Sink + Drop> Model for Translation<S> {
     ghost use Rattle.std.specs.Prelude.{Bool};
     ghost use Rattle.rv_logrows.specs.Harts.{AreHarts};
 
@@ -52,32 +60,55 @@ fn is_header(record: &ByteRecord) -> bool {
             .all(|(i, name)| record.get(i) == Some(*name))
 }
 
-impl<W: Write + Drop> Translation<W> {
-    /// No records, and the header of a trace.
-    pub(crate) fn new(alloc: Global, mut out: W, request: Request) -> Result<Translation<W>, Stop> {
-        writeln!(out, "hart,seq,op,word,read,wrote,ann,deps")?;
+impl<S: Sink + Drop> Translation<S> {
+    /// No records.
+    pub(crate) fn new(
+        alloc: Global,
+        sink: S,
+        request: Request,
+    ) -> Result<Translation<S>, AllocError> {
         Ok(Translation {
-            out,
+            alloc,
+            sink,
             request,
             log: LogRows::new(alloc)?,
+            initial: Initial::new(alloc, request.zero),
+            time: 0,
+            left_out: 0,
             begun: false,
             ended: false,
         })
     }
 
+    /// The next file begins. It has a header of its own.
+    pub(crate) fn begin_file(&mut self) {
+        self.begun = false;
+    }
+
+    /// A hart of the log.
+    fn hart(&self, hart: u8) -> Option<&WaitingHart> {
+        self.log.harts.all.get(hart as usize)
+    }
+
     /// The row of the log that a hart's first row that waits is of; that of the last record where
     /// none waits.
     fn waiting_row(&self, hart: u8) -> u64 {
-        match self.log.harts.all.get(hart as usize) {
+        match self.hart(hart) {
             Some(hart) => hart.first_log_row().unwrap_or(self.log.before.records),
             None => self.log.before.records,
         }
     }
 
+    /// What a hart's first row that waits returned.
+    fn returned(&self, hart: u8) -> Option<Returned> {
+        let first = self.hart(hart)?.queue.front()?;
+        Some(Returned::of(first))
+    }
+
     /// The row of the log that a store which waits for its effect is of.
     fn row_of(&self, store: StoreId) -> u64 {
         let last = self.log.before.records;
-        let Some(hart) = self.log.harts.all.get(store.hart as usize) else {
+        let Some(hart) = self.hart(store.hart) else {
             return last;
         };
         let is_of = |pending: &&Pending| match pending.waiting.awaited {
@@ -90,66 +121,159 @@ impl<W: Write + Drop> Translation<W> {
         }
     }
 
-    /// Writes the rows of a hart that are known.
-    fn write_rows(&mut self, hart: u8, stage: &Stage) -> Result<(), Stop> {
-        let initial = self.request.zero.then_some(0);
+    /// Gives on a hart's next row, if it is known.
+    fn give_row(&mut self, hart: u8, stage: &Stage) -> Result<bool, Stop> {
+        let returned = self.returned(hart);
+        let initial = self.initial.of(returned);
+        match self.log.next_row(hart, initial, stage) {
+            Ok(Some(row)) => {
+                if let Some(returned) = returned {
+                    self.initial.note(returned, &row)?;
+                }
+                if let Err(stop) = self.sink.take(row) {
+                    return Err(stop);
+                }
+                Ok(true)
+            }
+            Ok(None) => Ok(false),
+            Err(fault) => Err(Stop::of_row(self.waiting_row(hart), fault)),
+        }
+    }
+
+    /// Gives on the rows of a hart that are known.
+    fn give_rows(&mut self, hart: u8, stage: &Stage) -> Result<(), Stop> {
         'rows: for _ in 0..MOST_ROWS {
-            match self.log.next_row(hart, initial, stage) {
-                Ok(Some(row)) => writeln!(self.out, "{row}")?,
-                Ok(None) => return Ok(()),
-                Err(fault) => return Err(Stop::of_row(self.waiting_row(hart), fault)),
+            match self.give_row(hart, stage) {
+                Ok(true) => {}
+                Ok(false) => return Ok(()),
+                Err(stop) => return Err(stop),
             }
         }
         Ok(())
     }
 
-    /// Writes the rows of all harts that are known.
-    fn write_all(&mut self, stage: &Stage) -> Result<(), Stop> {
+    /// Gives on the rows of all harts that are known.
+    fn give_all(&mut self, stage: &Stage) -> Result<(), Stop> {
         'harts: for hart in 0..HARTS {
-            self.write_rows(hart, stage)?;
+            if let Err(stop) = self.give_rows(hart, stage) {
+                return Err(stop);
+            }
         }
         Ok(())
     }
 
-    /// Takes a record, and writes the rows that it makes known.
-    pub(crate) fn take(mut self, record: &ByteRecord) -> Result<Translation<W>, Stop> {
+    /// Takes an instruction, of this row of the log. An access that is left out makes no row, and
+    /// nothing depends on it.
+    fn retire(mut self, mut instruction: Retired, row: u64) -> Result<Translation<S>, Stop> {
+        if instruction.access.is_some() && !self.request.has(instruction.address) {
+            instruction.access = None;
+            self.left_out = self.left_out.saturating_add(1);
+        }
+        if let Err(fault) = self.log.retire(&instruction) {
+            return Err(Stop::of_log(row, fault));
+        }
+        let hart = instruction.hart;
+        let rows = match self.hart(hart) {
+            Some(hart) => hart.rows.trace.next(),
+            None => 0,
+        };
+        if let Err(stop) = self.sink.note(hart, rows, Place::of(&instruction)) {
+            return Err(stop);
+        }
+        if let Err(stop) = self.give_rows(hart, &Stage::Reading) {
+            return Err(stop);
+        }
+        Ok(self)
+    }
+
+    /// Takes a store that took effect, of this row of the log.
+    fn perform(&mut self, store: Performed, row: u64) -> Result<(), Stop> {
+        if !self.request.has(store.address) {
+            self.left_out = self.left_out.saturating_add(1);
+            self.log.before.records = row;
+            return Ok(());
+        }
+        if let Err(fault) = self.log.perform(&store) {
+            return Err(Stop::of_log(row, fault));
+        }
+        self.time = store.time;
+        self.give_all(&Stage::Reading)
+    }
+
+    /// Takes a record, and gives on the rows that it makes known.
+    pub(crate) fn take(mut self, record: &ByteRecord) -> Result<Translation<S>, Stop> {
         if !self.begun {
             self.begun = true;
             return if is_header(record) {
                 Ok(self)
             } else {
-                Err(Stop::Fault(0, Fault::Header))
+                Err(Stop::Fault(self.log.before.records, Fault::Header))
             };
         }
         let row = self.log.before.records.saturating_add(1);
         if self.ended {
             return Err(Stop::Fault(row, Fault::AfterEnd));
         }
-        match record_of(self.request.width, &self.log.before, record) {
-            Ok(Record::Retired(instruction)) => {
-                if let Err(fault) = self.log.retire(&instruction) {
-                    return Err(Stop::of_log(row, fault));
-                }
-                self.write_rows(instruction.hart, &Stage::Reading)?;
-            }
+        let mut translation = match record_of(self.request.width, &self.log.before, record) {
+            Ok(Record::Retired(instruction)) => match self.retire(instruction, row) {
+                Ok(translation) => translation,
+                Err(stop) => return Err(stop),
+            },
             Ok(Record::Performed(store)) => {
-                if let Err(fault) = self.log.perform(&store) {
-                    return Err(Stop::of_log(row, fault));
+                if let Err(stop) = self.perform(store, row) {
+                    return Err(stop);
                 }
-                self.write_all(&Stage::Reading)?;
+                self
             }
-            Ok(Record::End) => self.ended = true,
+            Ok(Record::End) => {
+                self.ended = true;
+                self
+            }
             Err(fault) => return Err(Stop::Fault(row, Fault::Record(fault))),
+        };
+        if let Err(stop) = translation.sink.pause() {
+            return Err(stop);
         }
-        self.out.flush()?;
-        Ok(self)
+        Ok(translation)
     }
 
-    /// Writes the rows that the end of the log makes known.
-    pub(crate) fn finish(mut self, alloc: Global) -> Result<(), Stop> {
+    /// The stores that have not taken effect, in the order of their records.
+    fn waiting_stores(&self) -> Result<Vec<Performed>, AllocError> {
+        let mut stores = Vec::new(self.alloc);
+        'issues: for issued in self.log.memory.issues.all() {
+            let (hart, order) = (issued.hart, issued.order);
+            if self.log.memory.stores.effect_of(hart, order).is_none() {
+                stores.push(Performed {
+                    hart,
+                    order,
+                    address: issued.word.address,
+                    wdata: issued.wdata,
+                    time: 0,
+                })?;
+            }
+        }
+        Ok(stores)
+    }
+
+    /// Lets the stores that wait take effect, one after the other.
+    fn drain(&mut self) -> Result<(), Stop> {
+        let row = self.log.before.records;
+        'stores: for mut store in self.waiting_stores()? {
+            self.time = self.time.saturating_add(1);
+            store.time = self.time;
+            if let Err(fault) = self.log.perform(&store) {
+                return Err(Stop::of_log(row, fault));
+            }
+        }
+        Ok(())
+    }
+
+    /// Gives on the rows that the end of the log makes known. It answers where they went, and how
+    /// many records were left out.
+    pub(crate) fn finish(mut self) -> Result<(S, u64), Stop> {
         let row = self.log.before.records;
         if !self.begun {
-            return Err(Stop::Fault(0, Fault::Header));
+            return Err(Stop::Fault(row, Fault::Header));
         }
         if self.request.complete && !self.ended {
             return Err(Stop::Fault(row.saturating_add(1), Fault::NoEnd));
@@ -157,12 +281,21 @@ impl<W: Write + Drop> Translation<W> {
         if let Some(store) = self.log.unretired() {
             return Err(Stop::Fault(row, Fault::NoInstruction(store)));
         }
+        if self.request.pending {
+            if let Err(stop) = self.drain() {
+                return Err(stop);
+            }
+        }
         if let Some(store) = self.log.unperformed() {
             return Err(Stop::Fault(self.row_of(store), Fault::NeverPerformed(store)));
         }
-        let stage = Stage::Ended(Index::new(alloc, &self.log.memory)?);
-        self.write_all(&stage)?;
-        self.out.flush()?;
-        Ok(())
+        let stage = Stage::Ended(Index::new(self.alloc, &self.log.memory)?);
+        if let Err(stop) = self.give_all(&stage) {
+            return Err(stop);
+        }
+        if let Err(stop) = self.sink.pause() {
+            return Err(stop);
+        }
+        Ok((self.sink, self.left_out))
     }
 }

@@ -1,0 +1,137 @@
+//! The rows of a log, judged.
+
+use crate::fault::Stop;
+use crate::places::{Place, Places};
+use crate::sink::Sink;
+use rv_book::{Book, Offer};
+use rv_cert::{Certificate, Forbidden, Malformed};
+use rv_event::{Entry, Event, Id, MemoryModel};
+use rv_report::{Outcome, report};
+use std::alloc::{AllocError, Global};
+use std::io::Write;
+
+/// A row that is told, and where it comes from.
+#[derive(Clone, Copy, PartialEq, Eq, Debug)]
+pub(crate) struct Told {
+    id: Id,
+    place: Place,
+}
+
+/// What came of a log.
+#[derive(Debug, Drop)]
+pub(crate) struct Judgement {
+    /// What the rows come to.
+    pub(crate) outcome: Outcome,
+    /// Where the rows that it tells come from.
+    told: Vec<Told>,
+}
+
+/// A judge of rows.
+#[derive(Drop)]
+pub(crate) struct Judge {
+    alloc: Global,
+    book: Book,
+    places: Places,
+}
+
+impl Judge {
+    /// A judge by this model who has taken no rows.
+    pub(crate) fn new(alloc: Global, model: MemoryModel) -> Result<Judge, AllocError> {
+        Ok(Judge {
+            alloc,
+            book: Book::new(alloc, model),
+            places: Places::new(alloc)?,
+        })
+    }
+
+    /// What came of a log whose rows were all accepted.
+    pub(crate) fn allowed(&self) -> Judgement {
+        Judgement {
+            outcome: Outcome::Allowed {
+                events: self.book.accepted(),
+                operations: self.book.operations(),
+                waiting: self.book.waiting(),
+            },
+            told: Vec::new(self.alloc),
+        }
+    }
+
+    /// Adds where a row comes from, if it is not told yet.
+    fn tell(&self, told: &mut Vec<Told>, id: Id) -> Result<(), AllocError> {
+        if told.iter().any(|one| one.id == id) {
+            return Ok(());
+        }
+        if let Some(place) = self.places.of(id) {
+            told.push(Told { id, place })?;
+        }
+        Ok(())
+    }
+
+    /// What comes of a refusal with a certificate.
+    fn forbidden(&self, forbidden: Forbidden) -> Result<Judgement, AllocError> {
+        let mut told = Vec::new(self.alloc);
+        match forbidden.certificate() {
+            Certificate::Circle(circle) => {
+                'edges: for (id, _) in circle.as_slice() {
+                    self.tell(&mut told, *id)?;
+                }
+            }
+            Certificate::Stale { load, store } => {
+                self.tell(&mut told, *load)?;
+                self.tell(&mut told, *store)?;
+            }
+        }
+        Ok(Judgement {
+            outcome: Outcome::Forbidden(forbidden),
+            told,
+        })
+    }
+
+    /// What comes of a refusal of a row with a fault.
+    fn malformed(&self, malformed: Malformed) -> Result<Judgement, AllocError> {
+        let mut told = Vec::new(self.alloc);
+        self.tell(&mut told, malformed.refused())?;
+        Ok(Judgement {
+            outcome: Outcome::Malformed(malformed),
+            told,
+        })
+    }
+}
+
+impl Sink for Judge {
+    fn note(&mut self, hart: u8, end: u32, place: Place) -> Result<(), Stop> {
+        self.places.note(hart, end, place)?;
+        Ok(())
+    }
+
+    fn take(&mut self, row: Event) -> Result<(), Stop> {
+        match self.book.offer(&Entry {
+            source: 0,
+            event: row,
+        }) {
+            Offer::Accepted => Ok(()),
+            Offer::Forbidden(forbidden) => Err(Stop::Judged(self.forbidden(forbidden)?)),
+            Offer::Malformed(malformed) => Err(Stop::Judged(self.malformed(malformed)?)),
+            Offer::Stopped | Offer::NoMemory => Err(Stop::NoMemory),
+        }
+    }
+
+    fn pause(&mut self) -> Result<(), Stop> {
+        Ok(())
+    }
+}
+
+/// Writes the report of a judgement, and where the rows that it tells come from.
+pub(crate) fn write_judgement<W: Write>(
+    alloc: Global,
+    out: &mut W,
+    judgement: &Judgement,
+) -> Result<(), Stop> {
+    if report(alloc, out, &judgement.outcome).is_err() {
+        return Err(Stop::Write);
+    }
+    'rows: for Told { id, place } in judgement.told.iter() {
+        writeln!(out, "{id}: {place}")?;
+    }
+    Ok(())
+}

@@ -1,0 +1,104 @@
+//! Where the rows of a log go.
+
+use crate::fault::Stop;
+use crate::places::{Place, Places};
+use rv_event::Event;
+use std::alloc::Global;
+use std::io::Write;
+
+/// What takes the rows of a log, each once it is known.
+pub(crate) trait Sink {
+    /// The rows of a hart below this number that have no place yet are from here.
+    fn note(&mut self, hart: u8, end: u32, place: Place) -> Result<(), Stop>;
+
+    /// Takes a row.
+    fn take(&mut self, row: Event) -> Result<(), Stop>;
+
+    /// No row comes before a record is read.
+    fn pause(&mut self) -> Result<(), Stop>;
+}
+
+/// A file that tells where rows come from.
+#[derive(Drop)]
+pub(crate) struct PlaceFile<F: Write + Drop> {
+    out: F,
+    places: Places,
+    /// How many rows there are.
+    rows: u64,
+}
+
+impl<F: Write + Drop> PlaceFile<F> {
+    /// A file without rows: its header is written.
+    pub(crate) fn new(alloc: Global, mut out: F) -> Result<PlaceFile<F>, Stop> {
+        if writeln!(out, "source,row,text").is_err() {
+            return Err(Stop::WritePlaces);
+        }
+        Ok(PlaceFile {
+            out,
+            places: Places::new(alloc)?,
+            rows: 0,
+        })
+    }
+
+    /// Writes where the next row comes from.
+    fn take(&mut self, row: &Event) -> Result<(), Stop> {
+        self.rows = self.rows.saturating_add(1);
+        let number = self.rows;
+        let written = match self.places.of(row.id) {
+            Some(place) => writeln!(self.out, "0,{number},\"{place}\""),
+            None => Ok(()),
+        };
+        if written.is_err() {
+            return Err(Stop::WritePlaces);
+        }
+        Ok(())
+    }
+
+    /// Writes what is not written yet.
+    fn flush(&mut self) -> Result<(), Stop> {
+        match self.out.flush() {
+            Ok(()) => Ok(()),
+            Err(_) => Err(Stop::WritePlaces),
+        }
+    }
+}
+
+/// The rows as a trace.
+#[derive(Drop)]
+pub(crate) struct TraceFile<W: Write + Drop, F: Write + Drop> {
+    out: W,
+    places: Option<PlaceFile<F>>,
+}
+
+impl<W: Write + Drop, F: Write + Drop> TraceFile<W, F> {
+    /// A trace without rows: its header is written.
+    pub(crate) fn new(mut out: W, places: Option<PlaceFile<F>>) -> Result<TraceFile<W, F>, Stop> {
+        writeln!(out, "hart,seq,op,word,read,wrote,ann,deps")?;
+        Ok(TraceFile { out, places })
+    }
+}
+
+impl<W: Write + Drop, F: Write + Drop> Sink for TraceFile<W, F> {
+    fn note(&mut self, hart: u8, end: u32, place: Place) -> Result<(), Stop> {
+        if let Some(file) = &mut self.places {
+            file.places.note(hart, end, place)?;
+        }
+        Ok(())
+    }
+
+    fn take(&mut self, row: Event) -> Result<(), Stop> {
+        writeln!(self.out, "{row}")?;
+        match &mut self.places {
+            Some(file) => file.take(&row),
+            None => Ok(()),
+        }
+    }
+
+    fn pause(&mut self) -> Result<(), Stop> {
+        self.out.flush()?;
+        match &mut self.places {
+            Some(file) => file.flush(),
+            None => Ok(()),
+        }
+    }
+}
