@@ -12,6 +12,17 @@ use std::alloc::AllocError;
 use std::fmt;
 use std::io::{self, Write};
 
+/// What the time of an access tells that it returned.
+#[derive(Clone, Copy, PartialEq, Eq, Debug)]
+pub(crate) enum Told {
+    /// Nothing: it shows no time.
+    Nothing,
+    /// What memory held at first.
+    Initial,
+    /// What this store wrote.
+    Store(StoreId),
+}
+
 /// What is wrong with a log.
 #[derive(Clone, Copy, PartialEq, Eq, Debug, Drop)]
 pub(crate) enum Fault {
@@ -21,8 +32,8 @@ pub(crate) enum Fault {
     Record(RecordFault),
     /// What is wrong with it among the others.
     Log(LogFault),
-    /// What is wrong with the value that a row returned.
-    Value(ValueFault),
+    /// What is wrong with the value that a row returned, and what its time tells.
+    Value(ValueFault, Told),
     /// A store took effect whose instruction never retired.
     NoInstruction(StoreId),
     /// A store never took effect.
@@ -73,11 +84,11 @@ impl Stop {
         }
     }
 
-    /// What comes of a fault of a row of the trace.
-    pub(crate) fn of_row(row: u64, fault: RowFault) -> Stop {
+    /// What comes of a fault of a row of the trace, whose time tells this.
+    pub(crate) fn of_row(row: u64, fault: RowFault, told: Told) -> Stop {
         match fault {
             RowFault::NoMemory => Stop::NoMemory,
-            RowFault::Value(value) => Stop::Fault(row, Fault::Value(value)),
+            RowFault::Value(value) => Stop::Fault(row, Fault::Value(value, told)),
         }
     }
 }
@@ -191,11 +202,24 @@ fn write_log<W: fmt::Write>(f: &mut fmt::Formatter<W>, fault: LogFault) -> fmt::
 }
 
 /// Writes what is wrong with the value that a row returned.
-fn write_value<W: fmt::Write>(f: &mut fmt::Formatter<W>, fault: ValueFault) -> fmt::Result {
+fn write_value<W: fmt::Write>(
+    f: &mut fmt::Formatter<W>,
+    fault: ValueFault,
+    told: Told,
+) -> fmt::Result {
     match fault {
-        ValueFault::Unshown => write!(f, "17 value from nowhere: neither value nor time"),
-        ValueFault::Nowhere => write!(f, "17 value from nowhere: no store of the word has it"),
-        ValueFault::Several => write!(f, "18 value of several stores"),
+        ValueFault::Unshown => {
+            return write!(f, "17 value from nowhere: neither value nor time");
+        }
+        ValueFault::Nowhere => write!(f, "17 value from nowhere: no store of the word has it")?,
+        ValueFault::Several => write!(f, "18 value of several stores")?,
+    }
+    match told {
+        Told::Nothing => Ok(()),
+        Told::Initial => write!(f, "; its time tells what memory held at first"),
+        Told::Store(StoreId { hart, order }) => {
+            write!(f, "; its time tells order {order} of hart {hart}")
+        }
     }
 }
 
@@ -205,7 +229,7 @@ impl fmt::Display for Fault {
             Fault::Header => write!(f, "1 header: kind,hart,order,pc,insn,addr,rdata,wdata,time"),
             Fault::Record(fault) => write_record(f, fault),
             Fault::Log(fault) => write_log(f, fault),
-            Fault::Value(fault) => write_value(f, fault),
+            Fault::Value(fault, told) => write_value(f, fault, told),
             Fault::NoInstruction(StoreId { hart, order }) => {
                 write!(
                     f,

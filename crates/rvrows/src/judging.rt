@@ -30,7 +30,8 @@ pub(crate) struct Judgement {
 #[derive(Drop)]
 pub(crate) struct Judge {
     alloc: Global,
-    book: Book,
+    /// It is large, and moves with each record.
+    book: Box<Book>,
     places: Places,
 }
 
@@ -39,7 +40,7 @@ impl Judge {
     pub(crate) fn new(alloc: Global, model: MemoryModel) -> Result<Judge, AllocError> {
         Ok(Judge {
             alloc,
-            book: Book::new(alloc, model),
+            book: Box::new(alloc, Book::new(alloc, model))?,
             places: Places::new(alloc)?,
         })
     }

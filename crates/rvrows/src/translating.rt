@@ -1,12 +1,12 @@
 //! The rows of a log, record by record.
 
-use crate::fault::{Fault, Stop};
+use crate::fault::{Fault, Stop, Told};
 use crate::initial::{Initial, Returned};
 use crate::places::Place;
 use crate::request::Request;
 use crate::sink::Sink;
 use csv::ByteRecord;
-use rv_commits::{Awaited, Pending, Stage, WaitingHart};
+use rv_commits::{Awaited, Pending, Stage, WaitingHart, versions_of};
 use rv_log::{Performed, Record, Retired, record_of};
 use rv_logrows::{LogRows, StoreId};
 use rv_values::Index;
@@ -105,6 +105,24 @@ impl<S: Sink + Drop> Translation<S> {
         Some(Returned::of(first))
     }
 
+    /// What the time of a hart's first row that waits tells that it returned.
+    fn told(&self, hart: u8) -> Told {
+        let Some(first) = self.hart(hart).and_then(|hart| hart.queue.front()) else {
+            return Told::Nothing;
+        };
+        let stores = &self.log.memory.stores;
+        let Some(versions) = versions_of(stores, hart, &first.waiting.awaited, true) else {
+            return Told::Nothing;
+        };
+        if versions.read == 0 {
+            return Told::Initial;
+        }
+        match stores.store(first.waiting.address, versions.read) {
+            Some(Performed { hart, order, .. }) => Told::Store(StoreId { hart, order }),
+            None => Told::Nothing,
+        }
+    }
+
     /// The row of the log that a store which waits for its effect is of.
     fn row_of(&self, store: StoreId) -> u64 {
         let last = self.log.before.records;
@@ -136,7 +154,10 @@ impl<S: Sink + Drop> Translation<S> {
                 Ok(true)
             }
             Ok(None) => Ok(false),
-            Err(fault) => Err(Stop::of_row(self.waiting_row(hart), fault)),
+            Err(fault) => {
+                let told = self.told(hart);
+                Err(Stop::of_row(self.waiting_row(hart), fault, told))
+            }
         }
     }
 
