@@ -18,7 +18,8 @@
 
 EXPORT int qemu_plugin_version = 1;
 
-enum { HARTS = 16, FLOATING = 33, OPCODE = 0x7f, LOAD = 0x03, LOAD_FP = 0x07, STORE = 0x23, STORE_FP = 0x27, AMO = 0x2f };
+enum { HARTS = 16, FLOATING = 33 };
+enum { OPCODE = 0x7f, LOAD = 0x03, LOAD_FP = 0x07, STORE = 0x23, STORE_FP = 0x27, AMO = 0x2f };
 
 /* An instruction of the program. */
 typedef struct {
@@ -96,7 +97,10 @@ static unsigned source(uint32_t bits)
 }
 
 /* The low bytes of a value. */
-static uint64_t low(uint64_t value, unsigned size) { return size < 8 ? value & ((UINT64_C(1) << 8 * size) - 1) : value; }
+static uint64_t low(uint64_t value, unsigned size)
+{
+    return size < 8 ? value & ((UINT64_C(1) << 8 * size) - 1) : value;
+}
 
 /* What an AMO makes of the old value and its operand. */
 static uint64_t amo_result(uint32_t bits, unsigned size, uint64_t old, uint64_t operand)
@@ -150,7 +154,8 @@ static void finish(void)
     bits = flight.insn->bits;
     order = orders[flight.hart]++;
     value = low(read_register(flight.hart, destination(bits)), flight.size);
-    fprintf(out, "C,%u,%" PRIu64 ",%" PRIx64 ",%0*x,", flight.hart, order, flight.insn->pc, is_long(bits) ? 8 : 4, bits);
+    fprintf(out, "C,%u,%" PRIu64 ",%" PRIx64 ",", flight.hart, order, flight.insn->pc);
+    fprintf(out, "%0*x,", is_long(bits) ? 8 : 4, bits);
     records++;
     if (!is_load(bits) && !is_store(bits) && !is_atomic(bits)) {
         fprintf(out, ",,,\n");

@@ -52,7 +52,8 @@ module _ {issued : List Issued} {performed : List Performed} where
           whole.added);
       are = subst (λ (rows : HartRows). AreGiven issued performed rows.hart whole.passed (given ++ event ∷ []))
           (sym same)
-          (carrier whole.are (subst (λ (n : ℕ). IsCarrierFields old.rows.hart n event) (sym is.number) is.fields) is.row);
+          (carrier whole.are (subst (λ (n : ℕ). IsCarrierFields old.rows.hart n event) (sym is.number) is.fields)
+          is.row);
     }
     given-one initial event same (inr is) = record {
       passed = whole.passed ++ is.first ∷ [];
