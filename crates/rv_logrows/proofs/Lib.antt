@@ -1,2 +1,3 @@
 pub mod Kept
 pub mod Placed
+mod Whole

@@ -6,11 +6,20 @@ use Rattle.std.proofs.lemmas.List.{get_or_append_left, get_or_default, get_or_pu
 use Rattle.std.proofs.lemmas.List.{get_or-set_same, length_push}
 use Rattle.std.proofs.lemmas.List.{length-set}
 use Rattle.rv_commits.specs.declared.queue.WaitingHart.{WaitingHart}
-use Rattle.rv_logrows.specs.Harts.{AreHarts, IsChanged, IsHart}
+use Rattle.rv_logrows.specs.Harts.{AreHarts, AreNew, IsChanged, IsHart, IsNew}
 
 -- none
 pub no-harts : AreHarts 0 []
 no-harts = record { many = refl; each = λ n d low. absurd (omega (low, arith)) }
+
+-- the next new one
+pub one-more-new : (count : ℕ) (harts : List WaitingHart) (h : WaitingHart) → length harts ≡ count →
+    AreNew count harts → IsNew h → AreNew (count + 1) (harts ++ h ∷ [])
+one-more-new count harts h many are is n d low = elim (cases_lt n (length harts)) [
+  | inl first ↦ subst IsNew (sym (get_or_append_left harts (h ∷ []) d n first))
+      (are n d (omega (first, many, arith)))
+  | inr past ↦ subst IsNew (sym (get_or_push harts h d n (omega (low, past, many, arith)))) is
+]
 
 module _ (count : ℕ) (harts : List WaitingHart) (are : AreHarts count harts) where
   -- the next one

@@ -1,3 +1,4 @@
 pub mod Harts
 pub mod Log
 pub mod Stored
+pub mod Whole

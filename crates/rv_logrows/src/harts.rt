@@ -5,7 +5,7 @@ ghost use Rattle.rv_values.specs.Memory.{IsMemory};
 ghost use Rattle.rv_values.specs.Values.{MayGrow};
 ghost use Rattle.rv_values.specs.declared.issues.Issued.{Issued};
 ghost use Rattle.rv_commits.specs.Settled.{IsAtStage, is_ended};
-ghost use Rattle.rv_logrows.specs.Harts.{AreHarts, IsGivenBy, IsHartAtRest, IsHartRefused};
+ghost use Rattle.rv_logrows.specs.Harts.{AreHarts, AreNew, IsGivenBy, IsHartAtRest, IsHartRefused};
 ghost use Rattle.rv_logrows.specs.Harts.{IsRetireRefused, IsRetiredBy};
 
 use crate::fault::LogFault;
@@ -29,7 +29,8 @@ impl Harts {
     /// # Errors
     /// Memory ran out.
     pub fn new(alloc: Global) -> Result<Harts, AllocError>
-        ensures { IfOk result (λ harts. AreHarts 16 harts.all.items) }
+        ensures harts { IfOk result (λ harts. AreHarts 16 harts.all.items) }
+        ensures new { IfOk result (λ harts. AreNew 16 harts.all.items) }
     {
         let mut all = Vec::new(alloc);
         'harts: for hart in 0..16 {

@@ -6,6 +6,7 @@
 //! - [`stored`]: the words that instructions access.
 //! - [`harts`]: the sixteen harts, each at the place of its number.
 //! - [`log`]: what the records tell so far, and the rows that are known.
+//! - [`laws`]: the rows of all harts are those of their instructions.
 //! - `specs/`: what a record changes, and why it is refused.
 //!
 //! It stands on `rv_event`, `rv_flow`, `rv_log`, `rv_memory`, `rv_values` and `rv_commits`.
@@ -13,6 +14,7 @@
 
 mod fault;
 mod harts;
+mod laws;
 mod log;
 mod stored;
 #[cfg(test)]
@@ -20,4 +22,5 @@ mod tests;
 
 pub use fault::LogFault;
 pub use harts::Harts;
+pub use laws::harts_are_whole;
 pub use log::{LogRows, StoreId};

@@ -7,7 +7,7 @@ ghost use Rattle.rv_values.specs.declared.issues.Issued.{Issued};
 ghost use Rattle.rv_commits.specs.Settled.{IsAtStage, is_ended};
 ghost use Rattle.rv_values.specs.Memory.{IsMemory};
 ghost use Rattle.rv_logrows.specs.declared.fault.LogFault.TheVariants.{Full};
-ghost use Rattle.rv_logrows.specs.Harts.{AreHarts, IsGivenBy, IsHartAtRest, IsHartRefused};
+ghost use Rattle.rv_logrows.specs.Harts.{AreHarts, AreNew, IsGivenBy, IsHartAtRest, IsHartRefused};
 ghost use Rattle.rv_logrows.specs.Log.{IsEffectRefused, IsInstructionRefused, IsIssueRefused};
 ghost use Rattle.rv_logrows.specs.Log.{HasNoRecords, IsLog, IsPast, IsPerformed, IsRetired};
 ghost use Rattle.rv_logrows.specs.Log.{IsUnperformed, IsUnretired, IsUnstored};
@@ -67,6 +67,7 @@ impl LogRows {
     pub fn new(alloc: Global) -> Result<LogRows, AllocError>
         ensures log { IfOk result (IsLog [] []) }
         ensures harts { IfOk result (λ log. AreHarts 16 log.harts.all.items) }
+        ensures new { IfOk result (λ log. AreNew 16 log.harts.all.items) }
         ensures none { IfOk result HasNoRecords }
     {
         Ok(LogRows {

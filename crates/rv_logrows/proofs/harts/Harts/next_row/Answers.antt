@@ -2,7 +2,7 @@ use Rattle.std.proofs.Common.{◌++◌, inr, subst}
 use Rattle.rv_commits.specs.Queues.{IsAtRest, IsGiven, IsRowRefused}
 use Rattle.rv_commits.specs.Settled.{is_ended}
 use Rattle.rv_logrows.proofs.Placed.{err-map, given-map, hart-at, one-changed}
-use Rattle.rv_logrows.specs.Harts.{IsGivenBy, IsHartRefused}
+use Rattle.rv_logrows.specs.Harts.{Gives, IsGivenBy, IsHartRefused}
 use Rattle.rv_commits.specs.declared.queue.WaitingHart.{WaitingHart}
 use Rattle.rv_logrows.proofs.harts.Harts.next_row.Goals as goal
 
@@ -10,10 +10,9 @@ pub returns-clause-given : goal.returns-clause-given
 returns-clause-given c = λ issued more performed later is grow at.
     given-map (IsGiven (issued ++ more) (performed ++ later) c.args.initial c.index_mut.result.now c.next_row.new.self)
     (IsGivenBy (issued ++ more) (performed ++ later) c.args.initial c.args.hart c.args.self.now.all.items _)
-    (λ event given. one-changed
-    (λ before after. IsGiven (issued ++ more) (performed ++ later) c.args.initial before after event)
+    (λ event given. one-changed (Gives (issued ++ more) (performed ++ later) c.args.initial event)
     c.args.self.now.all.items c.args.hart c.index_mut.result.now c.next_row.new.self c.requires.harts
-    c.if-hart-gt15.false c.index_mut.ensures.value given)
+    c.if-hart-gt15.false c.index_mut.ensures.value (given, c.next_row.ensures.rows, c.next_row.ensures.owns))
     c.next_row.result (c.next_row.ensures.given issued more performed later is grow at)
 
 pub returns-clause-waits : goal.returns-clause-waits
