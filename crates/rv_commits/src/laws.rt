@@ -8,8 +8,8 @@ pub fn rows_depend_as_listed()
     ensures { RowsDependAsListed }
 {}
 
-/// The rows that a hart gives are just those of its instructions, in their order: what its calls
-/// promise step by step, for all of them.
+/// Carriers apart, the rows that a hart gives are just those of its instructions, in their order:
+/// what its calls promise step by step, for all of them.
 pub fn rows_are_whole()
     ensures { RowsAreWhole }
 {}
