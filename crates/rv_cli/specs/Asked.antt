@@ -32,6 +32,7 @@ pub record SaysAsked (rows : List Row) (asked : Asked) : Type 0 where
   pub model : SaysModel (first_of (codes "model") rows) asked.model
   pub json : asked.json ≡ is_true (first_of (codes "json") rows)
   pub carriers : asked.carriers ≡ is_true (first_of (codes "carriers") rows)
+  pub explain : asked.explain ≡ is_true (first_of (codes "explain") rows)
   pub files : map string_bytes asked.files.items ≡ files_in rows
 
 -- the numbers are in the ranges of the command, and there are few enough files

@@ -53,6 +53,9 @@ json_rule = flag_rule (codes "json")
 abbrev pub carriers_rule : Rule
 carriers_rule = flag_rule (codes "carriers")
 
+abbrev pub explain_rule : Rule
+explain_rule = flag_rule (codes "explain")
+
 -- any number of texts, by their place
 abbrev pub files_rule : Rule
 files_rule = record (new_rule (codes "FILE")) { action = Some Append }
@@ -63,8 +66,8 @@ bare_app = let app = new_app (codes "rvmon") in record app { top = record app.to
 
 abbrev pub app_over : Names → App
 app_over names =
-    with_rule (with_rule (with_rule (with_rule (with_rule (with_rule bare_app workers_rule) slots_rule)
-    (model_rule names)) json_rule) carriers_rule) files_rule
+    with_rule (with_rule (with_rule (with_rule (with_rule (with_rule (with_rule bare_app workers_rule) slots_rule)
+    (model_rule names)) json_rule) carriers_rule) explain_rule) files_rule
 
 -- it is the command of the program
 abbrev pub IsCommand : App → Type 0

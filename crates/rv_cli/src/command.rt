@@ -1,8 +1,8 @@
 //! The program's command, an argument a function.
 ghost use Rattle.std.specs.Prelude.{◌≡◌, false, IfOk};
 ghost use Rattle.clap.specs.Words.{app_of, rule_of};
-ghost use Rattle.rv_cli.specs.Command.{IsCommand, ListsModels, carriers_rule, files_rule, json_rule};
-ghost use Rattle.rv_cli.specs.Command.{model_rule, slots_rule, workers_rule};
+ghost use Rattle.rv_cli.specs.Command.{IsCommand, ListsModels, carriers_rule, explain_rule, files_rule};
+ghost use Rattle.rv_cli.specs.Command.{json_rule, model_rule, slots_rule, workers_rule};
 
 use crate::help;
 use clap::{Arg, ArgAction, Command, value_parser};
@@ -76,6 +76,17 @@ fn carriers_arg<'a>(alloc: Global) -> Arg<'a>
         .help(help::CARRIERS)
 }
 
+/// `--explain`.
+fn explain_arg<'a>(alloc: Global) -> Arg<'a>
+    ensures rule { rule_of result ≡ explain_rule }
+    ensures local { result.global ≡ false }
+{
+    Arg::new(alloc, "explain")
+        .long("explain")
+        .action(ArgAction::SetTrue)
+        .help(help::EXPLAIN)
+}
+
 /// `FILE`.
 fn files_arg<'a>(alloc: Global) -> Arg<'a>
     ensures rule { rule_of result ≡ files_rule }
@@ -99,5 +110,6 @@ pub(crate) fn command_of<'a>(alloc: Global) -> Result<Command<'a>, AllocError>
         .arg(model_arg(alloc))?
         .arg(json_arg(alloc))?
         .arg(carriers_arg(alloc))?
+        .arg(explain_arg(alloc))?
         .arg(files_arg(alloc))
 }

@@ -28,6 +28,9 @@ pub(crate) const JSON: &str = "Print the report as one line of JSON";
 /// On `--carriers`.
 pub(crate) const CARRIERS: &str = "Take rows I, which stand for the events that they list";
 
+/// On `--explain`.
+pub(crate) const EXPLAIN: &str = "Say behind the report why an event was refused";
+
 /// On the format of a trace, what is printed and the exit status.
 pub(crate) const FORMAT: &str = "\
 A trace is CSV: this header, and then a row for each event. The rows of a hart

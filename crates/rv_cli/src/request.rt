@@ -22,6 +22,8 @@ pub struct Asked {
     pub json: bool,
     /// Whether the sources may have carriers: rows `I`.
     pub carriers: bool,
+    /// Whether a refusal is explained behind the report.
+    pub explain: bool,
     /// The names of the sources' files in the order of the words, at most 8. Standard input is the
     /// source where there is none.
     pub files: Vec<String>,

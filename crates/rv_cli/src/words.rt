@@ -109,6 +109,7 @@ pub fn asked(alloc: Global, words: &[&str]) -> Result<Asked, WordsFault>
         model: model_in(&matches),
         json: flag_in(&matches, "json"),
         carriers: flag_in(&matches, "carriers"),
+        explain: flag_in(&matches, "explain"),
         files,
     })
 }

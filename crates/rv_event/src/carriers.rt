@@ -34,7 +34,7 @@ fn lists_marked(kind: DepKind, event: &Event, marked: &Row) -> bool
 }
 
 /// Whether the event lists the other, or is of its hart and lists a number of the set.
-pub(crate) fn depends_by(kind: DepKind, event: &Event, on: &Event, marked: &Row) -> bool
+pub fn depends_by(kind: DepKind, event: &Event, on: &Event, marked: &Row) -> bool
     ensures { IsTrue result ↔ DependsBy kind event.now on.now marked.now }
 {
     depends_on(kind, event, on) || event.id.hart == on.id.hart && lists_marked(kind, event, marked)
@@ -94,7 +94,7 @@ fn mark_carriers(log: &[Entry], on: &Event, marked: &mut Row) -> bool
 ///
 /// It costs one pass over the log, and one for each carrier that stands in the log before one that
 /// it lists.
-pub(crate) fn carriers_of(log: &[Entry], on: &Event) -> Row
+pub fn carriers_of(log: &[Entry], on: &Event) -> Row
     ensures { AreCarrying (events log.now) on.now result }
 {
     let mut marked = Row::new();

@@ -33,7 +33,7 @@ mod rules;
 mod search;
 mod text;
 
-pub use carriers::{depends_through, is_carrier};
+pub use carriers::{carriers_of, depends_by, depends_through, is_carrier};
 pub use context::{Context, find_deps_fault, first_fault, is_bad_dependency};
 pub use edges::{find_reason, is_edge, is_stale};
 pub use event::{Dep, DepKind, Deps, Entry, Event, Id, Op, Set, is_same};
@@ -51,4 +51,4 @@ pub use relations::{
     depends_on, does_order, is_acquire, is_fenced, is_paired, is_rcsc, is_release,
 };
 pub use rules::{is_overlapping_store, reads_atomic_write};
-pub use search::{find_named, find_writer};
+pub use search::{find_named, find_writer, is_between, is_earlier};

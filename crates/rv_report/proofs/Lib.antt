@@ -1,6 +1,6 @@
 mod Circles
 mod JsonEdges
 mod JsonText
-mod Pieces
+pub mod Pieces
 mod Plain
 mod Refused

@@ -27,3 +27,5 @@ pub use fault::ReportFault;
 pub use json_report::{report_json, report_json_line};
 pub use outcome::Outcome;
 pub use text::report;
+pub use walk::start_of;
+pub use writing::write_text;

@@ -16,7 +16,7 @@ use Rattle.rv_run.specs.declared.running.Settings.{Settings}
 use Rattle.rv_cli.specs.Answers.{AnswersTo}
 use Rattle.rv_cli.specs.Asked.{IsInRange}
 use Rattle.rv_cli.specs.declared.request.Asked.{Asked}
-use Rattle.rvmon.specs.Starting.{IsUnopened, IsUnopenedFile, EndsAsked, EndsBy, bytes_asked, streams_asked}
+use Rattle.rvmon.specs.Starting.{IsUnopened, IsUnopenedFile, EndsAsked, EndsBy, bytes_asked, form_asked, streams_asked}
 use Rattle.rvmon.specs.declared.ending.Ending.{Ending}
 use Rattle.rvmon.specs.declared.ending.Ending.TheVariants.{Ran, Failed, Words, NotText, NotOpened}
 
@@ -46,7 +46,7 @@ ends_unopened known asked (NotOpened name) h = h
 
 -- an ending of what was asked is one of the words
 pub ends_asked : (known : Text → Option (List ℕ)) (texts : List Text) (asked : Asked) (e : Ending) →
-    AnswersTo texts (Ok asked) → EndsAsked known asked e → EndsBy known texts e asked.json
+    AnswersTo texts (Ok asked) → EndsAsked known asked e → EndsBy known texts e (form_asked asked)
 ends_asked known texts asked (Ran o) said h = (asked, said, refl, h)
 ends_asked known texts asked (Failed f) said h = (asked, said, refl, h)
 ends_asked known texts asked (Words f) said h = absurd h

@@ -1,7 +1,9 @@
 -- What the program prints at its end, and its exit status.
-use Rattle.std.specs.Prelude.{◌≡◌, ◌⊎◌, ℕ, List, Bool, true, false, Option}
+use Rattle.std.specs.Prelude.{◌≡◌, ◌⊎◌, ℕ, List, Option, String}
+use Rattle.std.specs.Global.{Global}
 use Rattle.std.specs.Io.KnownBytes.{Appends}
 use Rattle.rv_event.specs.Texts.{◌⋯◌}
+use Rattle.rv_explain.specs.Outcomes.{IsTold}
 use Rattle.rv_report.specs.Json.{json_text}
 use Rattle.rv_report.specs.Texts.{report_text, line_feed}
 use Rattle.rv_report.specs.declared.outcome.Outcome.{Outcome}
@@ -12,6 +14,8 @@ use Rattle.rv_trace.specs.declared.fault.FaultKind.TheVariants as kind
 use Rattle.rv_cli.specs.declared.request.WordsFault.TheVariants as words
 use Rattle.rvmon.specs.declared.ending.Ending.{Ending}
 use Rattle.rvmon.specs.declared.ending.Ending.TheVariants.{Ran, Failed, Words, NotText, NotOpened}
+use Rattle.rvmon.specs.declared.form.Form.{Form}
+use Rattle.rvmon.specs.declared.form.Form.TheVariants.{Text, Json, Explained}
 
 -- 0 for allowed, 1 for forbidden, 2 for malformed
 abbrev pub status_of : Outcome → ℕ
@@ -35,24 +39,31 @@ status_of_kind kind.Csv = 2
 status_of_kind kind.Read = 3
 status_of_kind kind.NoMemory = 3
 
--- the report of an outcome, as text or as a line of JSON
-abbrev pub printed : Bool → Outcome → List ℕ
-printed false o = report_text o
-printed true o = json_text o ⋯ line_feed
+-- the report as text, and behind it what is told of the outcome
+pub record IsPrintedExplained (names : List (String Global)) (o : Outcome) (old new : Option (List ℕ)) : Type 0 where
+  pub told : List ℕ
+  pub is_told : IsTold names o told
+  pub appends : Appends old new (report_text o ⋯ told)
+
+-- the outcome was printed in this form
+abbrev pub IsPrinted : Form → Outcome → Option (List ℕ) → Option (List ℕ) → Type 0
+IsPrinted Text o old new = Appends old new (report_text o)
+IsPrinted Json o old new = Appends old new (json_text o ⋯ line_feed)
+IsPrinted (Explained names) o old new = IsPrintedExplained names.items o old new
 
 -- Where the sources were judged: the whole report and the status of the outcome, or status 3. Else
 -- nothing stands on standard output, and the status says whether the input was wrong (2) or
 -- something failed (3). What is said where the parser refuses the words, or is asked for help, is
 -- the parser's; help that cannot be written is status 3.
-abbrev pub IsSettled : Ending → Bool → Option (List ℕ) → Option (List ℕ) → ℕ → Type 0
-IsSettled (Ran o) json old new status = ((status ≡ status_of o) × Appends old new (printed json o)) ⊎ (status ≡ 3)
-IsSettled (Failed (fault.Trace source f)) json old new status = (status ≡ status_of_kind f.kind) × (new ≡ old)
-IsSettled (Failed fault.NoMemory) json old new status = (status ≡ 3) × (new ≡ old)
-IsSettled (Failed fault.Lost) json old new status = (status ≡ 3) × (new ≡ old)
-IsSettled (Failed fault.Settings) json old new status = (status ≡ 3) × (new ≡ old)
-IsSettled (Words words.TooMany) json old new status = (status ≡ 2) × (new ≡ old)
-IsSettled (Words words.NoMemory) json old new status = (status ≡ 3) × (new ≡ old)
-IsSettled (Words (words.Parse e)) json old new status =
+abbrev pub IsSettled : Ending → Form → Option (List ℕ) → Option (List ℕ) → ℕ → Type 0
+IsSettled (Ran o) form old new status = ((status ≡ status_of o) × IsPrinted form o old new) ⊎ (status ≡ 3)
+IsSettled (Failed (fault.Trace source f)) form old new status = (status ≡ status_of_kind f.kind) × (new ≡ old)
+IsSettled (Failed fault.NoMemory) form old new status = (status ≡ 3) × (new ≡ old)
+IsSettled (Failed fault.Lost) form old new status = (status ≡ 3) × (new ≡ old)
+IsSettled (Failed fault.Settings) form old new status = (status ≡ 3) × (new ≡ old)
+IsSettled (Words words.TooMany) form old new status = (status ≡ 2) × (new ≡ old)
+IsSettled (Words words.NoMemory) form old new status = (status ≡ 3) × (new ≡ old)
+IsSettled (Words (words.Parse e)) form old new status =
     ((status ≡ 2) × (new ≡ old)) ⊎ ((status ≡ 0) ⊎ (status ≡ 3))
-IsSettled NotText json old new status = (status ≡ 2) × (new ≡ old)
-IsSettled (NotOpened name) json old new status = (status ≡ 3) × (new ≡ old)
+IsSettled NotText form old new status = (status ≡ 2) × (new ≡ old)
+IsSettled (NotOpened name) form old new status = (status ≡ 3) × (new ≡ old)

@@ -1,5 +1,5 @@
 -- How the program comes to its end: which of its steps each ending is of.
-use Rattle.std.specs.Prelude.{◌≡◌, ◌≢◌, ◌⊎◌, ℕ, List, [], ◌∷◌, Bool, Option, None, Ok, Err, map, option_map}
+use Rattle.std.specs.Prelude.{◌≡◌, ◌≢◌, ◌⊎◌, ℕ, List, [], ◌∷◌, Option, None, Ok, Err, map, option_map}
 use Rattle.std.specs.Prelude.{String, string_bytes, ⊤, if◌then◌else◌}
 use Rattle.std.specs.Global.{Global}
 use Rattle.std.specs.List.{Contains}
@@ -14,6 +14,8 @@ use Rattle.rv_cli.specs.declared.request.Asked.{Asked}
 use Rattle.rv_cli.specs.declared.request.WordsFault.TheVariants as words
 use Rattle.rvmon.specs.declared.ending.Ending.{Ending}
 use Rattle.rvmon.specs.declared.ending.Ending.TheVariants.{Ran, Failed, Words, NotText, NotOpened}
+use Rattle.rvmon.specs.declared.form.Form.{Form}
+use Rattle.rvmon.specs.declared.form.Form.TheVariants as form
 
 -- the words cannot be had: they are not UTF-8, or memory was refused
 abbrev pub IsWordless : Ending → Type 0
@@ -66,19 +68,23 @@ EndsAsked known asked (Words f) = ⊥
 EndsAsked known asked NotText = ⊥
 EndsAsked known asked (NotOpened name) = Contains (map string_bytes asked.files.items) (string_bytes name)
 
--- the request of these words ends so, and whether its report is JSON
-abbrev pub EndsRequest : (Text → Option (List ℕ)) → List Text → Ending → Bool → Type 0
-EndsRequest known texts e json =
-    (asked : Asked) × AnswersTo texts (Ok asked) × (json ≡ asked.json) × EndsAsked known asked e
+-- the form that is asked for: JSON before an explanation, which has rows of the files
+abbrev pub form_asked : Asked → Form
+form_asked asked = if asked.json then form.Json else if asked.explain then form.Explained asked.files else form.Text
+
+-- the request of these words ends so, and is printed in this form
+abbrev pub EndsRequest : (Text → Option (List ℕ)) → List Text → Ending → Form → Type 0
+EndsRequest known texts e form =
+    (asked : Asked) × AnswersTo texts (Ok asked) × (form ≡ form_asked asked) × EndsAsked known asked e
 
 -- the ending of a command line: the words are refused, or their request ends so
-abbrev pub EndsBy : (Text → Option (List ℕ)) → List Text → Ending → Bool → Type 0
-EndsBy known texts (Ran o) json = EndsRequest known texts (Ran o) json
-EndsBy known texts (Failed f) json = EndsRequest known texts (Failed f) json
-EndsBy known texts (Words f) json = AnswersTo texts (Err f)
-EndsBy known texts NotText json = ⊥
-EndsBy known texts (NotOpened name) json = EndsRequest known texts (NotOpened name) json
+abbrev pub EndsBy : (Text → Option (List ℕ)) → List Text → Ending → Form → Type 0
+EndsBy known texts (Ran o) form = EndsRequest known texts (Ran o) form
+EndsBy known texts (Failed f) form = EndsRequest known texts (Failed f) form
+EndsBy known texts (Words f) form = AnswersTo texts (Err f)
+EndsBy known texts NotText form = ⊥
+EndsBy known texts (NotOpened name) form = EndsRequest known texts (NotOpened name) form
 
 -- the ending of the program: its words cannot be had, or these end so
-abbrev pub IsEnd : (Text → Option (List ℕ)) → Ending → Bool → Type 0
-IsEnd known e json = IsWordless e ⊎ ((texts : List Text) × EndsBy known texts e json)
+abbrev pub IsEnd : (Text → Option (List ℕ)) → Ending → Form → Type 0
+IsEnd known e form = IsWordless e ⊎ ((texts : List Text) × EndsBy known texts e form)

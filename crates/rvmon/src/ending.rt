@@ -1,11 +1,12 @@
 //! How the program ends: what it prints, and with which status.
-ghost use Rattle.std.specs.Prelude.{◌≡◌, ◌⊎◌};
-ghost use Rattle.std.specs.Io.KnownBytes.{Appends};
-ghost use Rattle.rvmon.specs.Endings.{IsSettled, printed, status_of, status_of_kind};
+ghost use Rattle.std.specs.Prelude.{◌≡◌, ◌⊎◌, OnOk};
+ghost use Rattle.rvmon.specs.Endings.{IsPrinted, IsPrintedExplained, IsSettled, status_of, status_of_kind};
 
+use crate::form::Form;
 use clap::Error as ParseError;
 use rv_cli::WordsFault;
-use rv_report::{Outcome, ReportFault, report, report_json_line};
+use rv_explain::story;
+use rv_report::{Outcome, ReportFault, report, report_json_line, write_text};
 use rv_run::RunFault;
 use rv_trace::{FaultKind, TraceFault};
 use std::alloc::Global;
@@ -47,12 +48,12 @@ pub fn settle<O: Write, E: Write>(
     out: &mut O,
     errors: &mut E,
     ending: &Ending,
-    json: bool,
+    form: &Form,
 ) -> u8
-    ensures { IsSettled ending.now json (O.contents out.old) (O.contents out.new) result }
+    ensures { IsSettled ending.now form.now (O.contents out.old) (O.contents out.new) result }
 {
     match ending {
-        Ending::Ran(outcome) => settle_outcome(alloc, out, errors, outcome, json),
+        Ending::Ran(outcome) => settle_outcome(alloc, out, errors, outcome, form),
         Ending::Failed(RunFault::Trace { source, fault }) => {
             settle_trace(errors, *source, *fault)
         }
@@ -84,22 +85,39 @@ pub fn settle<O: Write, E: Write>(
     }
 }
 
-/// Writes the report of the outcome.
+/// Writes the report of an outcome, and behind it why an event was refused.
+fn report_explained<O: Write>(
+    alloc: Global,
+    out: &mut O,
+    outcome: &Outcome,
+    names: &[String],
+) -> Result<(), ReportFault>
+    ensures { OnOk result
+        (IsPrintedExplained names.now outcome.now (O.contents out.old) (O.contents out.new)) }
+{
+    let told = story(alloc, names, outcome)?;
+    match report(alloc, out, outcome) {
+        Ok(()) => write_text(out, told.as_str()),
+        Err(fault) => Err(fault),
+    }
+}
+
+/// Writes the report of the outcome in its form.
 fn settle_outcome<O: Write, E: Write>(
     alloc: Global,
     out: &mut O,
     errors: &mut E,
     outcome: &Outcome,
-    json: bool,
+    form: &Form,
 ) -> u8
     ensures { ((result ≡ status_of outcome.now)
-        × Appends (O.contents out.old) (O.contents out.new) (printed json outcome.now))
+        × IsPrinted form.now outcome.now (O.contents out.old) (O.contents out.new))
         ⊎ (result ≡ FAILED) }
 {
-    let written = if json {
-        report_json_line(alloc, out, outcome)
-    } else {
-        report(alloc, out, outcome)
+    let written = match form {
+        Form::Text => report(alloc, out, outcome),
+        Form::Json => report_json_line(alloc, out, outcome),
+        Form::Explained(names) => report_explained(alloc, out, outcome, names.as_slice()),
     };
     match written {
         Ok(()) => status_of(outcome),

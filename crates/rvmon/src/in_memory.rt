@@ -80,8 +80,8 @@ fn a_request_is_judged_by_the_files_that_it_names(rt: HostRuntime) -> Result<(),
     ];
     for (words, text, line, status) in cases {
         let opener = MemoryFiles { files: &files };
-        let (ending, json) = answer_words(&rt, &rt, &opener, words.as_slice());
-        assert_printed(&rt, rt.alloc(), &ending, json, (text, line, status));
+        let (ending, form) = answer_words(&rt, &rt, &opener, words.as_slice());
+        assert_printed(&rt, rt.alloc(), &ending, &form, (text, line, status));
     }
     Ok(())
 }

@@ -2,11 +2,13 @@
 //!
 //! - `words`: the words of the command line, as texts.
 //! - `opening`: the sources, from the names of their files.
+//! - [`form`]: whether the report is text, text with an explanation, or JSON.
 //! - [`ending`]: what is printed, and the exit status.
 //! - `specs/`: which ending comes of what, and what each ending prints.
 //!
 //! It stands on `rv_cli` for its words, on `rv_pipe` for sources that may be silent, on `rv_run`
-//! for the judgement, on `rv_report` for the reports, on the crates whose types these name, and on
+//! for the judgement, on `rv_report` for the reports, on `rv_explain` for what is said
+//! behind them, on the crates whose types these name, and on
 //! the kit's `clap` and `either`. Its one contract: each ending is of the step that it names, and a
 //! report is that of an outcome of the sources.
 #![tactic(auto)]
@@ -17,6 +19,7 @@ ghost use Rattle.rv_cli.specs.Asked.{IsInRange};
 ghost use Rattle.rvmon.specs.Starting.{EndsAsked, EndsBy, IsEnd, dialect_asked, nothing_known};
 
 mod ending;
+mod form;
 #[cfg(test)]
 mod in_memory;
 mod opening;
@@ -25,6 +28,7 @@ mod tests;
 mod words;
 
 use ending::{Ending, settle};
+use form::{Form, form_of};
 use opening::{Opened, Opener, SystemFiles, first_unopened, open_all};
 use rv_cli::{Asked, asked};
 use rv_pipe::Bell;
@@ -85,41 +89,44 @@ fn answer<RT: Threads + Wait + Sync + Copy + Send + 'static, O: Opener>(
     }
 }
 
-/// What comes of the words, and whether the report is JSON.
+/// What comes of the words, and in which form it is printed.
 fn answer_words<RT: Threads + Wait + Sync + Copy + Send + 'static, O: Opener>(
     rt: &HostRuntime,
     threads: &RT,
     opener: &O,
     words: &[&str],
-) -> (Ending, bool)
+) -> (Ending, Form)
     ensures { EndsBy (O.known opener.now) (texts words.now) result.0 result.1 }
 {
     match asked(rt.alloc(), words) {
-        Ok(asked) => (answer(rt, threads, opener, &asked), asked.json),
-        Err(fault) => (Ending::Words(fault), false),
+        Ok(asked) => {
+            let ending = answer(rt, threads, opener, &asked);
+            (ending, form_of(asked))
+        }
+        Err(fault) => (Ending::Words(fault), Form::Text),
     }
 }
 
-/// How the program ends, and whether the report is JSON.
+/// How the program ends, and in which form that is printed.
 fn end_of<RT: Threads + Wait + Sync + Copy + Send + 'static>(
     rt: &HostRuntime,
     threads: &RT,
-) -> (Ending, bool)
+) -> (Ending, Form)
     ensures { IsEnd nothing_known result.0 result.1 }
 {
     let words = match words_of(rt) {
         Ok(words) => words,
-        Err(ending) => return (ending, false),
+        Err(ending) => return (ending, Form::Text),
     };
     match texts_of(rt, words.as_slice()) {
         Ok(texts) => answer_words(rt, threads, &SystemFiles::new(*rt), texts.as_slice()),
-        Err(ending) => (ending, false),
+        Err(ending) => (ending, Form::Text),
     }
 }
 
 fn main(rt: HostRuntime) -> ExitCode {
-    let (ending, json) = end_of(&rt, &rt);
+    let (ending, form) = end_of(&rt, &rt);
     let mut out = io::writer(&rt);
     let mut errors = rt.stderr();
-    ExitCode::from(settle(rt.alloc(), &mut out, &mut errors, &ending, json))
+    ExitCode::from(settle(rt.alloc(), &mut out, &mut errors, &ending, &form))
 }

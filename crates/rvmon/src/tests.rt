@@ -1,5 +1,6 @@
 //! What is printed, and with which status.
 use crate::ending::{Ending, settle};
+use crate::form::Form;
 use rv_cli::{WordsFault, asked};
 use rv_event::MemoryModel;
 use rv_run::{RunFault, Settings, run};
@@ -69,12 +70,12 @@ pub(crate) fn assert_printed(
     rt: &impl Abort,
     alloc: Global,
     ending: &Ending,
-    json: bool,
+    form: &Form,
     wanted: (&str, &str, u8),
 ) {
     let mut out = Vec::new(alloc);
     let mut errors = Vec::new(alloc);
-    let status = settle(alloc, &mut out, &mut errors, ending, json);
+    let status = settle(alloc, &mut out, &mut errors, ending, form);
     let (text, line, number) = wanted;
     assert!(rt; out.as_slice() == text.as_bytes(), "standard output");
     assert!(rt; errors.as_slice() == line.as_bytes(), "standard error");
@@ -102,7 +103,7 @@ fn outcomes_are_reported_as_text(rt: HostRuntime) {
     ];
     for (trace, text, status) in cases {
         let ending = end_of(&rt, rt.alloc(), trace);
-        assert_printed(&rt, rt.alloc(), &ending, false, (text, "", status));
+        assert_printed(&rt, rt.alloc(), &ending, &Form::Text, (text, "", status));
     }
 }
 
@@ -128,7 +129,7 @@ fn outcomes_are_reported_as_json(rt: HostRuntime) {
     ];
     for (trace, text, status) in cases {
         let ending = end_of(&rt, rt.alloc(), trace);
-        assert_printed(&rt, rt.alloc(), &ending, true, (text, "", status));
+        assert_printed(&rt, rt.alloc(), &ending, &Form::Json, (text, "", status));
     }
 }
 
@@ -157,7 +158,7 @@ fn faults_of_a_source_are_told_with_their_row(rt: HostRuntime) {
         ),
     ];
     for (ending, line, status) in cases {
-        assert_printed(&rt, rt.alloc(), &ending, false, ("", line, status));
+        assert_printed(&rt, rt.alloc(), &ending, &Form::Text, ("", line, status));
     }
 }
 
@@ -186,7 +187,7 @@ fn what_went_wrong_is_told_in_a_line(rt: HostRuntime) {
         (Ending::NotText, "rvmon: the arguments are not UTF-8\n", 2),
     ];
     for (ending, line, status) in cases {
-        assert_printed(&rt, rt.alloc(), &ending, true, ("", line, status));
+        assert_printed(&rt, rt.alloc(), &ending, &Form::Json, ("", line, status));
     }
 }
 
@@ -197,7 +198,13 @@ fn settled(rt: &impl Abort, alloc: Global, words: &[&str]) -> (Vec<u8>, Vec<u8>,
     let Err(fault) = asked(alloc, words) else {
         panic!(rt; "the words were taken");
     };
-    let status = settle(alloc, &mut out, &mut errors, &Ending::Words(fault), false);
+    let status = settle(
+        alloc,
+        &mut out,
+        &mut errors,
+        &Ending::Words(fault),
+        &Form::Text,
+    );
     (out, errors, status)
 }
 
@@ -211,10 +218,10 @@ fn help_goes_to_standard_output_and_refused_words_to_standard_error(rt: HostRunt
 
 #[test]
 fn a_report_that_cannot_be_written_is_told(rt: HostRuntime) {
-    for json in [false, true] {
+    for form in [Form::Text, Form::Json] {
         let ending = end_of(&rt, rt.alloc(), STORE_BUFFERING);
         let mut errors = Vec::new(rt.alloc());
-        let status = settle(rt.alloc(), &mut Full, &mut errors, &ending, json);
+        let status = settle(rt.alloc(), &mut Full, &mut errors, &ending, &form);
         assert!(rt; errors.as_slice() == "rvmon: cannot write\n".as_bytes());
         assert_eq!(rt; status, 3);
     }
@@ -224,5 +231,8 @@ fn a_report_that_cannot_be_written_is_told(rt: HostRuntime) {
 fn a_failed_write_to_standard_error_changes_no_status(rt: HostRuntime) {
     let mut out = Vec::new(rt.alloc());
     let ending = fault_of(FaultKind::Fields, 3);
-    assert_eq!(rt; settle(rt.alloc(), &mut out, &mut Full, &ending, false), 2);
+    assert_eq!(rt;
+        settle(rt.alloc(), &mut out, &mut Full, &ending, &Form::Text),
+        2
+    );
 }

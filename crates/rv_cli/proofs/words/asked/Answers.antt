@@ -11,6 +11,7 @@ returns-clause-answer c =
       model = c.model_in.result;
       json = c.flag_in.result;
       carriers = c.flag_in-2.result;
+      explain = c.flag_in-3.result;
       files = c.in_ok-files.files;
     } in
     let says : SaysAsked (rows_of (found_of c.in_ok-matches.matches)) asked =

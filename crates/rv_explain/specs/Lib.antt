@@ -1,0 +1,10 @@
+pub mod Explaining
+pub mod Faults
+pub mod Latest
+pub mod Layout
+pub mod Outcomes
+pub mod Showing
+pub mod Steps
+pub mod Telling
+pub mod Witnesses
+pub mod Wording

@@ -1,0 +1,29 @@
+//! The form in which an outcome is printed.
+ghost use Rattle.std.specs.Prelude.{◌≡◌};
+ghost use Rattle.rvmon.specs.Starting.{form_asked};
+
+use rv_cli::Asked;
+
+/// The form in which an outcome is printed.
+#[derive(Debug, Drop)]
+pub enum Form {
+    /// The report as text.
+    Text,
+    /// The report as a line of JSON.
+    Json,
+    /// The report as text, and behind it why an event was refused, with rows of these files.
+    Explained(Vec<String>),
+}
+
+/// The form that is asked for: JSON where it is asked for, else an explanation where that is.
+pub fn form_of(asked: Asked) -> Form
+    ensures { result ≡ form_asked asked }
+{
+    if asked.json {
+        Form::Json
+    } else if asked.explain {
+        Form::Explained(asked.files)
+    } else {
+        Form::Text
+    }
+}
