@@ -5,4 +5,5 @@ mod Numbers
 mod Pairs
 mod Rules
 mod Shows
+mod Standing
 mod Walks

@@ -1,6 +1,7 @@
 pub mod Explaining
 pub mod Faults
 pub mod Latest
+pub mod Laws
 pub mod Layout
 pub mod Outcomes
 pub mod Showing

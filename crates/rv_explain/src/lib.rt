@@ -10,6 +10,7 @@
 //! - [`layout`], [`cells`], [`telling`]: the columns as lines, and the whole as text
 //!   ([`explanation_text`]).
 //! - [`outcomes`]: what is told of an outcome behind its report ([`story`]).
+//! - [`laws`]: that the reasons which speak of a third event have one.
 //! - `specs/`: what an explanation shows, by the definitions that the rules are made of, and its
 //!   text byte by byte.
 //!
@@ -22,6 +23,7 @@ mod cells;
 mod explanation;
 mod faulty;
 mod latest;
+mod laws;
 mod layout;
 mod outcomes;
 mod shown;
@@ -31,6 +33,7 @@ mod witness;
 mod wording;
 
 pub use explanation::{Cause, Explanation, explain};
+pub use laws::reasons_stand_on_events;
 pub use outcomes::story;
 pub use shown::{Column, Shown};
 pub use step::Step;

@@ -55,7 +55,7 @@ pub fn settle<O: Write, E: Write>(
     match ending {
         Ending::Ran(outcome) => settle_outcome(alloc, out, errors, outcome, form),
         Ending::Failed(RunFault::Trace { source, fault }) => {
-            settle_trace(errors, *source, *fault)
+            settle_trace(errors, form, *source, *fault)
         }
         Ending::Words(WordsFault::Parse(error)) => settle_parse(out, errors, error),
         Ending::Words(WordsFault::TooMany) => {
@@ -157,16 +157,29 @@ fn settle_parse<O: Write, E: Write>(out: &mut O, errors: &mut E, error: &ParseEr
     }
 }
 
-/// Writes the line of a source's fault.
-fn settle_trace<E: Write>(errors: &mut E, source: u8, fault: TraceFault) -> u8
+/// The name of a source, by the names of the files.
+fn name_of(names: &[String], source: u8) -> &str {
+    match names.get(source as usize) {
+        Some(name) => name.as_str(),
+        None => "standard input",
+    }
+}
+
+/// Writes the line of a source's fault, and a second one in words where an explanation is asked for.
+fn settle_trace<E: Write>(errors: &mut E, form: &Form, source: u8, fault: TraceFault) -> u8
     ensures { result ≡ status_of_kind fault.kind }
 {
     let row = fault.row;
-    let number = fault.kind.number();
+    let kind = fault.kind;
+    let number = kind.number();
     let _ = writeln!(
         errors,
         "rvmon: source {source} row {row}: trace fault {number}"
     );
+    if let Form::Explained(names) = form {
+        let name = name_of(names.as_slice(), source);
+        let _ = writeln!(errors, "{name}:{row}: {kind}");
+    }
     match fault.kind {
         FaultKind::Read | FaultKind::NoMemory => FAILED,
         _ => WRONG_INPUT,

@@ -11,7 +11,7 @@ pub enum Form {
     Text,
     /// The report as a line of JSON.
     Json,
-    /// The report as text, and behind it why an event was refused, with rows of these files.
+    /// The report as text, and behind it why an event or a row was refused, by these files' names.
     Explained(Vec<String>),
 }
 
