@@ -92,26 +92,49 @@ between_text k a b m =
     ⋯ codes ", and " ⋯ id_text b.id ⋯ codes " is a store"
     else []
 
--- why a comes before b, and the rule or axiom of the manual's section 14.1 that says so
-abbrev pub reason_sentence : Reason → Event → Event → Option Event → List ℕ
-reason_sentence (Preserved k) a b m =
+-- a rule of preserved program order
+abbrev pub rule_sentence : Reason → Event → Event → Option Event → List ℕ
+rule_sentence (Preserved k) a b m =
     pair_text k a b ⋯ between_text k a b m ⋯ codes " (preserved program order, rule " ⋯ decimal k ⋯ codes ")"
-reason_sentence Coherence a b m =
+rule_sentence Coherence a b m = []
+rule_sentence ReadsFrom a b m = []
+rule_sentence FromRead a b m = []
+rule_sentence AtomicIn a b m = []
+rule_sentence AtomicOut a b m = []
+
+-- the order of a word's stores, or the load value axiom
+abbrev pub version_sentence : Reason → Event → Event → List ℕ
+version_sentence (Preserved k) a b = []
+version_sentence Coherence a b =
     id_text a.id ⋯ codes " wrote version " ⋯ decimal a.wrote ⋯ codes " of word " ⋯ decimal a.word ⋯ codes ", and "
     ⋯ id_text b.id ⋯ codes " the later version " ⋯ decimal b.wrote ⋯ codes " (coherence)"
-reason_sentence ReadsFrom a b m =
+version_sentence ReadsFrom a b =
     id_text b.id ⋯ codes " returned version " ⋯ decimal b.read ⋯ codes " of word " ⋯ decimal b.word
     ⋯ codes ", which " ⋯ id_text a.id ⋯ codes " wrote (load value axiom)"
-reason_sentence FromRead a b m =
+version_sentence FromRead a b =
     id_text a.id ⋯ codes " returned version " ⋯ decimal a.read ⋯ codes " of word " ⋯ decimal a.word ⋯ codes ", and "
     ⋯ id_text b.id ⋯ codes " wrote version " ⋯ decimal b.wrote ⋯ codes " (load value axiom)"
-reason_sentence AtomicIn a b m =
+version_sentence AtomicIn a b = []
+version_sentence AtomicOut a b = []
+
+-- the atomicity axiom
+abbrev pub atomic_sentence : Reason → Event → Event → Option Event → List ℕ
+atomic_sentence (Preserved k) a b m = []
+atomic_sentence Coherence a b m = []
+atomic_sentence ReadsFrom a b m = []
+atomic_sentence FromRead a b m = []
+atomic_sentence AtomicIn a b m =
     id_text b.id ⋯ codes " is the SC paired with " ⋯ third_text (codes "LR") m ⋯ codes ", which returned what "
     ⋯ id_text a.id ⋯ codes " wrote (atomicity axiom)"
-reason_sentence AtomicOut a b m =
+atomic_sentence AtomicOut a b m =
     id_text a.id ⋯ codes " is the SC paired with " ⋯ third_text (codes "LR") m
     ⋯ codes ", and another hart's version " ⋯ decimal b.wrote ⋯ codes " of word " ⋯ decimal b.word
     ⋯ codes ", which " ⋯ id_text b.id ⋯ codes " wrote, may not come between (atomicity axiom)"
+
+-- why a comes before b, and the rule or axiom of the manual's section 14.1 that says so: one of the
+-- three speaks of each reason
+abbrev pub reason_sentence : Reason → Event → Event → Option Event → List ℕ
+reason_sentence reason a b m = rule_sentence reason a b m ⋯ version_sentence reason a b ⋯ atomic_sentence reason a b m
 
 -- a step: its ends, and why
 abbrev pub step_text : Step → List ℕ

@@ -1,8 +1,9 @@
 //! Events and reasons in words.
 ghost use Rattle.std.specs.Prelude.{Some};
 ghost use Rattle.std.specs.Option.{option_copied};
-ghost use Rattle.rv_explain.specs.Wording.{between_text, bits_text, class_text, deed_text, pair_text};
-ghost use Rattle.rv_explain.specs.Wording.{reason_sentence, stale_text, step_text, third_text};
+ghost use Rattle.rv_explain.specs.Wording.{atomic_sentence, between_text, bits_text, class_text};
+ghost use Rattle.rv_explain.specs.Wording.{deed_text, pair_text, rule_sentence, stale_text, step_text};
+ghost use Rattle.rv_explain.specs.Wording.{third_text, version_sentence};
 
 use crate::step::Step;
 use rv_event::{Event, Op, Reason};
@@ -115,12 +116,18 @@ impl<'a> fmt::Display for PairRule<'a> {
     ghost output = { λ s. Some (pair_text s.rule s.from.now s.to.now) };
 
     fn fmt<W: fmt::Write>(&self, f: &mut fmt::Formatter<W>) -> fmt::Result {
-        let word = self.from.word;
-        let first = self.from.read;
-        let same_word = self.to.word;
-        let second = self.to.read;
-        let a = self.from.id;
-        let b = self.to.id;
+        let Event {
+            id: a,
+            word,
+            read: first,
+            ..
+        } = self.from;
+        let Event {
+            id: b,
+            word: same_word,
+            read: second,
+            ..
+        } = self.to;
         match self.rule {
             1 => write!(f, "both access word {word}, and {b} stores to it"),
             2 => write!(
@@ -205,14 +212,14 @@ impl<'a> fmt::Display for BetweenRule<'a> {
     }
 }
 
-/// Why one event comes before another.
+/// Why a rule of preserved program order has a step's first event come before its second.
 #[derive(Clone, Copy)]
-struct Sentence<'a> {
+struct RuleSentence<'a> {
     step: Step<'a>,
 }
 
-impl<'a> fmt::Display for Sentence<'a> {
-    ghost output = { λ s. Some (reason_sentence s.step.reason s.step.from.now s.step.to.now
+impl<'a> fmt::Display for RuleSentence<'a> {
+    ghost output = { λ s. Some (rule_sentence s.step.reason s.step.from.now s.step.to.now
         (option_copied s.step.witness)) };
 
     fn fmt<W: fmt::Write>(&self, f: &mut fmt::Formatter<W>) -> fmt::Result {
@@ -222,69 +229,95 @@ impl<'a> fmt::Display for Sentence<'a> {
             to,
             witness,
         } = self.step;
-        let a = from.id;
-        let b = to.id;
-        let wrote = to.wrote;
-        match reason {
-            Reason::Preserved(rule) => {
-                let pair = PairRule { rule, from, to };
-                let between = BetweenRule {
-                    rule,
-                    from,
-                    to,
-                    witness,
-                };
-                write!(f, "{pair}{between} (preserved program order, rule {rule})")
-            }
-            Reason::Coherence => {
-                let word = from.word;
-                let first = from.wrote;
-                write!(
-                    f,
-                    "{a} wrote version {first} of word {word}, and {b} the later version {wrote} \
-                     (coherence)"
-                )
-            }
-            Reason::ReadsFrom => {
-                let word = to.word;
-                let read = to.read;
-                write!(
-                    f,
-                    "{b} returned version {read} of word {word}, which {a} wrote (load value axiom)"
-                )
-            }
-            Reason::FromRead => {
-                let word = from.word;
-                let read = from.read;
-                write!(
-                    f,
-                    "{a} returned version {read} of word {word}, and {b} wrote version {wrote} \
-                     (load value axiom)"
-                )
-            }
-            Reason::AtomicIn => {
-                let lr = Third {
-                    noun: "LR",
-                    event: witness,
-                };
-                write!(
-                    f,
-                    "{b} is the SC paired with {lr}, which returned what {a} wrote \
-                     (atomicity axiom)"
-                )
-            }
-            Reason::AtomicOut => {
-                let lr = Third {
-                    noun: "LR",
-                    event: witness,
-                };
-                let word = to.word;
-                write!(
-                    f,
-                    "{a} is the SC paired with {lr}, and another hart's version {wrote} of word \
-                     {word}, which {b} wrote, may not come between (atomicity axiom)"
-                )
-            }
+        let Reason::Preserved(rule) = reason else {
+            return Ok(());
+        };
+        let pair = PairRule { rule, from, to };
+        let between = BetweenRule {
+            rule,
+            from,
+            to,
+            witness,
+        };
+        write!(f, "{pair}{between} (preserved program order, rule {rule})")
+    }
+}
+
+/// Why the versions of a word have a step's first event come before its second.
+#[derive(Clone, Copy)]
+struct VersionSentence<'a> {
+    step: Step<'a>,
+}
+
+impl<'a> fmt::Display for VersionSentence<'a> {
+    ghost output = { λ s. Some (version_sentence s.step.reason s.step.from.now s.step.to.now) };
+
+    fn fmt<W: fmt::Write>(&self, f: &mut fmt::Formatter<W>) -> fmt::Result {
+        let from = self.step.from;
+        let to = self.step.to;
+        let Event {
+            id: a,
+            word,
+            read: first,
+            wrote: old,
+            ..
+        } = from;
+        let Event {
+            id: b,
+            word: same_word,
+            read,
+            wrote,
+            ..
+        } = to;
+        match self.step.reason {
+            Reason::Coherence => write!(
+                f,
+                "{a} wrote version {old} of word {word}, and {b} the later version {wrote} \
+                 (coherence)"
+            ),
+            Reason::ReadsFrom => write!(
+                f,
+                "{b} returned version {read} of word {same_word}, which {a} wrote \
+                 (load value axiom)"
+            ),
+            Reason::FromRead => write!(
+                f,
+                "{a} returned version {first} of word {word}, and {b} wrote version {wrote} \
+                 (load value axiom)"
+            ),
+            _ => Ok(()),
+        }
+    }
+}
+
+/// Why a pair of LR and SC has a step's first event come before its second.
+#[derive(Clone, Copy)]
+struct AtomicSentence<'a> {
+    step: Step<'a>,
+}
+
+impl<'a> fmt::Display for AtomicSentence<'a> {
+    ghost output = { λ s. Some (atomic_sentence s.step.reason s.step.from.now s.step.to.now
+        (option_copied s.step.witness)) };
+
+    fn fmt<W: fmt::Write>(&self, f: &mut fmt::Formatter<W>) -> fmt::Result {
+        let a = self.step.from.id;
+        let b = self.step.to.id;
+        let word = self.step.to.word;
+        let wrote = self.step.to.wrote;
+        let event = self.step.witness;
+        let lr = Third { noun: "LR", event };
+        match self.step.reason {
+            Reason::AtomicIn => write!(
+                f,
+                "{b} is the SC paired with {lr}, which returned what {a} wrote (atomicity axiom)"
+            ),
+            Reason::AtomicOut => write!(
+                f,
+                "{a} is the SC paired with {lr}, and another hart's version {wrote} of word \
+                 {word}, which {b} wrote, may not come between (atomicity axiom)"
+            ),
+            _ => Ok(()),
         }
     }
 }
@@ -296,8 +329,10 @@ impl<'a> fmt::Display for Step<'a> {
     fn fmt<W: fmt::Write>(&self, f: &mut fmt::Formatter<W>) -> fmt::Result {
         let a = self.from.id;
         let b = self.to.id;
-        let sentence = Sentence { step: *self };
-        write!(f, "{a} before {b}: {sentence}")
+        let rule = RuleSentence { step: *self };
+        let version = VersionSentence { step: *self };
+        let atomic = AtomicSentence { step: *self };
+        write!(f, "{a} before {b}: {rule}{version}{atomic}")
     }
 }
 
