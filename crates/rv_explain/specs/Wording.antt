@@ -71,7 +71,12 @@ pair_text k a b =
     else if k == 6 then id_text b.id ⋯ codes " has a release annotation"
     else if k == 7 then codes "both have RCsc annotations"
     else if k == 8 then id_text a.id ⋯ codes " is the LR that is paired with the SC " ⋯ id_text b.id
-    else if k == 9 then codes "the address of " ⋯ id_text b.id ⋯ codes " depends on " ⋯ id_text a.id
+    else []
+
+-- what the rules say by which b has a dependency on a
+abbrev pub dependency_text : ℕ → Event → Event → List ℕ
+dependency_text k a b =
+    if k == 9 then codes "the address of " ⋯ id_text b.id ⋯ codes " depends on " ⋯ id_text a.id
     else if k == 10 then codes "the data that " ⋯ id_text b.id ⋯ codes " stores depends on " ⋯ id_text a.id
     else []
 
@@ -95,7 +100,8 @@ between_text k a b m =
 -- a rule of preserved program order
 abbrev pub rule_sentence : Reason → Event → Event → Option Event → List ℕ
 rule_sentence (Preserved k) a b m =
-    pair_text k a b ⋯ between_text k a b m ⋯ codes " (preserved program order, rule " ⋯ decimal k ⋯ codes ")"
+    pair_text k a b ⋯ dependency_text k a b ⋯ between_text k a b m ⋯ codes " (preserved program order, rule "
+    ⋯ decimal k ⋯ codes ")"
 rule_sentence Coherence a b m = []
 rule_sentence ReadsFrom a b m = []
 rule_sentence FromRead a b m = []

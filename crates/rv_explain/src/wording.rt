@@ -2,7 +2,7 @@
 ghost use Rattle.std.specs.Prelude.{Some};
 ghost use Rattle.std.specs.Option.{option_copied};
 ghost use Rattle.rv_explain.specs.Wording.{atomic_sentence, between_text, bits_text, class_text};
-ghost use Rattle.rv_explain.specs.Wording.{deed_text, pair_text, rule_sentence, stale_text, step_text};
+ghost use Rattle.rv_explain.specs.Wording.{deed_text, dependency_text, pair_text, rule_sentence, stale_text, step_text};
 ghost use Rattle.rv_explain.specs.Wording.{third_text, version_sentence};
 
 use crate::step::Step;
@@ -143,6 +143,26 @@ impl<'a> fmt::Display for PairRule<'a> {
             6 => write!(f, "{b} has a release annotation"),
             7 => write!(f, "both have RCsc annotations"),
             8 => write!(f, "{a} is the LR that is paired with the SC {b}"),
+            _ => Ok(()),
+        }
+    }
+}
+
+/// What a rule says by which the second of two events has a dependency on the first.
+#[derive(Clone, Copy)]
+struct DependencyRule<'a> {
+    rule: u8,
+    from: &'a Event,
+    to: &'a Event,
+}
+
+impl<'a> fmt::Display for DependencyRule<'a> {
+    ghost output = { λ s. Some (dependency_text s.rule s.from.now s.to.now) };
+
+    fn fmt<W: fmt::Write>(&self, f: &mut fmt::Formatter<W>) -> fmt::Result {
+        let a = self.from.id;
+        let b = self.to.id;
+        match self.rule {
             9 => write!(f, "the address of {b} depends on {a}"),
             10 => write!(f, "the data that {b} stores depends on {a}"),
             _ => Ok(()),
@@ -233,13 +253,17 @@ impl<'a> fmt::Display for RuleSentence<'a> {
             return Ok(());
         };
         let pair = PairRule { rule, from, to };
+        let dependency = DependencyRule { rule, from, to };
         let between = BetweenRule {
             rule,
             from,
             to,
             witness,
         };
-        write!(f, "{pair}{between} (preserved program order, rule {rule})")
+        write!(
+            f,
+            "{pair}{dependency}{between} (preserved program order, rule {rule})"
+        )
     }
 }
 
