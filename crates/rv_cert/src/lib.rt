@@ -17,6 +17,7 @@ mod forbidden;
 mod laws;
 mod malformed;
 mod verdict;
+mod walk;
 
 pub use certificate::{Certificate, Circle};
 pub use checker::{check, confirm};
@@ -25,3 +26,4 @@ pub use forbidden::Forbidden;
 pub use laws::{edges_suffice, none_lawful, refusal_is_final};
 pub use malformed::Malformed;
 pub use verdict::Verdict;
+pub use walk::start_of;

@@ -33,6 +33,7 @@ pub record SaysAsked (rows : List Row) (asked : Asked) : Type 0 where
   pub json : asked.json ≡ is_true (first_of (codes "json") rows)
   pub carriers : asked.carriers ≡ is_true (first_of (codes "carriers") rows)
   pub explain : asked.explain ≡ is_true (first_of (codes "explain") rows)
+  pub svg : asked.svg ≡ is_true (first_of (codes "svg") rows)
   pub files : map string_bytes asked.files.items ≡ files_in rows
 
 -- the numbers are in the ranges of the command, and there are few enough files

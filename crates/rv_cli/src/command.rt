@@ -2,7 +2,7 @@
 ghost use Rattle.std.specs.Prelude.{◌≡◌, false, IfOk};
 ghost use Rattle.clap.specs.Words.{app_of, rule_of};
 ghost use Rattle.rv_cli.specs.Command.{IsCommand, ListsModels, carriers_rule, explain_rule, files_rule};
-ghost use Rattle.rv_cli.specs.Command.{json_rule, model_rule, slots_rule, workers_rule};
+ghost use Rattle.rv_cli.specs.Command.{json_rule, model_rule, slots_rule, svg_rule, workers_rule};
 
 use crate::help;
 use clap::{Arg, ArgAction, Command, value_parser};
@@ -87,6 +87,17 @@ fn explain_arg<'a>(alloc: Global) -> Arg<'a>
         .help(help::EXPLAIN)
 }
 
+/// `--svg`.
+fn svg_arg<'a>(alloc: Global) -> Arg<'a>
+    ensures rule { rule_of result ≡ svg_rule }
+    ensures local { result.global ≡ false }
+{
+    Arg::new(alloc, "svg")
+        .long("svg")
+        .action(ArgAction::SetTrue)
+        .help(help::SVG)
+}
+
 /// `FILE`.
 fn files_arg<'a>(alloc: Global) -> Arg<'a>
     ensures rule { rule_of result ≡ files_rule }
@@ -111,5 +122,6 @@ pub(crate) fn command_of<'a>(alloc: Global) -> Result<Command<'a>, AllocError>
         .arg(json_arg(alloc))?
         .arg(carriers_arg(alloc))?
         .arg(explain_arg(alloc))?
+        .arg(svg_arg(alloc))?
         .arg(files_arg(alloc))
 }

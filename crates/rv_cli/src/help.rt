@@ -31,6 +31,9 @@ pub(crate) const CARRIERS: &str = "Take rows I, which stand for the events that 
 /// On `--explain`.
 pub(crate) const EXPLAIN: &str = "Say behind the report why an event was refused";
 
+/// On `--svg`.
+pub(crate) const SVG: &str = "Print a picture of the refusal in place of the report";
+
 /// On the format of a trace, what is printed and the exit status.
 pub(crate) const FORMAT: &str = "\
 A trace is CSV: this header, and then a row for each event. The rows of a hart

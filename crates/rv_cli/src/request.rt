@@ -24,6 +24,8 @@ pub struct Asked {
     pub carriers: bool,
     /// Whether a refusal is explained behind the report.
     pub explain: bool,
+    /// Whether a picture is printed in place of the report.
+    pub svg: bool,
     /// The names of the sources' files in the order of the words, at most 8. Standard input is the
     /// source where there is none.
     pub files: Vec<String>,

@@ -110,6 +110,7 @@ pub fn asked(alloc: Global, words: &[&str]) -> Result<Asked, WordsFault>
         json: flag_in(&matches, "json"),
         carriers: flag_in(&matches, "carriers"),
         explain: flag_in(&matches, "explain"),
+        svg: flag_in(&matches, "svg"),
         files,
     })
 }

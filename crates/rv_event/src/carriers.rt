@@ -33,7 +33,10 @@ fn lists_marked(kind: DepKind, event: &Event, marked: &Row) -> bool
         .any(|dep| is_marked(*dep, kind, event, marked))
 }
 
-/// Whether the event lists the other, or is of its hart and lists a number of the set.
+/// Whether the event depends on the other, itself or through the carriers in the set.
+///
+/// With the set of [`carriers_of`] this is the dependency of the manual (section 14.1, "Syntactic
+/// Dependencies"): ask for the set once, then of many events.
 pub fn depends_by(kind: DepKind, event: &Event, on: &Event, marked: &Row) -> bool
     ensures { IsTrue result ↔ DependsBy kind event.now on.now marked.now }
 {
@@ -90,7 +93,8 @@ fn mark_carriers(log: &[Entry], on: &Event, marked: &mut Row) -> bool
     is_changed
 }
 
-/// The numbers of the carriers that the event is behind.
+/// The numbers of the carriers that carry the event: those that list it, or list one that
+/// carries it.
 ///
 /// It costs one pass over the log, and one for each carrier that stands in the log before one that
 /// it lists.

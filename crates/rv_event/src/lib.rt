@@ -50,5 +50,5 @@ pub use reason::{Link, Reason};
 pub use relations::{
     depends_on, does_order, is_acquire, is_fenced, is_paired, is_rcsc, is_release,
 };
-pub use rules::{is_overlapping_store, reads_atomic_write};
+pub use rules::{does_return, is_overlapping_store, reads_atomic_write};
 pub use search::{find_named, find_writer, is_between, is_earlier};

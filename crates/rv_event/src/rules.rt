@@ -16,8 +16,8 @@ use crate::relations::{control_depends_on, is_acquire, is_fenced, is_paired, is_
 use crate::search::{is_between, is_earlier};
 use rv_rows::Row;
 
-/// Whether the load returns what the store wrote.
-fn does_return(load: &Event, store: &Event) -> bool
+/// Whether the load returns what the store wrote: the same version of the same word.
+pub fn does_return(load: &Event, store: &Event) -> bool
     ensures { IsTrue result ↔ Returns load.now store.now }
 {
     load.word == store.word && load.read == store.wrote

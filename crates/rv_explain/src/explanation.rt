@@ -65,7 +65,7 @@ fn ids_of(alloc: Global, refused: Id, cause: &Cause<'_>) -> Result<Vec<Id>, NoMe
     Ok(ids)
 }
 
-/// The refused event, which is the last of the log.
+/// The refused event, which is the last of the log, with its row. It costs a pass over the log.
 pub fn refused_of<'a>(log: &'a [Entry]) -> Shown<'a>
     requires { 0 < length log.now }
     ensures shown { IsShown log.now result }

@@ -37,7 +37,7 @@ fn greater(m: usize, n: usize) -> usize
     if m < n { n } else { m }
 }
 
-/// The width of the widest of these lines.
+/// The width of the widest of these lines, in bytes.
 pub fn widest(lines: &[String]) -> usize
     ensures { result ≡ widest (map string_bytes lines.now) }
 {

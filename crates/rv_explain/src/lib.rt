@@ -32,10 +32,14 @@ mod telling;
 mod witness;
 mod wording;
 
-pub use explanation::{Cause, Explanation, explain};
+pub use cells::Place;
+pub use explanation::{Cause, Explanation, explain, refused_of};
+pub use faulty::malformed_text;
 pub use laws::reasons_stand_on_events;
+pub use layout::widest;
 pub use outcomes::story;
 pub use shown::{Column, Shown};
 pub use step::Step;
-pub use telling::explanation_text;
+pub use telling::{explanation_text, headline, push_cause};
 pub use witness::find_witness;
+pub use wording::Deed;

@@ -9,8 +9,8 @@ ghost use Rattle.rv_cert.specs.Certificates.{IsClosedWalk};
 ghost use Rattle.rv_explain.specs.Steps.{AreStepsOfCycle, IsStepOf, ids_of_step, ids_of_steps};
 
 use crate::witness::find_witness;
+use rv_cert::start_of;
 use rv_event::{Entry, Event, Id, NoMemory, Reason, find_named};
-use rv_report::start_of;
 use std::alloc::Global;
 
 /// A step of a cycle: an edge with its ends, and what its reason stands on.

@@ -56,8 +56,12 @@ impl<'a> fmt::Display for Cannot<'a> {
     }
 }
 
-/// The first line: what the refused event cannot do.
-fn headline(
+/// The first line of an explanation: what the refused event cannot do under the model. `names` are
+/// those of the sources, in order.
+///
+/// # Errors
+/// Memory ran out.
+pub fn headline(
     alloc: Global,
     model: MemoryModel,
     names: &[String],
@@ -104,8 +108,11 @@ fn push_so(text: &mut String, steps: &[Step<'_>]) -> Result<(), NoMemory>
     Ok(())
 }
 
-/// Adds the cause.
-fn push_cause(text: &mut String, cause: &Cause<'_>) -> Result<(), NoMemory>
+/// Adds the cause: a numbered line for each step, and what the cycle comes to.
+///
+/// # Errors
+/// Memory ran out; some of the lines may be there.
+pub fn push_cause(text: &mut String, cause: &Cause<'_>) -> Result<(), NoMemory>
     ensures { OnOk result (string_bytes text.new ≡ string_bytes text.old ++ cause_text cause.now) }
 {
     match cause {

@@ -3,7 +3,6 @@ ghost use Rattle.std.specs.Prelude.{◌≡◌, ◌↔◌, IfNone, IfSome, IsTrue
 ghost use Rattle.std.specs.Option.{option_copied};
 ghost use Rattle.rv_event.specs.Carried.{AreCarrying};
 ghost use Rattle.rv_event.specs.Log.{events, writer};
-ghost use Rattle.rv_event.specs.Operations.{Returns};
 ghost use Rattle.rv_event.specs.Preserved.{IsDependentWrite};
 ghost use Rattle.rv_event.specs.Relations.{DependsOn, Paired};
 ghost use Rattle.rv_explain.specs.Latest.{IsLatest};
@@ -12,8 +11,8 @@ ghost use Rattle.rv_explain.specs.Witnesses.{IsReservationIn, IsReservationOut, 
 
 use crate::latest::latest_exclusive;
 use rv_event::{
-    DepKind, Entry, Event, Op, Reason, carriers_of, depends_by, does_order, find_writer,
-    is_between, is_earlier, is_same,
+    DepKind, Entry, Event, Op, Reason, carriers_of, depends_by, does_order, does_return,
+    find_writer, is_between, is_earlier, is_same,
 };
 use rv_rows::Row;
 
@@ -38,13 +37,6 @@ fn is_dependent_branch(log: &[Entry], a: &Event, b: &Event, m: &Event, carriers:
     ensures { IsTrue result ↔ IsDependentBranch (events log.now) a.now b.now m.now }
 {
     is_between(a, m, b) && m.op == Op::Branch && does_depend(log, DepKind::Ctrl, m, a, carriers)
-}
-
-/// Whether the load returns what the store wrote.
-fn does_return(load: &Event, store: &Event) -> bool
-    ensures { IsTrue result ↔ Returns load.now store.now }
-{
-    load.word == store.word && load.read == store.wrote
 }
 
 /// Whether m is a store between the two whose address or data depends on a, which is behind these
@@ -82,13 +74,17 @@ fn is_rule_witness(log: &[Entry], rule: u8, a: &Event, b: &Event, m: &Event, car
     }
 }
 
-/// The first event on which the rule with this number stands.
+/// The first event on which the rule with this number stands: only rules 4 and 11 to 13 stand on a
+/// third event.
 fn find_rule_witness<'a>(log: &'a [Entry], rule: u8, a: &Event, b: &Event) -> Option<&'a Event>
     ensures some { IfSome (option_copied result)
         (IsFirstOf (λ m. IsRuleWitness (events log.now) a.now b.now m rule) (events log.now)) }
     ensures none { IfNone (option_copied result)
         (All (λ m. IsRuleWitness (events log.now) a.now b.now m rule → ⊥) (events log.now)) }
 {
+    if !matches!(rule, 4 | 11..=13) {
+        return None;
+    }
     let carriers = carriers_of(log, a);
     for entry in log {
         if is_rule_witness(log, rule, a, b, &entry.event, &carriers) {

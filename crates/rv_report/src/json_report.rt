@@ -13,9 +13,8 @@ ghost use Rattle.rv_report.specs.Writing.{IsCutShort};
 
 use crate::fault::ReportFault;
 use crate::outcome::Outcome;
-use crate::walk::start_of;
 use crate::writing::write_text;
-use rv_cert::Certificate;
+use rv_cert::{Certificate, start_of};
 use rv_event::{Fault, Id, NoMemory, Reason};
 use serde_json::{Value, json};
 use std::alloc::{AllocError, Global};

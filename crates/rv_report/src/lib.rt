@@ -1,13 +1,12 @@
-//! What came of a trace ([`Outcome`]), and its report as text ([`report`]) and as JSON
-//! ([`report_json`] and [`report_json_line`]).
+//! What came of a trace ([`Outcome`]), and its report as text ([`report`], [`report_text`]) and as
+//! JSON ([`report_json`] and [`report_json_line`]).
 //!
 //! - `outcome`: the three outcomes. A refusal is one of the checked structs of `rv_cert`, so no
 //!   report can show a certificate that is none for its log, or a fault that its last entry does
 //!   not have.
 //! - `text`, `json_report`: the two reports. Each is made as a whole before its first byte is
 //!   written.
-//! - `walk`, `writing`: where an edge of a certificate leads, and the one loop that writes a
-//!   report.
+//! - `writing`: the one loop that writes a report.
 //! - `specs/`: both reports byte by byte, by cases over the outcome.
 //!
 //! It stands on `rv_event` for the texts of ids, reasons and faults, on `rv_cert` for refusals, and
@@ -20,12 +19,10 @@ mod fault;
 mod json_report;
 mod outcome;
 mod text;
-mod walk;
 mod writing;
 
 pub use fault::ReportFault;
 pub use json_report::{report_json, report_json_line};
 pub use outcome::Outcome;
-pub use text::report;
-pub use walk::start_of;
+pub use text::{report, report_text};
 pub use writing::write_text;

@@ -8,9 +8,8 @@ ghost use Rattle.rv_report.specs.Writing.{IsCutShort};
 
 use crate::fault::ReportFault;
 use crate::outcome::Outcome;
-use crate::walk::start_of;
 use crate::writing::write_text;
-use rv_cert::{Certificate, Forbidden, Malformed};
+use rv_cert::{Certificate, Forbidden, Malformed, start_of};
 use rv_event::{Id, NoMemory, Reason};
 use std::alloc::Global;
 use std::fmt::Write as _;
@@ -75,8 +74,11 @@ fn malformed_text(alloc: Global, malformed: &Malformed) -> Result<String, NoMemo
     Ok(format!(in alloc; "malformed: {refused} after {after} events: fault {number} {fault}\n")?)
 }
 
-/// The report of an outcome.
-fn text_of(alloc: Global, outcome: &Outcome) -> Result<String, NoMemory>
+/// The report of an outcome, each line with its line feed.
+///
+/// # Errors
+/// Memory ran out; the outcome stays as it is.
+pub fn report_text(alloc: Global, outcome: &Outcome) -> Result<String, NoMemory>
     ensures { IfOk result (λ text. string_bytes text ≡ report_text outcome.now) }
 {
     match outcome {
@@ -105,6 +107,6 @@ pub fn report<W: Write>(alloc: Global, writer: &mut W, outcome: &Outcome) -> Res
         IsCutShort (W.contents writer.old) (W.contents writer.new) (report_text outcome.now) }
     ensures untouched { result ≡ Err fault.NoMemory → writer.new ≡ writer.old }
 {
-    let text = text_of(alloc, outcome)?;
+    let text = report_text(alloc, outcome)?;
     write_text(writer, text.as_str())
 }

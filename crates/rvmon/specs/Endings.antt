@@ -4,6 +4,7 @@ use Rattle.std.specs.Global.{Global}
 use Rattle.std.specs.Io.KnownBytes.{Appends}
 use Rattle.rv_event.specs.Texts.{◌⋯◌}
 use Rattle.rv_explain.specs.Outcomes.{IsTold}
+use Rattle.rv_picture.specs.Pictures.{IsPicture}
 use Rattle.rv_report.specs.Json.{json_text}
 use Rattle.rv_report.specs.Texts.{report_text, line_feed}
 use Rattle.rv_report.specs.declared.outcome.Outcome.{Outcome}
@@ -15,7 +16,7 @@ use Rattle.rv_cli.specs.declared.request.WordsFault.TheVariants as words
 use Rattle.rvmon.specs.declared.ending.Ending.{Ending}
 use Rattle.rvmon.specs.declared.ending.Ending.TheVariants.{Ran, Failed, Words, NotText, NotOpened}
 use Rattle.rvmon.specs.declared.form.Form.{Form}
-use Rattle.rvmon.specs.declared.form.Form.TheVariants.{Text, Json, Explained}
+use Rattle.rvmon.specs.declared.form.Form.TheVariants.{Text, Json, Explained, Picture}
 
 -- 0 for allowed, 1 for forbidden, 2 for malformed
 abbrev pub status_of : Outcome → ℕ
@@ -45,11 +46,18 @@ pub record IsPrintedExplained (names : List (String Global)) (o : Outcome) (old 
   pub is_told : IsTold names o told
   pub appends : Appends old new (report_text o ⋯ told)
 
+-- the picture of the outcome
+pub record IsPrintedPicture (names : List (String Global)) (o : Outcome) (old new : Option (List ℕ)) : Type 0 where
+  pub bytes : List ℕ
+  pub is_picture : IsPicture names o bytes
+  pub appends : Appends old new bytes
+
 -- the outcome was printed in this form
 abbrev pub IsPrinted : Form → Outcome → Option (List ℕ) → Option (List ℕ) → Type 0
 IsPrinted Text o old new = Appends old new (report_text o)
 IsPrinted Json o old new = Appends old new (json_text o ⋯ line_feed)
 IsPrinted (Explained names) o old new = IsPrintedExplained names.items o old new
+IsPrinted (Picture names) o old new = IsPrintedPicture names.items o old new
 
 -- Where the sources were judged: the whole report and the status of the outcome, or status 3. Else
 -- nothing stands on standard output, and the status says whether the input was wrong (2) or

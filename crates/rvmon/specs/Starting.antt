@@ -68,9 +68,14 @@ EndsAsked known asked (Words f) = ⊥
 EndsAsked known asked NotText = ⊥
 EndsAsked known asked (NotOpened name) = Contains (map string_bytes asked.files.items) (string_bytes name)
 
--- the form that is asked for: JSON before an explanation, which has rows of the files
+-- the form that is asked for: JSON before a picture, and a picture before an explanation; both have
+-- rows of the files
 abbrev pub form_asked : Asked → Form
-form_asked asked = if asked.json then form.Json else if asked.explain then form.Explained asked.files else form.Text
+form_asked asked =
+    if asked.json then form.Json
+    else if asked.svg then form.Picture asked.files
+    else if asked.explain then form.Explained asked.files
+    else form.Text
 
 -- the request of these words ends so, and is printed in this form
 abbrev pub EndsRequest : (Text → Option (List ℕ)) → List Text → Ending → Form → Type 0

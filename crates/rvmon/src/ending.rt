@@ -1,11 +1,13 @@
 //! How the program ends: what it prints, and with which status.
 ghost use Rattle.std.specs.Prelude.{◌≡◌, ◌⊎◌, OnOk};
-ghost use Rattle.rvmon.specs.Endings.{IsPrinted, IsPrintedExplained, IsSettled, status_of, status_of_kind};
+ghost use Rattle.rvmon.specs.Endings.{IsPrinted, IsPrintedExplained, IsPrintedPicture, IsSettled};
+ghost use Rattle.rvmon.specs.Endings.{status_of, status_of_kind};
 
 use crate::form::Form;
 use clap::Error as ParseError;
 use rv_cli::WordsFault;
 use rv_explain::story;
+use rv_picture::picture;
 use rv_report::{Outcome, ReportFault, report, report_json_line, write_text};
 use rv_run::RunFault;
 use rv_trace::{FaultKind, TraceFault};
@@ -102,6 +104,20 @@ fn report_explained<O: Write>(
     }
 }
 
+/// Writes the picture of an outcome.
+fn write_picture<O: Write>(
+    alloc: Global,
+    out: &mut O,
+    outcome: &Outcome,
+    names: &[String],
+) -> Result<(), ReportFault>
+    ensures { OnOk result
+        (IsPrintedPicture names.now outcome.now (O.contents out.old) (O.contents out.new)) }
+{
+    let text = picture(alloc, names, outcome)?;
+    write_text(out, text.as_str())
+}
+
 /// Writes the report of the outcome in its form.
 fn settle_outcome<O: Write, E: Write>(
     alloc: Global,
@@ -118,6 +134,7 @@ fn settle_outcome<O: Write, E: Write>(
         Form::Text => report(alloc, out, outcome),
         Form::Json => report_json_line(alloc, out, outcome),
         Form::Explained(names) => report_explained(alloc, out, outcome, names.as_slice()),
+        Form::Picture(names) => write_picture(alloc, out, outcome, names.as_slice()),
     };
     match written {
         Ok(()) => status_of(outcome),
@@ -176,7 +193,7 @@ fn settle_trace<E: Write>(errors: &mut E, form: &Form, source: u8, fault: TraceF
         errors,
         "rvmon: source {source} row {row}: trace fault {number}"
     );
-    if let Form::Explained(names) = form {
+    if let Form::Explained(names) | Form::Picture(names) = form {
         let name = name_of(names.as_slice(), source);
         let _ = writeln!(errors, "{name}:{row}: {kind}");
     }

@@ -13,14 +13,19 @@ pub enum Form {
     Json,
     /// The report as text, and behind it why an event or a row was refused, by these files' names.
     Explained(Vec<String>),
+    /// A picture in place of the report, by these files' names.
+    Picture(Vec<String>),
 }
 
-/// The form that is asked for: JSON where it is asked for, else an explanation where that is.
+/// The form that is asked for: JSON where it is asked for, else a picture where that is, else an
+/// explanation where that is.
 pub fn form_of(asked: Asked) -> Form
     ensures { result ≡ form_asked asked }
 {
     if asked.json {
         Form::Json
+    } else if asked.svg {
+        Form::Picture(asked.files)
     } else if asked.explain {
         Form::Explained(asked.files)
     } else {

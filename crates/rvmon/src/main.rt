@@ -2,13 +2,13 @@
 //!
 //! - `words`: the words of the command line, as texts.
 //! - `opening`: the sources, from the names of their files.
-//! - [`form`]: whether the report is text, text with an explanation, or JSON.
+//! - [`form`]: whether the report is text, text with an explanation, a picture, or JSON.
 //! - [`ending`]: what is printed, and the exit status.
 //! - `specs/`: which ending comes of what, and what each ending prints.
 //!
 //! It stands on `rv_cli` for its words, on `rv_pipe` for sources that may be silent, on `rv_run`
 //! for the judgement, on `rv_report` for the reports, on `rv_explain` for what is said
-//! behind them, on the crates whose types these name, and on
+//! behind them, on `rv_picture` for pictures, on the crates whose types these name, and on
 //! the kit's `clap` and `either`. Its one contract: each ending is of the step that it names, and a
 //! report is that of an outcome of the sources.
 #![tactic(auto)]

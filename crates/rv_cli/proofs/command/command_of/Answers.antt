@@ -11,6 +11,7 @@ returns c =
     let json = c.json_arg.ensures in
     let carriers = c.carriers_arg.ensures in
     let explain = c.explain_arg.ensures in
+    let svg = c.svg_arg.ensures in
     let files = c.files_arg.ensures in
     let one = c.in_ok-arg.ensures.shape workers.local ∙ ap₂ with_rule bare workers.rule in
     let two = c.in_ok-arg-2.ensures.shape slots.local ∙ ap₂ with_rule one slots.rule in
@@ -18,8 +19,9 @@ returns c =
     let four = c.in_ok-arg-4.ensures.shape json.local ∙ ap₂ with_rule three json.rule in
     let five = c.in_ok-arg-5.ensures.shape carriers.local ∙ ap₂ with_rule four carriers.rule in
     let six = c.in_ok-arg-6.ensures.shape explain.local ∙ ap₂ with_rule five explain.rule in
-    IfOk-weaker c.arg-7.result _ _ (λ r added. (
+    let seven = c.in_ok-arg-7.ensures.shape svg.local ∙ ap₂ with_rule six svg.rule in
+    IfOk-weaker c.arg-8.result _ _ (λ r added. (
       model.rule.0,
       model.rule.1,
-      added.shape files.local ∙ ap₂ with_rule six files.rule,
-    )) c.arg-7.ensures
+      added.shape files.local ∙ ap₂ with_rule seven files.rule,
+    )) c.arg-8.ensures

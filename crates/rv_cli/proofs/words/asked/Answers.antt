@@ -12,6 +12,7 @@ returns-clause-answer c =
       json = c.flag_in.result;
       carriers = c.flag_in-2.result;
       explain = c.flag_in-3.result;
+      svg = c.flag_in-4.result;
       files = c.in_ok-files.files;
     } in
     let says : SaysAsked (rows_of (found_of c.in_ok-matches.matches)) asked =

@@ -1,0 +1,4 @@
+mod Columns
+mod Numbers
+mod Pieces
+mod Plans
