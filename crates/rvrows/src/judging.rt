@@ -5,10 +5,23 @@ use crate::places::{Place, Places};
 use crate::sink::Sink;
 use rv_book::{Book, Offer};
 use rv_cert::{Certificate, Forbidden, Malformed};
-use rv_event::{Entry, Event, Id, MemoryModel};
-use rv_report::{Outcome, report};
+use rv_event::{Entry, Event, Id, MemoryModel, NoMemory};
+use rv_explain::story;
+use rv_picture::picture;
+use rv_report::{Outcome, report, write_text};
 use std::alloc::{AllocError, Global};
 use std::io::Write;
+
+/// How a judgement is told.
+#[derive(Clone, Copy, PartialEq, Eq, Debug)]
+pub(crate) enum Form {
+    /// The report, and where the rows that it tells come from.
+    Text,
+    /// That, and behind it why a row was refused.
+    Explained,
+    /// A picture in place of the report.
+    Picture,
+}
 
 /// A row that is told, and where it comes from.
 #[derive(Clone, Copy, PartialEq, Eq, Debug)]
@@ -122,17 +135,42 @@ impl Sink for Judge {
     }
 }
 
+/// Writes a text that is there, if memory was.
+fn write_made<W: Write>(out: &mut W, text: Result<String, NoMemory>) -> Result<(), Stop> {
+    let Ok(text) = text else {
+        return Err(Stop::NoMemory);
+    };
+    match write_text(out, text.as_str()) {
+        Ok(()) => Ok(()),
+        Err(_) => Err(Stop::Write),
+    }
+}
+
 /// Writes the report of a judgement, and where the rows that it tells come from.
-pub(crate) fn write_judgement<W: Write>(
-    alloc: Global,
-    out: &mut W,
-    judgement: &Judgement,
-) -> Result<(), Stop> {
+fn write_report<W: Write>(alloc: Global, out: &mut W, judgement: &Judgement) -> Result<(), Stop> {
     if report(alloc, out, &judgement.outcome).is_err() {
         return Err(Stop::Write);
     }
     'rows: for Told { id, place } in judgement.told.iter() {
         writeln!(out, "{id}: {place}")?;
+    }
+    Ok(())
+}
+
+/// Writes a judgement in its form. Its rows are those of the trace that `rvrows` writes.
+pub(crate) fn write_judgement<W: Write>(
+    alloc: Global,
+    out: &mut W,
+    judgement: &Judgement,
+    form: Form,
+) -> Result<(), Stop> {
+    let outcome = &judgement.outcome;
+    if form == Form::Picture {
+        return write_made(out, picture(alloc, &[], outcome));
+    }
+    write_report(alloc, out, judgement)?;
+    if form == Form::Explained {
+        return write_made(out, story(alloc, &[], outcome));
     }
     Ok(())
 }

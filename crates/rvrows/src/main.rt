@@ -13,10 +13,10 @@
 //! - `sink`: where rows go; `judging`: a book that takes them.
 //! - `translating`: the rows, record by record.
 //!
-//! It stands on `rv_logrows` for the rows, on `rv_book` and `rv_report` for the judgement, on the
-//! crates whose types these name, and on the kit's `csv` and `thiserror`. The rows are those that
-//! `rv_logrows` gives, and the judgement is the book's; no promise stands on how the program reads
-//! and writes.
+//! It stands on `rv_logrows` for the rows, on `rv_book` and `rv_report` for the judgement, on
+//! `rv_explain` and `rv_picture` for what is said of a refusal, on the crates whose types these
+//! name, and on the kit's `csv` and `thiserror`. The rows are those that `rv_logrows` gives, and
+//! the judgement is the book's; no promise stands on how the program reads and writes.
 #![tactic(auto)]
 
 mod fault;
@@ -31,7 +31,7 @@ mod translating;
 use crate::fault::{Stop, tell, tell_failure};
 use crate::judging::{Judge, Judgement, write_judgement};
 use crate::progress::Progress;
-use crate::request::{HELP, Words, request_of};
+use crate::request::{HELP, Words, name_called, request_of};
 use crate::sink::{PlaceFile, Sink, TraceFile};
 use crate::translating::Translation;
 use csv::ReaderBuilder;
@@ -151,9 +151,9 @@ fn tell_left_out<E: Write>(errors: &mut E, name: &str, left_out: u64) {
 }
 
 /// Prints a judgement, and gives the status.
-fn settle<E: Write>(rt: &HostRuntime, errors: &mut E, judgement: &Judgement) -> u8 {
+fn settle<E: Write>(rt: &HostRuntime, words: &Words, errors: &mut E, judgement: &Judgement) -> u8 {
     let mut out = io::writer(rt);
-    if write_judgement(rt.alloc(), &mut out, judgement).is_err() {
+    if write_judgement(rt.alloc(), &mut out, judgement, words.form).is_err() {
         return tell_failure(errors, "rvmon", "the report can't be written");
     }
     match &judgement.outcome {
@@ -168,7 +168,7 @@ fn settle_stop<E: Write>(rt: &HostRuntime, words: &Words, errors: &mut E, stop: 
     let name = name_of(words);
     match stop {
         Stop::Fault(row, fault) => tell(errors, name, *row, *fault),
-        Stop::Judged(judgement) => settle(rt, errors, judgement),
+        Stop::Judged(judgement) => settle(rt, words, errors, judgement),
         Stop::Open(file) => {
             let _ = writeln!(errors, "{name}: cannot open {file}");
             FAILED
@@ -187,7 +187,7 @@ fn answer<E: Write>(rt: &HostRuntime, words: &Words, errors: &mut E) -> u8 {
         return match judge_rows(rt, words) {
             Ok((judgement, left_out)) => {
                 tell_left_out(errors, name, left_out);
-                settle(rt, errors, &judgement)
+                settle(rt, words, errors, &judgement)
             }
             Err(stop) => settle_stop(rt, words, errors, &stop),
         };
@@ -206,7 +206,8 @@ fn main(rt: HostRuntime) -> ExitCode {
     let words = match request_of(&rt) {
         Ok(words) => words,
         Err(why) => {
-            let _ = writeln!(errors, "rvrows: {why}; see --help");
+            let name = name_called(&rt);
+            let _ = writeln!(errors, "{name}: {why}; see --help");
             return ExitCode::from(WRONG_INPUT);
         }
     };

@@ -1,5 +1,6 @@
 //! What the words of the command line ask for.
 
+use crate::judging::Form;
 use rv_event::MemoryModel;
 use rv_insn::Width;
 use std::alloc::Global;
@@ -25,6 +26,8 @@ Usage: rvrows [WORD..] [LOG..]
                     and multiples of 8
   --where FILE      rvrows: writes where each row comes from, as source,row,text
   --model rvwmo|tso rvmon: the memory model; rvwmo where it is not said
+  --explain         rvmon: says behind the report why a row was refused
+  --svg             rvmon: prints a picture of the refusal in place of the report
 
 A log is CSV: this header, and then a record for each instruction and store.
 
@@ -92,6 +95,8 @@ pub(crate) struct Words {
     pub(crate) judges: bool,
     /// The memory model that they are judged by.
     pub(crate) model: MemoryModel,
+    /// How the judgement is told.
+    pub(crate) form: Form,
     /// The files of the log; none for standard input.
     pub(crate) files: Vec<String>,
     /// The file that tells where rows come from, if there is one.
@@ -183,6 +188,7 @@ impl Words {
             },
             judges: false,
             model: MemoryModel::Rvwmo,
+            form: Form::Text,
             files: Vec::new(alloc),
             places: None,
             help: false,
@@ -213,6 +219,12 @@ impl Words {
             "--complete" => self.request.complete = true,
             "--pending" => self.request.pending = true,
             "--log" => self.judges = true,
+            "--svg" => self.form = Form::Picture,
+            "--explain" => {
+                if self.form == Form::Text {
+                    self.form = Form::Explained;
+                }
+            }
             "--help" | "-h" => self.help = true,
             _ if word.as_str().starts_with("-") => return Err(WordsFault::Unknown(word)),
             _ => match self.files.push(word) {
@@ -221,6 +233,18 @@ impl Words {
             },
         }
         Ok(())
+    }
+}
+
+/// The name that the program is called by: that of `rvmon` where a log is judged.
+pub(crate) fn name_called(rt: &HostRuntime) -> &'static str {
+    let Ok(mut all) = env::args(rt) else {
+        return "rvrows";
+    };
+    if all.any(|word| word.as_str() == "--log") {
+        "rvmon"
+    } else {
+        "rvrows"
     }
 }
 
