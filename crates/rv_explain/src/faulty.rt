@@ -11,9 +11,11 @@ use std::fmt;
 
 /// What is wrong with an event.
 #[derive(Clone, Copy)]
-struct Wrong<'a> {
-    fault: Fault,
-    event: &'a Event,
+pub struct Wrong<'a> {
+    /// The fault.
+    pub fault: Fault,
+    /// The event that has it.
+    pub event: &'a Event,
 }
 
 impl<'a> fmt::Display for Wrong<'a> {
@@ -55,8 +57,9 @@ impl<'a> fmt::Display for Wrong<'a> {
 
 /// What was expected in place of a fault.
 #[derive(Clone, Copy)]
-struct Expected {
-    fault: Fault,
+pub struct Expected {
+    /// The fault.
+    pub fault: Fault,
 }
 
 impl fmt::Display for Expected {
@@ -86,8 +89,9 @@ impl fmt::Display for Expected {
 
 /// How traces come to have a fault.
 #[derive(Clone, Copy)]
-struct Usual {
-    fault: Fault,
+pub struct Usual {
+    /// The fault.
+    pub fault: Fault,
 }
 
 impl fmt::Display for Usual {

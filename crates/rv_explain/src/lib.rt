@@ -34,7 +34,7 @@ mod wording;
 
 pub use cells::Place;
 pub use explanation::{Cause, Explanation, explain, refused_of};
-pub use faulty::malformed_text;
+pub use faulty::{Expected, Usual, Wrong, malformed_text};
 pub use laws::reasons_stand_on_events;
 pub use layout::widest;
 pub use outcomes::story;
@@ -42,4 +42,4 @@ pub use shown::{Column, Shown};
 pub use step::Step;
 pub use telling::{explanation_text, headline, push_cause};
 pub use witness::find_witness;
-pub use wording::Deed;
+pub use wording::{Deed, StalePair};

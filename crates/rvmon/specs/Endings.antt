@@ -4,6 +4,7 @@ use Rattle.std.specs.Global.{Global}
 use Rattle.std.specs.Io.KnownBytes.{Appends}
 use Rattle.rv_event.specs.Texts.{◌⋯◌}
 use Rattle.rv_explain.specs.Outcomes.{IsTold}
+use Rattle.rv_explain_json.specs.Reports.{IsExplainedLine}
 use Rattle.rv_picture.specs.Pictures.{IsPicture}
 use Rattle.rv_report.specs.Json.{json_text}
 use Rattle.rv_report.specs.Texts.{report_text, line_feed}
@@ -16,7 +17,7 @@ use Rattle.rv_cli.specs.declared.request.WordsFault.TheVariants as words
 use Rattle.rvmon.specs.declared.ending.Ending.{Ending}
 use Rattle.rvmon.specs.declared.ending.Ending.TheVariants.{Ran, Failed, Words, NotText, NotOpened}
 use Rattle.rvmon.specs.declared.form.Form.{Form}
-use Rattle.rvmon.specs.declared.form.Form.TheVariants.{Text, Json, Explained, Picture}
+use Rattle.rvmon.specs.declared.form.Form.TheVariants.{Text, Json, JsonExplained, Explained, Picture}
 
 -- 0 for allowed, 1 for forbidden, 2 for malformed
 abbrev pub status_of : Outcome → ℕ
@@ -56,6 +57,7 @@ pub record IsPrintedPicture (names : List (String Global)) (o : Outcome) (old ne
 abbrev pub IsPrinted : Form → Outcome → Option (List ℕ) → Option (List ℕ) → Type 0
 IsPrinted Text o old new = Appends old new (report_text o)
 IsPrinted Json o old new = Appends old new (json_text o ⋯ line_feed)
+IsPrinted (JsonExplained names) o old new = IsExplainedLine names.items o old new
 IsPrinted (Explained names) o old new = IsPrintedExplained names.items o old new
 IsPrinted (Picture names) o old new = IsPrintedPicture names.items o old new
 

@@ -1,6 +1,6 @@
 -- How the program comes to its end: which of its steps each ending is of.
 use Rattle.std.specs.Prelude.{◌≡◌, ◌≢◌, ◌⊎◌, ℕ, List, [], ◌∷◌, Option, None, Ok, Err, map, option_map}
-use Rattle.std.specs.Prelude.{String, string_bytes, ⊤, if◌then◌else◌}
+use Rattle.std.specs.Prelude.{String, string_bytes, ⊤, ◌&&◌, if◌then◌else◌}
 use Rattle.std.specs.Global.{Global}
 use Rattle.std.specs.List.{Contains}
 use Rattle.clap.specs.Words.{Text}
@@ -68,11 +68,12 @@ EndsAsked known asked (Words f) = ⊥
 EndsAsked known asked NotText = ⊥
 EndsAsked known asked (NotOpened name) = Contains (map string_bytes asked.files.items) (string_bytes name)
 
--- the form that is asked for: JSON before a picture, and a picture before an explanation; both have
--- rows of the files
+-- the form that is asked for: JSON before a picture, and a picture before an explanation; what is
+-- explained or drawn has rows of the files
 abbrev pub form_asked : Asked → Form
 form_asked asked =
-    if asked.json then form.Json
+    if asked.json && asked.explain then form.JsonExplained asked.files
+    else if asked.json then form.Json
     else if asked.svg then form.Picture asked.files
     else if asked.explain then form.Explained asked.files
     else form.Text

@@ -7,6 +7,7 @@ use crate::form::Form;
 use clap::Error as ParseError;
 use rv_cli::WordsFault;
 use rv_explain::story;
+use rv_explain_json::explained_json_line;
 use rv_picture::picture;
 use rv_report::{Outcome, ReportFault, report, report_json_line, write_text};
 use rv_run::RunFault;
@@ -133,6 +134,7 @@ fn settle_outcome<O: Write, E: Write>(
     let written = match form {
         Form::Text => report(alloc, out, outcome),
         Form::Json => report_json_line(alloc, out, outcome),
+        Form::JsonExplained(names) => explained_json_line(alloc, out, names.as_slice(), outcome),
         Form::Explained(names) => report_explained(alloc, out, outcome, names.as_slice()),
         Form::Picture(names) => write_picture(alloc, out, outcome, names.as_slice()),
     };
@@ -193,7 +195,7 @@ fn settle_trace<E: Write>(errors: &mut E, form: &Form, source: u8, fault: TraceF
         errors,
         "rvmon: source {source} row {row}: trace fault {number}"
     );
-    if let Form::Explained(names) | Form::Picture(names) = form {
+    if let Form::Explained(names) | Form::JsonExplained(names) | Form::Picture(names) = form {
         let name = name_of(names.as_slice(), source);
         let _ = writeln!(errors, "{name}:{row}: {kind}");
     }

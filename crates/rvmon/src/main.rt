@@ -2,7 +2,8 @@
 //!
 //! - `words`: the words of the command line, as texts.
 //! - `opening`: the sources, from the names of their files.
-//! - [`form`]: whether the report is text, text with an explanation, a picture, or JSON.
+//! - [`form`]: whether the report is text, text with an explanation, a picture, or JSON with
+//!   an explanation or without.
 //! - [`ending`]: what is printed, and the exit status.
 //! - `specs/`: which ending comes of what, and what each ending prints.
 //!

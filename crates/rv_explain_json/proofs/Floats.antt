@@ -1,0 +1,100 @@
+-- No number of an explanation is a float.
+use Rattle.std.proofs.Common.{rules, ◌≡◌, ◌||◌, ◌∷◌, [], ℕ, List, Bool, false, Option, None, Some, String, map, refl}
+use Rattle.std.specs.Global.{Global}
+use Rattle.std.specs.Ordering.{nat_cmp, match_ordering}
+use Rattle.std.specs.Cmp.Lexicographic.{slice_cmp}
+use Rattle.std.specs.declared.cmp.Ordering.{Ordering}
+use Rattle.std.specs.declared.cmp.Ordering.TheVariants.{Less, Equal, Greater}
+use Rattle.serde_json.specs.Data.{Data, Members, member, no_members, null, boolean, number, string, array, object, put}
+use Rattle.serde_json.specs.View.{items_of}
+use Rattle.serde_json.specs.Written.{has_float, items_have_float, members_have_float}
+use Rattle.rv_event.specs.declared.event.Event.{Event}
+use Rattle.rv_event.specs.declared.fault.Fault.{Fault}
+use Rattle.rv_explain.specs.declared.explanation.Cause.{Cause}
+use Rattle.rv_explain.specs.declared.explanation.Cause.TheVariants.{Cycle, Stale}
+use Rattle.rv_explain.specs.declared.explanation.Explanation.{Explanation}
+use Rattle.rv_explain.specs.declared.shown.Column.{Column}
+use Rattle.rv_explain.specs.declared.shown.Shown.{Shown}
+use Rattle.rv_explain.specs.declared.step.Step.{Step}
+use Rattle.rv_explain_json.specs.Explained.{cause_data, column_data, explanation_data, fault_data, name_data, shown_data}
+use Rattle.rv_explain_json.specs.Explained.{step_data, witness_data}
+use Rattle.rv_explain_json.specs.Reports.{with_explanation}
+
+-- neither of two has one
+neither : (a b : Bool) → a ≡ false → b ≡ false → (a || b) ≡ false
+neither a b p q = rw (p, q) refl
+
+-- the second of two has none
+second : (a b : Bool) → (a || b) ≡ false → b ≡ false
+second a b h = search rules
+
+-- the first of two has none
+first : (a b : Bool) → (a || b) ≡ false → a ≡ false
+first a b h = search rules
+
+-- a list of data that have none
+items-none : {A : Type 0} (f : A → Data) → ((x : A) → has_float (f x) ≡ false) → (xs : List A) →
+    items_have_float (items_of (map f xs)) ≡ false
+items-none f none [] = refl
+items-none f none (x ∷ xs) = neither (has_float (f x)) _ (none x) (items-none f none xs)
+
+-- one member of members, or one behind it
+put-at : (k : List ℕ) (d : Data) (l : List ℕ) (e : Data) (ms : Members) (o : Ordering) → has_float d ≡ false →
+    members_have_float (member l e ms) ≡ false → members_have_float (put k d ms) ≡ false →
+    members_have_float (match_ordering o (member k d (member l e ms)) (member l d ms) (member l e (put k d ms)))
+    ≡ false
+put-at k d l e ms Less p q behind = neither (has_float d) _ p q
+put-at k d l e ms Equal p q behind = neither (has_float d) _ p (second (has_float e) (members_have_float ms) q)
+put-at k d l e ms Greater p q behind =
+    neither (has_float e) _ (first (has_float e) (members_have_float ms) q) behind
+
+-- members that have none, with one more that has none
+put-none : (k : List ℕ) (d : Data) (ms : Members) → has_float d ≡ false → members_have_float ms ≡ false →
+    members_have_float (put k d ms) ≡ false
+put-none k d no_members p q = neither (has_float d) false p refl
+put-none k d (member l e ms) p q =
+    put-at k d l e ms (slice_cmp nat_cmp k l) p q
+    (put-none k d ms p (second (has_float e) (members_have_float ms) q))
+
+-- a report that has none, with an explanation that has none
+pub with-none : (e d : Data) → has_float e ≡ false → has_float d ≡ false → has_float (with_explanation e d) ≡ false
+with-none e null p q = q
+with-none e (boolean b) p q = q
+with-none e (number n) p q = q
+with-none e (string s) p q = q
+with-none e (array ds) p q = q
+with-none e (object ms) p q = put-none _ e ms p q
+
+shown-none : (s : Shown) → has_float (shown_data s) ≡ false
+shown-none s = refl
+
+column-none : (c : Column) → has_float (column_data c) ≡ false
+column-none c = neither _ _ (items-none shown_data shown-none c.events.items) refl
+
+witness-none : (o : Option Event) → has_float (witness_data o) ≡ false
+witness-none (Some e) = refl
+witness-none None = refl
+
+step-none : (s : Step) → has_float (step_data s) ≡ false
+step-none s = search (witness-none, neither, rules)
+
+name-none : (n : String Global) → has_float (name_data n) ≡ false
+name-none n = refl
+
+-- the explanation of a forbidden log
+pub explanation-none : (names : List (String Global)) (e : Explanation) → has_float (explanation_data names e) ≡ false
+explanation-none names e = by e.cause
+  where
+    columns : items_have_float (items_of (map column_data e.columns.items)) ≡ false
+    columns = items-none column_data column-none e.columns.items
+
+    sources : items_have_float (items_of (map name_data names)) ≡ false
+    sources = items-none name_data name-none names
+
+    by : (c : Cause) → has_float (cause_data names e.columns.items e.refused c) ≡ false
+    by (Cycle steps) = rw (columns, items-none step_data step-none steps.items, sources) refl
+    by (Stale load store) = rw (columns, sources) refl
+
+-- what is wrong with a malformed one
+pub fault-none : (names : List (String Global)) (s : Shown) (f : Fault) → has_float (fault_data names s f) ≡ false
+fault-none names s f = rw (items-none name_data name-none names) refl
