@@ -16,7 +16,8 @@ use Rattle.rv_explain.specs.declared.explanation.Explanation.{Explanation}
 use Rattle.rv_explain.specs.declared.shown.Column.{Column}
 use Rattle.rv_explain.specs.declared.shown.Shown.{Shown}
 use Rattle.rv_explain.specs.declared.step.Step.{Step}
-use Rattle.rv_explain_json.specs.Explained.{cause_data, column_data, explanation_data, fault_data, name_data, shown_data}
+use Rattle.rv_explain_json.specs.Explained.{cause_data, column_data, explanation_data, fault_data, name_data}
+use Rattle.rv_explain_json.specs.Explained.{shown_data}
 use Rattle.rv_explain_json.specs.Explained.{step_data, witness_data}
 use Rattle.rv_explain_json.specs.Reports.{with_explanation}
 

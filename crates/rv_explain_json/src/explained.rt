@@ -3,7 +3,8 @@ ghost use Rattle.std.specs.Prelude.{◌≡◌, IfOk, map};
 ghost use Rattle.std.specs.Option.{option_copied};
 ghost use Rattle.serde_json.specs.View.{items_view, view};
 ghost use Rattle.rv_explain_json.specs.Explained.{column_data, explanation_data, fault_data, name_data};
-ghost use Rattle.rv_explain_json.specs.Explained.{shown_data, stale_data, step_data, with_cycle, with_pair, witness_data};
+ghost use Rattle.rv_explain_json.specs.Explained.{shown_data, stale_data, step_data, with_cycle, with_pair};
+ghost use Rattle.rv_explain_json.specs.Explained.{witness_data};
 
 use rv_event::{Event, Fault};
 use rv_explain::{

@@ -19,8 +19,8 @@ pub enum Form {
     Picture(Vec<String>),
 }
 
-/// The form that is asked for: JSON where it is asked for, with an explanation or without, else a picture where that is, else an
-/// explanation where that is.
+/// The form that is asked for: JSON where it is asked for, with an explanation or without, else a
+/// picture where that is, else an explanation where that is.
 pub fn form_of(asked: Asked) -> Form
     ensures { result ≡ form_asked asked }
 {

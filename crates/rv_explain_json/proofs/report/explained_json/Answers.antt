@@ -13,7 +13,8 @@ pub returns-in_ok-with_explanation-in-Forbidden-clause-data :
     goal.returns-in_ok-with_explanation-in-Forbidden-clause-data
 returns-in_ok-with_explanation-in-Forbidden-clause-data c =
     let is = c.in-Forbidden.is in
-    subst (λ (o : Outcome). IsExplained c.args.names.now o (view c.in_ok-with_explanation-in-Forbidden.field-0)) (sym is)
+    subst (λ (o : Outcome). IsExplained c.args.names.now o (view c.in_ok-with_explanation-in-Forbidden.field-0))
+    (sym is)
     (record {
       explanation = c.in_ok-explanation-in-Forbidden.explanation;
       is_one = c.in_ok-explanation-in-Forbidden.ensures;
@@ -35,5 +36,6 @@ pub returns-in_ok-with_explanation-in-Malformed-clause-no_float :
 returns-in_ok-with_explanation-in-Malformed-clause-no_float c =
     ap has_float c.in_ok-with_explanation-in-Malformed.ensures
     ∙ with-none (view c.in_ok-value-in-Malformed.value) (view c.in_ok-report.report)
-    (ap has_float c.in_ok-value-in-Malformed.ensures ∙ fault-none c.args.names.now c.refused_of-refused.result c.fault.result)
+    (ap has_float c.in_ok-value-in-Malformed.ensures
+    ∙ fault-none c.args.names.now c.refused_of-refused.result c.fault.result)
     c.in_ok-report.ensures.no_float
