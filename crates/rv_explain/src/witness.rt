@@ -163,7 +163,8 @@ fn find_reservation_out<'a>(log: &'a [Entry], a: &Event, b: &Event) -> Option<&'
 /// rule 4, the branch of rule 11, the store between of rule 12, the event between of rule 13, or
 /// the LR of an atomic reason. `None` where there is none, and for every other reason.
 ///
-/// It costs a few passes over the log, and for a rule what `carriers_of` costs.
+/// It costs a few passes over the log for an atomic reason, one and what `carriers_of` costs for
+/// these rules, and nothing for the other reasons.
 pub fn find_witness<'a>(log: &'a [Entry], reason: Reason, a: &Event, b: &Event) -> Option<&'a Event>
     ensures some { IfSome (option_copied result)
         (IsFirstOf (IsWitness (events log.now) reason a.now b.now) (events log.now)) }

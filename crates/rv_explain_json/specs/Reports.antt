@@ -8,6 +8,7 @@ use Rattle.rv_event.specs.Texts.{◌⋯◌}
 use Rattle.rv_cert.specs.Refusals.{FaultyLog, Refusal}
 use Rattle.rv_report.specs.JsonData.{report_data}
 use Rattle.rv_report.specs.Texts.{line_feed}
+use Rattle.rv_report.specs.Writing.{IsCutShort}
 use Rattle.rv_report.specs.declared.outcome.Outcome.{Outcome}
 use Rattle.rv_report.specs.declared.outcome.Outcome.TheVariants as outcome
 use Rattle.rv_explain.specs.Explaining.{IsExplanation}
@@ -50,3 +51,9 @@ pub record IsExplainedLine (names : List (String Global)) (o : Outcome) (old new
   pub report : Data
   pub is_explained : IsExplained names o report
   pub appends : Appends old new (compact_text report ⋯ line_feed)
+
+-- a part of that was appended, from its first byte on
+pub record IsCutExplained (names : List (String Global)) (o : Outcome) (old new : Option (List ℕ)) : Type 0 where
+  pub report : Data
+  pub is_explained : IsExplained names o report
+  pub cut : IsCutShort old new (compact_text report ⋯ line_feed)

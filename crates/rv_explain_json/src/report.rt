@@ -7,8 +7,7 @@ ghost use Rattle.serde_json.specs.Written.{compact_text, has_float};
 ghost use Rattle.rv_event.specs.Texts.{◌⋯◌};
 ghost use Rattle.rv_report.specs.Texts.{line_feed};
 ghost use Rattle.rv_report.specs.declared.fault.ReportFault.TheVariants as fault;
-ghost use Rattle.rv_explain_json.specs.Reports.{IsExplained, IsExplainedForbidden, IsExplainedLine};
-ghost use Rattle.rv_explain_json.specs.Reports.{IsExplainedMalformed, with_explanation};
+ghost use Rattle.rv_explain_json.specs.Reports.{IsCutExplained, IsExplained, IsExplainedLine, with_explanation};
 
 use crate::explained::{explanation_value, fault_value};
 use rv_cert::{Forbidden, Malformed};
@@ -74,8 +73,8 @@ fn line_of(alloc: Global, names: &[String], outcome: &Outcome) -> Result<String,
 /// Writes the compact text of the JSON report with an explanation, and one line feed.
 ///
 /// # Errors
-/// - `Write` where the writer failed or took no byte: it then has a part of the text. A failed
-///   write is not tried again.
+/// - `Write` where the writer failed or took no byte: it then has a part of the text, from its
+///   first byte on. A failed write is not tried again.
 /// - `NoMemory` where the text could not be had: the writer is then as it was.
 pub fn explained_json_line<W: Write>(
     alloc: Global,
@@ -85,6 +84,8 @@ pub fn explained_json_line<W: Write>(
 ) -> Result<(), ReportFault>
     ensures written { OnOk result
         (IsExplainedLine names.now outcome.now (W.contents writer.old) (W.contents writer.new)) }
+    ensures cut { result ≡ Err fault.Write →
+        IsCutExplained names.now outcome.now (W.contents writer.old) (W.contents writer.new) }
     ensures untouched { result ≡ Err fault.NoMemory → writer.new ≡ writer.old }
 {
     let line = line_of(alloc, names, outcome)?;

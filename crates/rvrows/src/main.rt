@@ -153,8 +153,10 @@ fn tell_left_out<E: Write>(errors: &mut E, name: &str, left_out: u64) {
 /// Prints a judgement, and gives the status.
 fn settle<E: Write>(rt: &HostRuntime, words: &Words, errors: &mut E, judgement: &Judgement) -> u8 {
     let mut out = io::writer(rt);
-    if write_judgement(rt.alloc(), &mut out, judgement, words.form).is_err() {
-        return tell_failure(errors, "rvmon", "the report can't be written");
+    match write_judgement(rt.alloc(), &mut out, judgement, words.form) {
+        Ok(()) => {}
+        Err(Stop::NoMemory) => return tell_failure(errors, "rvmon", "no memory"),
+        Err(_) => return tell_failure(errors, "rvmon", "the report can't be written"),
     }
     match &judgement.outcome {
         Outcome::Allowed { .. } => ALLOWED,
