@@ -2,6 +2,7 @@ pub mod Digits
 pub mod Parts
 pub mod Records
 pub mod Rests
+pub mod Skipped
 pub mod Streams
 pub mod WrittenDeps
 pub mod WrittenMarks

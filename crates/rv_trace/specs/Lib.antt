@@ -1,5 +1,6 @@
 pub mod Calls
 pub mod Chunks
+pub mod Columns
 pub mod Counted
 pub mod Dependencies
 pub mod Faults

@@ -2,10 +2,13 @@
 //!
 //! - [`fault`]: what is wrong with a source, and in which row.
 //! - [`dialect`]: which operations a trace may have.
-//! - `number`, `operation`, `dependency`, `row`: what one record says: an event, or its first fault
+//! - `operation`, `dependency`, [`row`]: what one record says: an event, or its first fault
 //!   from the left.
-//! - `counted`, `rows`: the records of a reader that may take no more than so many bytes and calls.
+//! - [`column`]: the field of a row that has its fault, for who tells it.
+//! - `counted`: a reader that may take no more than so many bytes and calls.
 //! - [`trace`], [`chunks`]: the events of a source, and the same in chunks.
+//! - [`number`], [`rows`]: parts of it that other tables of rows are read with, too: a field that
+//!   is a number, and the records of a reader.
 //! - [`laws`]: what is written from events is read as these.
 //! - `specs/`: the grammar of a row by cases, and what the bytes of a source say as a whole: its
 //!   events in order, and how it ends.
@@ -16,6 +19,7 @@
 #![tactic(auto)]
 
 mod chunks;
+mod column;
 mod counted;
 mod dependency;
 mod dialect;
@@ -28,7 +32,11 @@ mod rows;
 mod trace;
 
 pub use chunks::Chunks;
+pub use column::{Column, FaultyField, faulty_field};
 pub use dialect::Dialect;
 pub use fault::{FaultKind, TraceFault};
 pub use laws::{texts_tell_events, written_traces_are_read};
+pub use number::number_of;
+pub use row::field_of;
+pub use rows::Rows;
 pub use trace::Trace;

@@ -22,6 +22,9 @@ fn decimal(text: &[u8]) -> Option<u64>
 }
 
 /// A field that must be a number of 1 to 10 digits, no more than `max`. Leading zeros are taken.
+///
+/// # Errors
+/// `Missing` where the field is blank, else `Number`.
 #[tactic(auto, unfolding(crate::specs::Numbers::number))]
 pub fn number_of(text: &[u8], max: u32) -> Result<u32, FaultKind>
     ensures value { Gives result (number max text.now) }
