@@ -1,5 +1,5 @@
 -- What a request says of the matches of its words.
-use Rattle.std.specs.Prelude.{◌≡◌, ◌≤◌, ℕ, Bool, false, List, [], Option, Some, None, codes, map, unwrap_or}
+use Rattle.std.specs.Prelude.{◌≡◌, ◌≤◌, ℕ, Bool, false, List, [], Option, Some, None, codes, map, option_map, unwrap_or}
 use Rattle.std.specs.Prelude.{bytes_eq, length, string_bytes}
 use Rattle.std.specs.Str.Parse.{digits_value, without_leading_plus}
 use Rattle.clap.specs.Words.{Row, Text, all_of, first_of, one_of}
@@ -34,6 +34,7 @@ pub record SaysAsked (rows : List Row) (asked : Asked) : Type 0 where
   pub carriers : asked.carriers ≡ is_true (first_of (codes "carriers") rows)
   pub explain : asked.explain ≡ is_true (first_of (codes "explain") rows)
   pub svg : asked.svg ≡ is_true (first_of (codes "svg") rows)
+  pub where_file : option_map string_bytes asked.where_file ≡ first_of (codes "where") rows
   pub files : map string_bytes asked.files.items ≡ files_in rows
 
 -- the numbers are in the ranges of the command, and there are few enough files

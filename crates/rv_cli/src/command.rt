@@ -1,8 +1,8 @@
 //! The program's command, an argument a function.
 ghost use Rattle.std.specs.Prelude.{◌≡◌, false, IfOk};
 ghost use Rattle.clap.specs.Words.{app_of, rule_of};
-ghost use Rattle.rv_cli.specs.Command.{IsCommand, ListsModels, carriers_rule, explain_rule, files_rule};
-ghost use Rattle.rv_cli.specs.Command.{json_rule, model_rule, slots_rule, svg_rule, workers_rule};
+ghost use Rattle.rv_cli.specs.Command.{IsCommand, ListsModels, bare_app, carriers_rule, explain_rule, files_rule};
+ghost use Rattle.rv_cli.specs.Command.{json_rule, model_rule, slots_rule, svg_rule, where_rule, workers_rule};
 
 use crate::help;
 use clap::{Arg, ArgAction, Command, value_parser};
@@ -98,6 +98,18 @@ fn svg_arg<'a>(alloc: Global) -> Arg<'a>
         .help(help::SVG)
 }
 
+/// `--where`.
+fn where_arg<'a>(alloc: Global) -> Arg<'a>
+    ensures rule { rule_of result ≡ where_rule }
+    ensures local { result.global ≡ false }
+{
+    Arg::new(alloc, "where")
+        .long("where")
+        .action(ArgAction::Set)
+        .value_name("ROWS")
+        .help(help::WHERE)
+}
+
 /// `FILE`.
 fn files_arg<'a>(alloc: Global) -> Arg<'a>
     ensures rule { rule_of result ≡ files_rule }
@@ -108,14 +120,21 @@ fn files_arg<'a>(alloc: Global) -> Arg<'a>
         .help(help::FILES)
 }
 
-/// The command, for words without the program's name.
-pub(crate) fn command_of<'a>(alloc: Global) -> Result<Command<'a>, AllocError>
-    ensures { IfOk result (λ c. IsCommand (app_of c)) }
+/// The command without its arguments, for words without the program's name.
+fn bare_command<'a>(alloc: Global) -> Command<'a>
+    ensures { app_of result ≡ bare_app }
 {
     Command::new(alloc, "rvmon")
         .no_binary_name(true)
         .about(help::ABOUT)
         .after_help(help::FORMAT)
+}
+
+/// The command.
+pub(crate) fn command_of<'a>(alloc: Global) -> Result<Command<'a>, AllocError>
+    ensures { IfOk result (λ c. IsCommand (app_of c)) }
+{
+    bare_command(alloc)
         .arg(workers_arg(alloc))?
         .arg(slots_arg(alloc))?
         .arg(model_arg(alloc))?
@@ -123,5 +142,6 @@ pub(crate) fn command_of<'a>(alloc: Global) -> Result<Command<'a>, AllocError>
         .arg(carriers_arg(alloc))?
         .arg(explain_arg(alloc))?
         .arg(svg_arg(alloc))?
+        .arg(where_arg(alloc))?
         .arg(files_arg(alloc))
 }

@@ -34,6 +34,11 @@ pub(crate) const EXPLAIN: &str = "Say behind the report why an event was refused
 /// On `--svg`.
 pub(crate) const SVG: &str = "Print a picture of the refusal in place of the report";
 
+/// On `--where`.
+pub(crate) const WHERE: &str = "\
+Tell where rows come from, by the file ROWS:{n}\
+CSV with the header source,row,text";
+
 /// On the format of a trace, what is printed and the exit status.
 pub(crate) const FORMAT: &str = "\
 A trace is CSV: this header, and then a row for each event. The rows of a hart

@@ -1,5 +1,5 @@
 //! From words to a request.
-ghost use Rattle.std.specs.Prelude.{◌≡◌, ◌≤◌, IfErr, IfOk, codes, length, map, string_bytes};
+ghost use Rattle.std.specs.Prelude.{◌≡◌, ◌≤◌, IfErr, IfOk, codes, length, map, option_map, string_bytes};
 ghost use Rattle.clap.specs.Walk.{texts};
 ghost use Rattle.clap.specs.Words.{first_of, first_value, found_of, one_of, one_text, rows_of};
 ghost use Rattle.rv_cli.specs.Answers.{AnswersTo, IsFilesFault};
@@ -74,6 +74,21 @@ fn copies(alloc: Global, names: &[&str]) -> Result<Vec<String>, AllocError>
     Ok(list)
 }
 
+/// The text of the option of this name, if it is among the words.
+fn text_in(
+    alloc: Global,
+    matches: &ArgMatches<'_>,
+    name: &str,
+) -> Result<Option<String>, AllocError>
+    ensures { IfOk result (λ text.
+        option_map string_bytes text ≡ first_of name.now (rows_of (found_of matches.now))) }
+{
+    match matches.get_str(name) {
+        Some(text) => Ok(Some(String::from_str(alloc, text)?)),
+        None => Ok(None),
+    }
+}
+
 /// The names of the files in order.
 fn files_in(alloc: Global, matches: &ArgMatches<'_>) -> Result<Vec<String>, WordsFault>
     ensures names { IfOk result (λ list.
@@ -103,6 +118,7 @@ pub fn asked(alloc: Global, words: &[&str]) -> Result<Asked, WordsFault>
 {
     let matches = matches_in(alloc, words)?;
     let files = files_in(alloc, &matches)?;
+    let where_file = text_in(alloc, &matches, "where")?;
     Ok(Asked {
         workers: workers_in(&matches),
         slots: slots_in(&matches),
@@ -111,6 +127,7 @@ pub fn asked(alloc: Global, words: &[&str]) -> Result<Asked, WordsFault>
         carriers: flag_in(&matches, "carriers"),
         explain: flag_in(&matches, "explain"),
         svg: flag_in(&matches, "svg"),
+        where_file,
         files,
     })
 }

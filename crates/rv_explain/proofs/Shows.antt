@@ -12,6 +12,7 @@ use Rattle.rv_event.proofs.Indexed.{indexed_from_WellFormed}
 use Rattle.rv_event.specs.WellFormed.{WellFormed}
 use Rattle.rv_event.specs.declared.event.Entry.{Entry}
 use Rattle.rv_event.specs.declared.event.Id.{Id}
+use Rattle.rv_explain.specs.RowTexts.{Said}
 use Rattle.rv_explain.specs.Showing.{AreColumns, AreShown, IsColumn, IsShown, of_hart}
 use Rattle.rv_explain.specs.declared.shown.Column.{Column}
 use Rattle.rv_explain.specs.declared.shown.Shown.{Shown}
@@ -41,8 +42,9 @@ Any-last P xs x holds =
 
 -- ---- entries
 -- just the entries before a place with these ids
-pub record AreShownBefore (log : List Entry) (ids : List Id) (place : ℕ) (shown : List Shown) : Type 0 where
-  pub each : All (λ s. IsShown log s × Contains ids s.entry.now.event.id) shown
+pub record AreShownBefore (log : List Entry) (texts : Said) (ids : List Id) (place : ℕ)
+    (shown : List Shown) : Type 0 where
+  pub each : All (λ s. IsShown log texts s × Contains ids s.entry.now.event.id) shown
   pub all :
       (k : ℕ) (x : Entry) → k < place → k < length log → get_or log k x ≡ x → Contains ids x.event.id →
       Any (λ s. s.place ≡ k) shown
@@ -50,11 +52,12 @@ pub record AreShownBefore (log : List Entry) (ids : List Id) (place : ℕ) (show
   pub ordered : AllPairs (λ s t. s.place < t.place) shown
 
 -- the entry at the place is one of them
-pub shown-more : (log : List Entry) (ids : List Id) (place : ℕ) (shown : List Shown) (s : Shown) →
-    AreShownBefore log ids place shown → s.place ≡ place → IsShown log s → Contains ids s.entry.now.event.id →
-    AreShownBefore log ids (place + 1) (shown ++ s ∷ [])
-shown-more log ids place shown s are at is among = record {
-  each = All-push (λ t. IsShown log t × Contains ids t.entry.now.event.id) shown s are.each (is, among);
+pub shown-more : (log : List Entry) (texts : Said) (ids : List Id) (place : ℕ) (shown : List Shown) (s : Shown) →
+    AreShownBefore log texts ids place shown → s.place ≡ place → IsShown log texts s →
+    Contains ids s.entry.now.event.id →
+    AreShownBefore log texts ids (place + 1) (shown ++ s ∷ [])
+shown-more log texts ids place shown s are at is among = record {
+  each = All-push (λ t. IsShown log texts t × Contains ids t.entry.now.event.id) shown s are.each (is, among);
   all = λ k x low inside same has. elim (cases_lt k place) [
     | inl early ↦ Any-push (λ t. t.place ≡ k) shown s (are.all k x early inside same has)
     | inr late ↦ Any-last (λ t. t.place ≡ k) shown s (omega (low, late, at, arith))
@@ -66,10 +69,10 @@ shown-more log ids place shown s are at is among = record {
 }
 
 -- or it is none
-pub shown-kept : (log : List Entry) (ids : List Id) (place : ℕ) (shown : List Shown) (x : Entry) →
-    AreShownBefore log ids place shown → get_or log place x ≡ x → (Contains ids x.event.id → ⊥) →
-    AreShownBefore log ids (place + 1) shown
-shown-kept log ids place shown x are at not = record {
+pub shown-kept : (log : List Entry) (texts : Said) (ids : List Id) (place : ℕ) (shown : List Shown) (x : Entry) →
+    AreShownBefore log texts ids place shown → get_or log place x ≡ x → (Contains ids x.event.id → ⊥) →
+    AreShownBefore log texts ids (place + 1) shown
+shown-kept log texts ids place shown x are at not = record {
   each = are.each;
   all = λ k y low inside same has. elim (cases_lt k place) [
     | inl early ↦ are.all k y early inside same has
@@ -85,9 +88,9 @@ shown-kept log ids place shown x are at not = record {
         grind (arith, common_steps)
 
 -- at the end they are all
-pub shown-all : (log : List Entry) (ids : List Id) (place : ℕ) (shown : List Shown) → (place < length log → ⊥) →
-    AreShownBefore log ids place shown → AreShown log ids shown
-shown-all log ids place shown end are = record {
+pub shown-all : (log : List Entry) (texts : Said) (ids : List Id) (place : ℕ) (shown : List Shown) →
+    (place < length log → ⊥) → AreShownBefore log texts ids place shown → AreShown log texts ids shown
+shown-all log texts ids place shown end are = record {
   each = are.each;
   all = λ k x low same has. are.all k x (omega (end, low, arith)) low same has;
   ordered = are.ordered;
@@ -151,11 +154,11 @@ columns-all shown columns hart end few are = record {
 }
 
 -- what is shown of a well formed log is of one of sixteen harts
-pub shown-hart : (log evidence : List Entry) (ids : List Id) (shown all : List Shown) → WellFormed evidence →
-    log ≡ evidence → all ≡ shown → AreShown log ids shown → (s : Shown) → Contains all s →
+pub shown-hart : (log evidence : List Entry) (texts : Said) (ids : List Id) (shown all : List Shown) →
+    WellFormed evidence → log ≡ evidence → all ≡ shown → AreShown log texts ids shown → (s : Shown) → Contains all s →
     s.entry.now.event.id.hart < 16
-shown-hart log evidence ids shown all ok same whole are s cs =
-    let at = (All-contains (λ t. IsShown log t × Contains ids t.entry.now.event.id) shown s are.each
+shown-hart log evidence texts ids shown all ok same whole are s cs =
+    let at = (All-contains (λ t. IsShown log texts t × Contains ids t.entry.now.event.id) shown s are.each
     (subst (λ (l : List Shown). Contains l s) whole cs)).0 in
     (indexed_from_WellFormed log (subst WellFormed (sym same) ok)).harts s.entry.now.event
     (event-at log s.place at.inside s.entry.now (sym at.entry))

@@ -8,6 +8,7 @@ use Rattle.rv_event.specs.declared.event.Id.{Id}
 use Rattle.rv_cert.specs.Refusals.{Refusal}
 use Rattle.rv_cert.specs.declared.certificate.Certificate.{Certificate}
 use Rattle.rv_cert.specs.declared.certificate.Certificate.TheVariants as certificate
+use Rattle.rv_explain.specs.RowTexts.{Said}
 use Rattle.rv_explain.specs.Showing.{AreColumns, AreShown, IsShown}
 use Rattle.rv_explain.specs.Steps.{AreStepsOfCycle, ids_of_steps}
 use Rattle.rv_explain.specs.declared.explanation.Cause.{Cause}
@@ -30,14 +31,15 @@ ids_of_cause (Cycle steps) = ids_of_steps steps.items
 ids_of_cause (Stale a b) = a.now.id ∷ b.now.id ∷ []
 
 -- the columns show just these events and the refused one, each under its row
-pub record Shows (log : List Entry) (refused : Id) (cause : Cause) (columns : List Column) : Type 0 where
+pub record Shows (log : List Entry) (texts : Said) (refused : Id) (cause : Cause)
+    (columns : List Column) : Type 0 where
   pub shown : List Shown
-  pub are_shown : AreShown log (refused ∷ ids_of_cause cause) shown
+  pub are_shown : AreShown log texts (refused ∷ ids_of_cause cause) shown
   pub are_columns : AreColumns shown columns
 
--- the explanation of a refusal
-pub record IsExplanation (f : Refusal) (e : Explanation) : Type 0 where
-  pub refused : IsShown f.evidence e.refused
+-- the explanation of a refusal, with what is said of rows
+pub record IsExplanation (f : Refusal) (texts : Said) (e : Explanation) : Type 0 where
+  pub refused : IsShown f.evidence texts e.refused
   pub last : e.refused.place + 1 ≡ length f.evidence
   pub cause : IsCauseOf (events f.evidence) f.certificate e.cause
-  pub shows : Shows f.evidence e.refused.entry.now.event.id e.cause e.columns.items
+  pub shows : Shows f.evidence texts e.refused.entry.now.event.id e.cause e.columns.items

@@ -6,8 +6,7 @@ use Rattle.rv_event.specs.Texts.{◌⋯◌, id_text}
 use Rattle.rv_event.specs.declared.event.Event.{Event}
 use Rattle.rv_event.specs.declared.fault.Fault.{Fault}
 use Rattle.rv_event.specs.declared.fault.Fault.TheVariants as fault
-use Rattle.rv_explain.specs.Telling.{id_cell, place_cell}
-use Rattle.rv_explain.specs.Wording.{deed_text}
+use Rattle.rv_explain.specs.Telling.{described_text, id_cell, place_cell}
 use Rattle.rv_explain.specs.declared.shown.Shown.{Shown}
 
 abbrev pub wrong_text : Fault → Event → List ℕ
@@ -51,5 +50,5 @@ usual_text fault.TooManyDeps = codes "dependencies that rows I could stand for, 
 abbrev pub malformed_text : List (String Global) → Shown → Fault → List ℕ
 malformed_text names s f =
     id_cell s ⋯ codes " (" ⋯ place_cell names s ⋯ codes ") is malformed: "
-    ⋯ deed_text s.entry.now.event.op s.entry.now.event ⋯ codes ".\n\n  Wrong: " ⋯ wrong_text f s.entry.now.event
+    ⋯ described_text s ⋯ codes ".\n\n  Wrong: " ⋯ wrong_text f s.entry.now.event
     ⋯ codes ".\n  Expected: " ⋯ expected_text f ⋯ codes ".\n  Usual cause: " ⋯ usual_text f ⋯ codes ".\n"

@@ -4,6 +4,7 @@ pub mod Latest
 pub mod Laws
 pub mod Layout
 pub mod Outcomes
+pub mod RowTexts
 pub mod Showing
 pub mod Steps
 pub mod Telling

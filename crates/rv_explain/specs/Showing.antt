@@ -1,8 +1,10 @@
 -- The events that an explanation shows.
 use Rattle.std.specs.Prelude.{ℕ, ◌≡◌, ◌<◌, ◌+◌, ◌==◌, List, Contains, All, Any, AllPairs, count_by, filter, get_or}
 use Rattle.std.specs.Prelude.{length, take}
+use Rattle.std.specs.Option.{option_copied}
 use Rattle.rv_event.specs.declared.event.Entry.{Entry}
 use Rattle.rv_event.specs.declared.event.Id.{Id}
+use Rattle.rv_explain.specs.RowTexts.{Said}
 use Rattle.rv_explain.specs.declared.shown.Shown.{Shown}
 use Rattle.rv_explain.specs.declared.shown.Column.{Column}
 
@@ -10,15 +12,16 @@ use Rattle.rv_explain.specs.declared.shown.Column.{Column}
 abbrev pub row_at : List Entry → ℕ → ℕ → ℕ
 row_at log place source = count_by (λ x. source == x.source) (take (place + 1) log)
 
--- an entry of the log, under its row
-pub record IsShown (log : List Entry) (s : Shown) : Type 0 where
+-- an entry of the log, under its row, with what is said of that
+pub record IsShown (log : List Entry) (texts : Said) (s : Shown) : Type 0 where
   pub inside : s.place < length log
   pub entry : get_or log s.place s.entry.now ≡ s.entry.now
   pub row : s.row ≡ row_at log s.place s.entry.now.source
+  pub text : option_copied s.text ≡ texts s.entry.now.source s.row
 
 -- just the entries of the log with these ids, in the log's order
-pub record AreShown (log : List Entry) (ids : List Id) (shown : List Shown) : Type 0 where
-  pub each : All (λ s. IsShown log s × Contains ids s.entry.now.event.id) shown
+pub record AreShown (log : List Entry) (texts : Said) (ids : List Id) (shown : List Shown) : Type 0 where
+  pub each : All (λ s. IsShown log texts s × Contains ids s.entry.now.event.id) shown
   pub all :
       (place : ℕ) (x : Entry) → place < length log → get_or log place x ≡ x → Contains ids x.event.id →
       Any (λ s. s.place ≡ place) shown

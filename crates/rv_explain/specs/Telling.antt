@@ -2,6 +2,7 @@
 use Rattle.std.specs.Prelude.{ℕ, ◌+◌, ◌==◌, List, [], ◌∷◌, Bool, true, false, Option, Some, None, codes, decimal, map}
 use Rattle.std.specs.Prelude.{String, slice_get, string_bytes}
 use Rattle.std.specs.Global.{Global}
+use Rattle.std.specs.Option.{option_copied}
 use Rattle.rv_event.specs.Texts.{◌⋯◌, id_text}
 use Rattle.rv_event.specs.declared.event.Event.{Event}
 use Rattle.rv_event.specs.declared.event.Op.{Op}
@@ -41,6 +42,15 @@ id_cell s = id_text s.entry.now.event.id
 abbrev pub place_cell : List (String Global) → Shown → List ℕ
 place_cell names s = place_text names s.entry.now.source s.row
 
+-- what is said of its row, if anything
+abbrev pub said_text : Option (List ℕ) → List ℕ
+said_text (Some text) = codes " [" ⋯ text ⋯ codes "]"
+said_text None = []
+
+-- what an event does, with that
+abbrev pub described_text : Shown → List ℕ
+described_text s = deed_text s.entry.now.event.op s.entry.now.event ⋯ said_text (option_copied s.text)
+
 abbrev pub mark_text : Bool → List ℕ
 mark_text true = codes "   <- refused"
 mark_text false = []
@@ -49,7 +59,7 @@ mark_text false = []
 abbrev pub cell_text : List (String Global) → ℕ → ℕ → ℕ → Shown → List ℕ
 cell_text names refused id_width place_width s =
     padded id_width (id_cell s) ⋯ codes "  " ⋯ padded place_width (place_cell names s) ⋯ codes "  "
-    ⋯ deed_text s.entry.now.event.op s.entry.now.event ⋯ mark_text (s.place == refused)
+    ⋯ described_text s ⋯ mark_text (s.place == refused)
 
 -- a hart with its events
 abbrev pub column_lines : List (String Global) → ℕ → Column → List (List ℕ)

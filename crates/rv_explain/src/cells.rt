@@ -1,7 +1,8 @@
 //! The columns of an explanation as lines.
 ghost use Rattle.std.specs.Prelude.{◌≡◌, IfOk, Some, map, string_bytes};
 ghost use Rattle.rv_explain.specs.Layout.{blocks_text};
-ghost use Rattle.rv_explain.specs.Telling.{cell_text, column_lines, id_cell, mark_text, place_cell, place_text};
+ghost use Rattle.rv_explain.specs.Telling.{cell_text, column_lines, described_text, id_cell, mark_text, place_cell};
+ghost use Rattle.rv_explain.specs.Telling.{place_text};
 
 use crate::layout::{pad, widest};
 use crate::shown::{Column, Shown};
@@ -35,6 +36,27 @@ impl<'a> fmt::Display for Place<'a> {
                     write!(f, "source {source} row {row}")
                 }
             },
+        }
+    }
+}
+
+/// What an event does, and what is said of its row.
+#[derive(Clone, Copy)]
+pub struct Described<'a> {
+    /// The event.
+    pub shown: &'a Shown<'a>,
+}
+
+impl<'a> fmt::Display for Described<'a> {
+    ghost output = { λ d. Some (described_text d.shown.now) };
+
+    fn fmt<W: fmt::Write>(&self, f: &mut fmt::Formatter<W>) -> fmt::Result {
+        let deed = Deed {
+            event: &self.shown.entry.event,
+        };
+        match self.shown.text {
+            Some(text) => write!(f, "{deed} [{text}]"),
+            None => write!(f, "{deed}"),
         }
     }
 }
@@ -84,16 +106,15 @@ fn cell(alloc: Global, style: Style<'_>, shown: &Shown<'_>) -> Result<String, No
     ensures { IfOk result (λ text. string_bytes text ≡
         cell_text style.entry.names.now style.entry.refused style.entry.id_width style.entry.place_width shown.now) }
 {
-    let event = &shown.entry.event;
-    let mut id = event.id.to_string(alloc)?;
+    let mut id = shown.entry.event.id.to_string(alloc)?;
     pad(&mut id, style.id_width)?;
     let mut place = place_of(style.names, shown).to_string(alloc)?;
     pad(&mut place, style.place_width)?;
-    let deed = Deed { event };
+    let described = Described { shown };
     let mark = Mark {
         is_refused: shown.place == style.refused,
     };
-    Ok(format!(in alloc; "{id}  {place}  {deed}{mark}")?)
+    Ok(format!(in alloc; "{id}  {place}  {described}{mark}")?)
 }
 
 /// The ids of the events.

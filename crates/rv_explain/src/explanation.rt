@@ -1,10 +1,12 @@
 //! The explanation of a refusal.
 ghost use Rattle.std.specs.Prelude.{◌≡◌, ◌∷◌, ◌+◌, ◌<◌, IfOk, length};
 ghost use Rattle.rv_event.specs.Log.{events};
+ghost use Rattle.rv_explain.specs.RowTexts.{said_by};
 ghost use Rattle.rv_explain.specs.Showing.{IsShown};
 ghost use Rattle.rv_explain.specs.Explaining.{IsCauseOf, IsExplanation, ids_of_cause};
 
-use crate::shown::{Column, Shown, columns_of, row_of, shown_of};
+use crate::row_texts::RowTexts;
+use crate::shown::{Column, Shown, columns_of, shown_at, shown_of};
 use crate::step::{Step, event_named, push_ids_of_steps, steps_of};
 use rv_cert::{Certificate, Forbidden};
 use rv_event::{Entry, Event, Id, NoMemory};
@@ -66,32 +68,33 @@ fn ids_of(alloc: Global, refused: Id, cause: &Cause<'_>) -> Result<Vec<Id>, NoMe
 }
 
 /// The refused event, which is the last of the log, with its row. It costs a pass over the log.
-pub fn refused_of<'a>(log: &'a [Entry]) -> Shown<'a>
+pub fn refused_of<'a>(log: &'a [Entry], texts: &'a RowTexts) -> Shown<'a>
     requires { 0 < length log.now }
-    ensures shown { IsShown log.now result }
+    ensures shown { IsShown log.now (said_by texts.now) result }
     ensures last { result.place + 1 ≡ length log.now }
 {
-    let place = log.len() - 1;
-    let entry = &log[place];
-    let row = row_of(log, place, entry.source);
-    Shown { entry, place, row }
+    shown_at(log, texts, log.len() - 1)
 }
 
-/// The explanation of a refusal.
+/// The explanation of a refusal, with what is said of the rows of its events.
 ///
 /// It costs a few passes over the log for each edge of the certificate, and one for each event that
 /// it shows.
 ///
 /// # Errors
 /// Memory ran out; the refusal stays as it is.
-pub fn explain<'a>(alloc: Global, forbidden: &'a Forbidden) -> Result<Explanation<'a>, NoMemory>
-    ensures { IfOk result (IsExplanation forbidden.now) }
+pub fn explain<'a>(
+    alloc: Global,
+    forbidden: &'a Forbidden,
+    texts: &'a RowTexts,
+) -> Result<Explanation<'a>, NoMemory>
+    ensures { IfOk result (IsExplanation forbidden.now (said_by texts.now)) }
 {
     let log = forbidden.evidence();
     let cause = cause_of(alloc, forbidden)?;
-    let refused = refused_of(log);
+    let refused = refused_of(log, texts);
     let ids = ids_of(alloc, refused.entry.event.id, &cause)?;
-    let shown = shown_of(alloc, log, ids.as_slice())?;
+    let shown = shown_of(alloc, log, texts, ids.as_slice())?;
     let columns = columns_of(alloc, shown.as_slice())?;
     Ok(Explanation {
         refused,

@@ -2,9 +2,8 @@
 ghost use Rattle.std.specs.Prelude.{◌≡◌, IfOk, Some, string_bytes};
 ghost use Rattle.rv_explain.specs.Faults.{expected_text, malformed_text, usual_text, wrong_text};
 
-use crate::cells::place_of;
+use crate::cells::{Described, place_of};
 use crate::shown::Shown;
-use crate::wording::Deed;
 use rv_event::{Event, Fault, NoMemory};
 use std::alloc::Global;
 use std::fmt;
@@ -149,12 +148,12 @@ pub fn malformed_text(
     let event = &refused.entry.event;
     let id = event.id;
     let place = place_of(names, refused);
-    let deed = Deed { event };
+    let described = Described { shown: refused };
     let wrong = Wrong { fault, event };
     let expected = Expected { fault };
     let usual = Usual { fault };
     Ok(format!(in alloc;
-        "{id} ({place}) is malformed: {deed}.\n\n  Wrong: {wrong}.\n  Expected: {expected}.\n  \
+        "{id} ({place}) is malformed: {described}.\n\n  Wrong: {wrong}.\n  Expected: {expected}.\n  \
          Usual cause: {usual}.\n"
     )?)
 }

@@ -4,6 +4,7 @@
 //! - [`witness`]: the third event on which the reason of an edge stands, such as a fence, and
 //!   [`latest`] for the LR of a pair.
 //! - [`step`]: the steps of a cycle, each with its events.
+//! - [`row_texts`]: what is said of rows, such as instructions and addresses.
 //! - [`shown`]: the events that are shown, with their rows, in a column for each hart.
 //! - [`explanation`]: the explanation of a refusal as a value ([`explain`]).
 //! - [`wording`], [`faulty`]: events, reasons and faults in words.
@@ -26,18 +27,20 @@ mod latest;
 mod laws;
 mod layout;
 mod outcomes;
+mod row_texts;
 mod shown;
 mod step;
 mod telling;
 mod witness;
 mod wording;
 
-pub use cells::Place;
+pub use cells::{Described, Place};
 pub use explanation::{Cause, Explanation, explain, refused_of};
 pub use faulty::{Expected, Usual, Wrong, malformed_text};
 pub use laws::reasons_stand_on_events;
 pub use layout::widest;
-pub use outcomes::story;
+pub use outcomes::{Sources, story};
+pub use row_texts::RowTexts;
 pub use shown::{Column, Shown};
 pub use step::Step;
 pub use telling::{explanation_text, headline, push_cause};

@@ -1,8 +1,10 @@
 //! The events that an explanation shows, in a column for each hart.
 ghost use Rattle.std.specs.Prelude.{◌≡◌, ◌<◌, ◌+◌, ◌==◌, ◌↔◌, ℕ, IfOk, IsTrue, Contains, count_by, length, take};
-ghost use Rattle.rv_explain.specs.Showing.{AreColumns, AreShown, of_hart, row_at};
+ghost use Rattle.rv_explain.specs.Showing.{AreColumns, AreShown, IsShown, of_hart, row_at};
+ghost use Rattle.rv_explain.specs.RowTexts.{said_by};
 ghost use Rattle.rv_explain.specs.declared.shown.Shown.{Shown};
 
+use crate::row_texts::RowTexts;
 use rv_event::{Entry, Id, NoMemory};
 use std::alloc::Global;
 
@@ -15,6 +17,8 @@ pub struct Shown<'a> {
     pub place: usize,
     /// Its row in its source: 1 for the first row of data.
     pub row: usize,
+    /// What is said of the row.
+    pub text: Option<&'a str>,
 }
 
 /// The events that are shown of one hart.
@@ -48,6 +52,22 @@ fn is_among(ids: &[Id], id: Id) -> bool
     ids.contains(&id)
 }
 
+/// The entry at a place of the log, with its row. It costs a pass over the log.
+pub fn shown_at<'a>(log: &'a [Entry], texts: &'a RowTexts, place: usize) -> Shown<'a>
+    requires { place < length log.now }
+    ensures shown { IsShown log.now (said_by texts.now) result }
+    ensures place { result.place ≡ place }
+{
+    let entry = &log[place];
+    let row = row_of(log, place, entry.source);
+    Shown {
+        entry,
+        place,
+        row,
+        text: texts.text_of(entry.source, row),
+    }
+}
+
 /// The entries of the log with these ids, in its order, each with its row.
 ///
 /// It costs a pass over the log for each entry that is shown, and one over the ids for each entry
@@ -55,15 +75,26 @@ fn is_among(ids: &[Id], id: Id) -> bool
 ///
 /// # Errors
 /// Memory ran out.
-pub fn shown_of<'a>(alloc: Global, log: &'a [Entry], ids: &[Id]) -> Result<Vec<Shown<'a>>, NoMemory>
-    ensures { IfOk result (λ shown. AreShown log.now ids.now shown.items) }
+pub fn shown_of<'a>(
+    alloc: Global,
+    log: &'a [Entry],
+    texts: &'a RowTexts,
+    ids: &[Id],
+) -> Result<Vec<Shown<'a>>, NoMemory>
+    ensures { IfOk result (λ shown. AreShown log.now (said_by texts.now) ids.now shown.items) }
 {
     let mut shown = Vec::new(alloc);
     'entries: for place in 0..log.len() {
         let entry = &log[place];
         if is_among(ids, entry.event.id) {
             let row = row_of(log, place, entry.source);
-            shown.push(Shown { entry, place, row })?;
+            let text = texts.text_of(entry.source, row);
+            shown.push(Shown {
+                entry,
+                place,
+                row,
+                text,
+            })?;
         }
     }
     Ok(shown)

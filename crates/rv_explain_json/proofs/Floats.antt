@@ -1,6 +1,8 @@
 -- No number of an explanation is a float.
 use Rattle.std.proofs.Common.{rules, ◌≡◌, ◌||◌, ◌∷◌, [], ℕ, List, Bool, false, Option, None, Some, String, map, refl}
+use Rattle.std.specs.Borrow.{Bor}
 use Rattle.std.specs.Global.{Global}
+use Rattle.std.specs.Option.{option_copied}
 use Rattle.std.specs.Ordering.{nat_cmp, match_ordering}
 use Rattle.std.specs.Cmp.Lexicographic.{slice_cmp}
 use Rattle.std.specs.declared.cmp.Ordering.{Ordering}
@@ -17,7 +19,7 @@ use Rattle.rv_explain.specs.declared.shown.Column.{Column}
 use Rattle.rv_explain.specs.declared.shown.Shown.{Shown}
 use Rattle.rv_explain.specs.declared.step.Step.{Step}
 use Rattle.rv_explain_json.specs.Explained.{cause_data, column_data, explanation_data, fault_data, name_data}
-use Rattle.rv_explain_json.specs.Explained.{shown_data}
+use Rattle.rv_explain_json.specs.Explained.{shown_data, where_member}
 use Rattle.rv_explain_json.specs.Explained.{step_data, witness_data}
 use Rattle.rv_explain_json.specs.Reports.{with_explanation}
 
@@ -66,8 +68,12 @@ with-none e (string s) p q = q
 with-none e (array ds) p q = q
 with-none e (object ms) p q = put-none _ e ms p q
 
+where-none : (text : Option (Bor (List ℕ))) → members_have_float (where_member (option_copied text)) ≡ false
+where-none (Some text) = refl
+where-none None = refl
+
 shown-none : (s : Shown) → has_float (shown_data s) ≡ false
-shown-none s = refl
+shown-none s = rw (where-none s.text) refl
 
 column-none : (c : Column) → has_float (column_data c) ≡ false
 column-none c = neither _ _ (items-none shown_data shown-none c.events.items) refl
@@ -93,9 +99,10 @@ explanation-none names e = by e.cause
     sources = items-none name_data name-none names
 
     by : (c : Cause) → has_float (cause_data names e.columns.items e.refused c) ≡ false
-    by (Cycle steps) = rw (columns, items-none step_data step-none steps.items, sources) refl
-    by (Stale load store) = rw (columns, sources) refl
+    by (Cycle steps) =
+        rw (columns, items-none step_data step-none steps.items, where-none e.refused.text, sources) refl
+    by (Stale load store) = rw (columns, where-none e.refused.text, sources) refl
 
 -- what is wrong with a malformed one
 pub fault-none : (names : List (String Global)) (s : Shown) (f : Fault) → has_float (fault_data names s f) ≡ false
-fault-none names s f = rw (items-none name_data name-none names) refl
+fault-none names s f = rw (where-none s.text, items-none name_data name-none names) refl

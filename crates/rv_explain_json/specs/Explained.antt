@@ -1,8 +1,8 @@
 -- Explanations as the data of JSON values.
-use Rattle.std.specs.Prelude.{ℕ, List, [], ◌∷◌, Option, Some, None, String, codes, map, string_bytes}
+use Rattle.std.specs.Prelude.{ℕ, List, Option, Some, None, String, codes, map, string_bytes}
 use Rattle.std.specs.Global.{Global}
 use Rattle.std.specs.Option.{option_copied}
-use Rattle.serde_json.specs.Data.{Data, Items, null, string, array, object, member, no_members}
+use Rattle.serde_json.specs.Data.{Data, Items, Members, null, string, array, object, member, no_members}
 use Rattle.serde_json.specs.View.{items_of}
 use Rattle.rv_event.specs.Texts.{reason_text}
 use Rattle.rv_event.specs.declared.event.Event.{Event}
@@ -17,13 +17,19 @@ use Rattle.rv_explain.specs.declared.shown.Column.{Column}
 use Rattle.rv_explain.specs.declared.shown.Shown.{Shown}
 use Rattle.rv_explain.specs.declared.step.Step.{Step}
 
+-- what is said of a row, if anything is
+abbrev pub where_member : Option (List ℕ) → Members
+where_member (Some text) = member (codes "where") (string text) no_members
+where_member None = no_members
+
 -- an event with its source and its row there
 abbrev pub shown_data : Shown → Data
 shown_data s =
     object (member (codes "id") (id_data s.entry.now.event.id)
     (member (codes "row") (whole_number s.row)
     (member (codes "source") (whole_number s.entry.now.source)
-    (member (codes "text") (string (deed_text s.entry.now.event.op s.entry.now.event)) no_members))))
+    (member (codes "text") (string (deed_text s.entry.now.event.op s.entry.now.event))
+    (where_member (option_copied s.text))))))
 
 abbrev pub column_data : Column → Data
 column_data c =

@@ -12,6 +12,7 @@ use Rattle.rv_report.specs.Writing.{IsCutShort}
 use Rattle.rv_report.specs.declared.outcome.Outcome.{Outcome}
 use Rattle.rv_report.specs.declared.outcome.Outcome.TheVariants as outcome
 use Rattle.rv_explain.specs.Explaining.{IsExplanation}
+use Rattle.rv_explain.specs.RowTexts.{Said}
 use Rattle.rv_explain.specs.Showing.{IsShown}
 use Rattle.rv_explain.specs.declared.explanation.Explanation.{Explanation}
 use Rattle.rv_explain.specs.declared.shown.Shown.{Shown}
@@ -27,33 +28,35 @@ with_explanation e (array ds) = array ds
 with_explanation e (object ms) = object (put (codes "explanation") e ms)
 
 -- of a forbidden log: the report, and its explanation
-pub record IsExplainedForbidden (names : List (String Global)) (f : Refusal) (d : Data) : Type 0 where
+pub record IsExplainedForbidden (names : List (String Global)) (texts : Said) (f : Refusal) (d : Data) : Type 0 where
   pub explanation : Explanation
-  pub is_one : IsExplanation f explanation
+  pub is_one : IsExplanation f texts explanation
   pub said : d ≡ with_explanation (explanation_data names explanation) (report_data (outcome.Forbidden f))
 
 -- of a malformed one: the report, and what is wrong with its last event
-pub record IsExplainedMalformed (names : List (String Global)) (m : FaultyLog) (d : Data) : Type 0 where
+pub record IsExplainedMalformed (names : List (String Global)) (texts : Said) (m : FaultyLog) (d : Data) : Type 0 where
   pub refused : Shown
-  pub is_shown : IsShown m.evidence refused
+  pub is_shown : IsShown m.evidence texts refused
   pub is_last : refused.place + 1 ≡ length m.evidence
   pub said : d ≡ with_explanation (fault_data names refused m.fault) (report_data (outcome.Malformed m))
 
 -- and of an allowed one the report alone
-abbrev pub IsExplained : List (String Global) → Outcome → Data → Type 0
-IsExplained names (outcome.Allowed events operations waiting) d =
+abbrev pub IsExplained : List (String Global) → Said → Outcome → Data → Type 0
+IsExplained names texts (outcome.Allowed events operations waiting) d =
     d ≡ report_data (outcome.Allowed events operations waiting)
-IsExplained names (outcome.Forbidden f) d = IsExplainedForbidden names f d
-IsExplained names (outcome.Malformed m) d = IsExplainedMalformed names m d
+IsExplained names texts (outcome.Forbidden f) d = IsExplainedForbidden names texts f d
+IsExplained names texts (outcome.Malformed m) d = IsExplainedMalformed names texts m d
 
 -- its compact text was appended, and a line feed
-pub record IsExplainedLine (names : List (String Global)) (o : Outcome) (old new : Option (List ℕ)) : Type 0 where
+pub record IsExplainedLine (names : List (String Global)) (texts : Said) (o : Outcome)
+    (old new : Option (List ℕ)) : Type 0 where
   pub report : Data
-  pub is_explained : IsExplained names o report
+  pub is_explained : IsExplained names texts o report
   pub appends : Appends old new (compact_text report ⋯ line_feed)
 
 -- a part of that was appended, from its first byte on
-pub record IsCutExplained (names : List (String Global)) (o : Outcome) (old new : Option (List ℕ)) : Type 0 where
+pub record IsCutExplained (names : List (String Global)) (texts : Said) (o : Outcome)
+    (old new : Option (List ℕ)) : Type 0 where
   pub report : Data
-  pub is_explained : IsExplained names o report
+  pub is_explained : IsExplained names texts o report
   pub cut : IsCutShort old new (compact_text report ⋯ line_feed)

@@ -13,7 +13,7 @@ use rv_explain::{
 use serde_json::{Value, json};
 use std::alloc::{AllocError, Global};
 
-/// An event that is shown.
+/// An event that is shown, with what is said of its row, if anything is.
 fn shown_value(alloc: Global, shown: &Shown<'_>) -> Result<Value, AllocError>
     ensures { IfOk result (λ v. view v ≡ shown_data shown.now) }
 {
@@ -23,12 +23,21 @@ fn shown_value(alloc: Global, shown: &Shown<'_>) -> Result<Value, AllocError>
     let text = deed.to_string(alloc)?;
     let row = shown.row;
     let source = shown.entry.source;
-    json!(in alloc; {
-        "id": id.as_str(),
-        "row": row,
-        "source": source,
-        "text": text.as_str()
-    })
+    match shown.text {
+        Some(said) => json!(in alloc; {
+            "id": id.as_str(),
+            "row": row,
+            "source": source,
+            "text": text.as_str(),
+            "where": said
+        }),
+        None => json!(in alloc; {
+            "id": id.as_str(),
+            "row": row,
+            "source": source,
+            "text": text.as_str()
+        }),
+    }
 }
 
 /// Events that are shown.

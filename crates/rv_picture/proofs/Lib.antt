@@ -2,3 +2,4 @@ mod Columns
 mod Numbers
 mod Pieces
 mod Plans
+mod Spelled

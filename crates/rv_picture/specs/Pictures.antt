@@ -1,5 +1,6 @@
 -- The picture of an outcome, byte by byte. The format is this project's own, within SVG.
 use Rattle.std.specs.Prelude.{ℕ, ◌≡◌, ◌+◌, ◌*◌, List, [], ◌∷◌, String, codes, decimal, flat_map, length, map}
+use Rattle.std.specs.Prelude.{option_map}
 use Rattle.std.specs.Prelude.{string_bytes}
 use Rattle.std.specs.Global.{Global}
 use Rattle.std.specs.Str.Lines.{lines}
@@ -12,6 +13,7 @@ use Rattle.rv_event.specs.declared.memory_model.MemoryModel.{MemoryModel}
 use Rattle.rv_explain.specs.Explaining.{IsExplanation}
 use Rattle.rv_explain.specs.Faults.{malformed_text}
 use Rattle.rv_explain.specs.Layout.{greater, widest}
+use Rattle.rv_explain.specs.RowTexts.{Said}
 use Rattle.rv_explain.specs.Showing.{IsShown}
 use Rattle.rv_explain.specs.Telling.{cause_text, headline_text}
 use Rattle.rv_explain.specs.declared.explanation.Explanation.{Explanation}
@@ -96,27 +98,28 @@ page_text lines =
     head_text (48 + 8 * widest lines) (44 + 18 * length lines) ⋯ numbered line_text 0 lines ⋯ codes "</svg>\n"
 
 -- of a forbidden log its explanation
-pub record IsForbiddenPicture (names : List (String Global)) (f : Refusal) (text : List ℕ) : Type 0 where
+pub record IsForbiddenPicture (names : List (String Global)) (texts : Said) (f : Refusal) (text : List ℕ) : Type 0 where
   pub explanation : Explanation
-  pub is_one : IsExplanation f explanation
+  pub is_one : IsExplanation f texts explanation
   pub bytes : text ≡ plan_text (plan_of f.model names explanation)
 
--- of a malformed one what is wrong with its last event
-pub record IsMalformedPicture (names : List (String Global)) (m : FaultyLog) (text : List ℕ) : Type 0 where
+-- of a malformed one what is wrong with its last event, with what is said of its row as XML has that
+pub record IsMalformedPicture (names : List (String Global)) (texts : Said) (m : FaultyLog)
+    (text : List ℕ) : Type 0 where
   pub refused : Shown
-  pub is_shown : IsShown m.evidence refused
+  pub is_shown : IsShown m.evidence (λ source row. option_map xml_text (texts source row)) refused
   pub is_last : refused.place + 1 ≡ length m.evidence
   pub bytes : text ≡ page_text (lines (malformed_text names refused m.fault))
 
 -- and of an allowed one its report
-abbrev pub IsPictureOf : List (String Global) → Outcome → List ℕ → Type 0
-IsPictureOf names (outcome.Allowed events operations waiting) text =
+abbrev pub IsPictureOf : List (String Global) → Said → Outcome → List ℕ → Type 0
+IsPictureOf names texts (outcome.Allowed events operations waiting) text =
     text ≡ page_text (lines (report_text (outcome.Allowed events operations waiting)))
-IsPictureOf names (outcome.Forbidden f) text = IsForbiddenPicture names f text
-IsPictureOf names (outcome.Malformed m) text = IsMalformedPicture names m text
+IsPictureOf names texts (outcome.Forbidden f) text = IsForbiddenPicture names texts f text
+IsPictureOf names texts (outcome.Malformed m) text = IsMalformedPicture names texts m text
 
 -- the picture of an outcome, with the sources' names as XML has them
-pub record IsPicture (names : List (String Global)) (o : Outcome) (text : List ℕ) : Type 0 where
+pub record IsPicture (names : List (String Global)) (texts : Said) (o : Outcome) (text : List ℕ) : Type 0 where
   pub shown : List (String Global)
   pub spelled : map string_bytes shown ≡ map xml_text (map string_bytes names)
-  pub picture : IsPictureOf shown o text
+  pub picture : IsPictureOf shown texts o text

@@ -1,17 +1,19 @@
 -- The boxes of a picture, byte by byte. The format is this project's own, within SVG.
 use Rattle.std.specs.Prelude.{ℕ, ◌+◌, ◌*◌, ◌==◌, List, [], ◌∷◌, Bool, true, false, String, codes, decimal, flat_map}
-use Rattle.std.specs.Prelude.{if◌then◌else◌, nat_lt}
+use Rattle.std.specs.Prelude.{if◌then◌else◌, nat_lt, option_map}
 use Rattle.std.specs.Global.{Global}
+use Rattle.std.specs.Option.{option_copied}
 use Rattle.rv_event.specs.Texts.{◌⋯◌}
 use Rattle.rv_event.specs.declared.event.Op.{Op}
 use Rattle.rv_event.specs.declared.event.Op.TheVariants.{Load, Store, Lr, Sc, ScFailed, Amo, Branch, Carrier}
 use Rattle.rv_event.specs.declared.event.Op.TheVariants.{Fence, FenceTso}
 use Rattle.rv_explain.specs.Layout.{widest}
-use Rattle.rv_explain.specs.Telling.{id_cell, place_cell}
+use Rattle.rv_explain.specs.Telling.{id_cell, place_cell, said_text}
 use Rattle.rv_explain.specs.Wording.{deed_text}
 use Rattle.rv_explain.specs.declared.shown.Column.{Column}
 use Rattle.rv_explain.specs.declared.shown.Shown.{Shown}
 use Rattle.rv_picture.specs.Measures.{box_left, box_top}
+use Rattle.rv_picture.specs.Escaping.{xml_text}
 use Rattle.rv_picture.specs.Numbering.{numbered}
 use Rattle.rv_picture.specs.declared.grid.Spot.{Spot}
 
@@ -21,9 +23,10 @@ unfoldable pub heading_text : List (String Global) → ℕ → Shown → List �
 heading_text names refused s =
     id_cell s ⋯ codes ", " ⋯ place_cell names s ⋯ (if s.place == refused then codes ", refused" else [])
 
--- its second line: what the event does
+-- its second line: what the event does, and what is said of its row, as XML has that
 abbrev pub deed_of : Shown → List ℕ
-deed_of s = deed_text s.entry.now.event.op s.entry.now.event
+deed_of s =
+    deed_text s.entry.now.event.op s.entry.now.event ⋯ said_text (option_map xml_text (option_copied s.text))
 
 abbrev pub event_texts : List (String Global) → ℕ → Shown → List (List ℕ)
 event_texts names refused s = heading_text names refused s ∷ deed_of s ∷ []

@@ -1,5 +1,8 @@
 //! The picture of an outcome.
-ghost use Rattle.std.specs.Prelude.{◌≡◌, ◌++◌, IfOk, OnOk, flat_map, length, map, string_bytes};
+ghost use Rattle.std.specs.Prelude.{◌≡◌, ◌++◌, IfOk, OnOk, flat_map, length, map, option_map, string_bytes};
+ghost use Rattle.std.specs.Option.{option_copied};
+ghost use Rattle.rv_explain.specs.RowTexts.{said_by};
+ghost use Rattle.rv_picture.specs.Escaping.{xml_text};
 ghost use Rattle.rv_explain.specs.Layout.{greater};
 ghost use Rattle.rv_picture.specs.Arrows.{label_text, path_text};
 ghost use Rattle.rv_picture.specs.Numbering.{numbered};
@@ -10,14 +13,15 @@ ghost use Rattle.rv_picture.specs.Pictures.{plan_text, plan_width, title_text};
 ghost use Rattle.rv_picture.specs.Drawings.{plan_in};
 
 use crate::arrow::{Arrow, Label, Path, arrows_of};
-use crate::escape::{lines_of, xml_texts};
+use crate::escape::{lines_of, xml_text, xml_texts};
 use crate::grid::{Grid, top};
 use crate::page::{Head, Size, push_lines};
 use crate::tile::{Scene, grid_of, push_columns};
 use rv_cert::{Forbidden, Malformed};
 use rv_event::{MemoryModel, NoMemory};
 use rv_explain::{
-    Column, Explanation, explain, headline, malformed_text, push_cause, refused_of, widest,
+    Column, Explanation, RowTexts, Shown, Sources, explain, headline, malformed_text, push_cause,
+    refused_of, widest,
 };
 use rv_report::{Outcome, report_text};
 use std::alloc::Global;
@@ -195,10 +199,11 @@ fn explanation_picture(
 {
     let columns = explanation.columns.as_slice();
     let scene = Scene {
+        alloc,
         names,
         refused: explanation.refused.place,
     };
-    let grid = grid_of(alloc, scene, columns)?;
+    let grid = grid_of(scene, columns)?;
     let arrows = arrows_of(alloc, columns, &explanation.cause)?;
     let title = headline(alloc, model, names, &explanation.refused)?;
     let title = lines_of(alloc, title.as_str())?;
@@ -238,42 +243,75 @@ fn page(alloc: Global, text: &str) -> Result<String, NoMemory>
 fn forbidden_picture(
     alloc: Global,
     names: &[String],
+    texts: &RowTexts,
     forbidden: &Forbidden,
 ) -> Result<String, NoMemory>
-    ensures { IfOk result (λ text. IsForbiddenPicture names.now forbidden.now (string_bytes text)) }
+    ensures { IfOk result (λ text. IsForbiddenPicture
+        names.now (said_by texts.now) forbidden.now (string_bytes text)) }
 {
-    let explanation = explain(alloc, forbidden)?;
+    let explanation = explain(alloc, forbidden, texts)?;
     explanation_picture(alloc, forbidden.model(), names, &explanation)
+}
+
+/// What is said of a row as XML has it, if anything is.
+fn xml_said(alloc: Global, said: Option<&str>) -> Result<Option<String>, NoMemory>
+    ensures { IfOk result (λ text. option_map string_bytes text ≡ option_map xml_text (option_copied said.entry)) }
+{
+    match said {
+        Some(text) => Ok(Some(xml_text(alloc, text)?)),
+        None => Ok(None),
+    }
+}
+
+/// The event with this text of its row.
+fn with_text<'a>(shown: Shown<'a>, said: &'a Option<String>) -> Shown<'a>
+    ensures entry { result.entry.now ≡ shown.entry.entry.now }
+    ensures place { result.place ≡ shown.entry.place }
+    ensures row { result.row ≡ shown.entry.row }
+    ensures text { option_copied result.text ≡ option_map string_bytes said.now }
+{
+    let text = match said {
+        Some(text) => Some(text.as_str()),
+        None => None,
+    };
+    Shown { text, ..shown }
 }
 
 /// The picture of a malformed log, by names as XML has them.
 fn malformed_picture(
     alloc: Global,
     names: &[String],
+    texts: &RowTexts,
     malformed: &Malformed,
 ) -> Result<String, NoMemory>
-    ensures { IfOk result (λ text. IsMalformedPicture names.now malformed.now (string_bytes text)) }
+    ensures { IfOk result (λ text. IsMalformedPicture
+        names.now (said_by texts.now) malformed.now (string_bytes text)) }
 {
-    let refused = refused_of(malformed.evidence());
+    let refused = refused_of(malformed.evidence(), texts);
+    let said = xml_said(alloc, refused.text)?;
+    let refused = with_text(refused, &said);
     let text = malformed_text(alloc, names, &refused, malformed.fault())?;
     page(alloc, text.as_str())
 }
 
 /// The picture of an outcome, as SVG: of a refusal its events in a column for each hart, an arrow
 /// for each step of the certificate, and the steps in words; of a malformed log what is wrong with
-/// its last event; of an allowed one its report. `names` are those of the sources, in order.
+/// its last event; of an allowed one its report.
 ///
 /// It costs what [`explain`] costs, and for each step a pass over the column of each of its events.
 ///
 /// # Errors
 /// Memory ran out; the outcome stays as it is.
-pub fn picture(alloc: Global, names: &[String], outcome: &Outcome) -> Result<String, NoMemory>
-    ensures { IfOk result (λ text. IsPicture names.now outcome.now (string_bytes text)) }
+pub fn picture(alloc: Global, sources: Sources<'_>, outcome: &Outcome) -> Result<String, NoMemory>
+    ensures { IfOk result (λ text. IsPicture
+        sources.entry.names.now (said_by sources.entry.texts.now) outcome.now (string_bytes text)) }
 {
-    let shown = xml_texts(alloc, names)?;
+    let texts = sources.texts;
+    let names = xml_texts(alloc, sources.names)?;
+    let names = names.as_slice();
     match outcome {
         Outcome::Allowed { .. } => page(alloc, report_text(alloc, outcome)?.as_str()),
-        Outcome::Forbidden(forbidden) => forbidden_picture(alloc, shown.as_slice(), forbidden),
-        Outcome::Malformed(malformed) => malformed_picture(alloc, shown.as_slice(), malformed),
+        Outcome::Forbidden(forbidden) => forbidden_picture(alloc, names, texts, forbidden),
+        Outcome::Malformed(malformed) => malformed_picture(alloc, names, texts, malformed),
     }
 }

@@ -21,7 +21,10 @@ fn push_char(text: &mut String, character: char) -> Result<(), AllocError>
 
 /// A name as XML has it: its marks are spelled out, and characters that XML has not are question
 /// marks.
-fn xml_text(alloc: Global, name: &str) -> Result<String, NoMemory>
+///
+/// # Errors
+/// Memory ran out.
+pub fn xml_text(alloc: Global, name: &str) -> Result<String, NoMemory>
     ensures { IfOk result (λ text. string_bytes text ≡ xml_text name.now) }
 {
     let mut text = String::new(alloc);

@@ -1,9 +1,10 @@
 //! The boxes of a picture: an event each.
 ghost use Rattle.std.specs.Prelude.{◌≡◌, ◌++◌, IfOk, OnOk, Some, flat_map, map, string_bytes};
 ghost use Rattle.rv_picture.specs.Numbering.{numbered};
-ghost use Rattle.rv_picture.specs.Tiles.{box_width, column_text, column_texts, event_texts, font_text};
+ghost use Rattle.rv_picture.specs.Tiles.{box_width, column_text, column_texts, deed_of, event_texts, font_text};
 ghost use Rattle.rv_picture.specs.Tiles.{hart_text, heading_text, outline_text, stroke_text, tile_in, tile_text};
 
+use crate::escape::xml_text;
 use crate::grid::{Grid, Spot, top};
 use rv_event::{NoMemory, Op};
 use rv_explain::{Column, Deed, Place, Shown, widest};
@@ -14,6 +15,8 @@ use std::fmt::Write as _;
 /// Of whom the boxes are.
 #[derive(Clone, Copy, Debug)]
 pub struct Scene<'a> {
+    /// Where texts are made.
+    pub alloc: Global,
     /// The names of the sources as XML has them, in order.
     pub names: &'a [String],
     /// The place of the refused event in the evidence.
@@ -115,6 +118,22 @@ impl fmt::Display for Font {
     }
 }
 
+/// The second line of a box: what the event does, and what is said of its row.
+fn second_line(alloc: Global, shown: &Shown<'_>) -> Result<String, NoMemory>
+    ensures { IfOk result (λ text. string_bytes text ≡ deed_of shown.now) }
+{
+    let deed = Deed {
+        event: &shown.entry.event,
+    };
+    match shown.text {
+        Some(said) => {
+            let said = xml_text(alloc, said)?;
+            Ok(format!(in alloc; "{deed} [{said}]")?)
+        }
+        None => Ok(deed.to_string(alloc)?),
+    }
+}
+
 /// Adds the box of an event.
 fn push_tile(
     text: &mut String,
@@ -126,22 +145,21 @@ fn push_tile(
     ensures { OnOk result (string_bytes text.new ≡ string_bytes text.old
         ++ tile_text scene.entry.names.now scene.entry.refused grid.width spot shown.now) }
 {
-    let event = &shown.entry.event;
     let outline = Outline {
         grid,
         spot,
         is_refused: shown.place == scene.refused,
-        op: event.op,
+        op: shown.entry.event.op,
     };
     let heading = Heading {
         names: scene.names,
         refused: scene.refused,
         shown: *shown,
     };
-    let deed = Deed { event };
+    let second = second_line(scene.alloc, shown)?;
     write!(text, "{outline}")?;
     writeln!(text, "<text x=\"12\" y=\"18\">{heading}</text>")?;
-    writeln!(text, "<text x=\"12\" y=\"36\">{deed}</text>\n</g>")?;
+    writeln!(text, "<text x=\"12\" y=\"36\">{second}</text>\n</g>")?;
     Ok(())
 }
 
@@ -211,7 +229,6 @@ pub fn push_columns(
 
 /// Adds the texts that stand in the boxes of these events.
 fn push_texts(
-    alloc: Global,
     texts: &mut Vec<String>,
     scene: Scene<'_>,
     events: &[Shown<'_>],
@@ -225,27 +242,20 @@ fn push_texts(
             refused: scene.refused,
             shown: *shown,
         };
-        let deed = Deed {
-            event: &shown.entry.event,
-        };
-        texts.push(heading.to_string(alloc)?)?;
-        texts.push(deed.to_string(alloc)?)?;
+        texts.push(heading.to_string(scene.alloc)?)?;
+        texts.push(second_line(scene.alloc, shown)?)?;
     }
     Ok(())
 }
 
 /// The texts that stand in the boxes of these columns.
-fn texts_of(
-    alloc: Global,
-    scene: Scene<'_>,
-    columns: &[Column<'_>],
-) -> Result<Vec<String>, NoMemory>
+fn texts_of(scene: Scene<'_>, columns: &[Column<'_>]) -> Result<Vec<String>, NoMemory>
     ensures { IfOk result (λ texts. map string_bytes texts.items ≡
         flat_map (column_texts scene.entry.names.now scene.entry.refused) columns.now) }
 {
-    let mut texts = Vec::new(alloc);
+    let mut texts = Vec::new(scene.alloc);
     'columns: for column in columns {
-        push_texts(alloc, &mut texts, scene, column.events.as_slice())?;
+        push_texts(&mut texts, scene, column.events.as_slice())?;
     }
     Ok(texts)
 }
@@ -254,10 +264,10 @@ fn texts_of(
 ///
 /// # Errors
 /// Memory ran out.
-pub fn grid_of(alloc: Global, scene: Scene<'_>, columns: &[Column<'_>]) -> Result<Grid, NoMemory>
+pub fn grid_of(scene: Scene<'_>, columns: &[Column<'_>]) -> Result<Grid, NoMemory>
     ensures { IfOk result (λ grid. grid.width ≡ box_width scene.entry.names.now scene.entry.refused columns.now) }
 {
-    let texts = texts_of(alloc, scene, columns)?;
+    let texts = texts_of(scene, columns)?;
     let longest = widest(texts.as_slice());
     let room = if longest < 1000 { longest as u16 } else { 1000 };
     Ok(Grid {

@@ -16,8 +16,9 @@ use Rattle.rv_run.specs.declared.running.Settings.{Settings}
 use Rattle.rv_cli.specs.Answers.{AnswersTo}
 use Rattle.rv_cli.specs.Asked.{IsInRange}
 use Rattle.rv_cli.specs.declared.request.Asked.{Asked}
-use Rattle.rvmon.specs.Starting.{IsUnopened, IsUnopenedFile, EndsAsked, EndsBy, bytes_asked, form_asked, streams_asked}
+use Rattle.rvmon.specs.Starting.{IsUnopened, IsUnopenedFile, EndsAsked, EndsBy, IsFormAsked, bytes_asked, streams_asked}
 use Rattle.rvmon.specs.declared.ending.Ending.{Ending}
+use Rattle.rvmon.specs.declared.form.Form.{Form}
 use Rattle.rvmon.specs.declared.ending.Ending.TheVariants.{Ran, Failed, Words, NotText, NotOpened}
 
 -- a source for each file; standard input where there is none
@@ -46,12 +47,13 @@ ends_unopened known asked (NotOpened name) h = h
 
 -- an ending of what was asked is one of the words
 pub ends_asked : (known : Text → Option (List ℕ)) (texts : List Text) (asked : Asked) (e : Ending) →
-    AnswersTo texts (Ok asked) → EndsAsked known asked e → EndsBy known texts e (form_asked asked)
-ends_asked known texts asked (Ran o) said h = (asked, said, refl, h)
-ends_asked known texts asked (Failed f) said h = (asked, said, refl, h)
-ends_asked known texts asked (Words f) said h = absurd h
-ends_asked known texts asked NotText said h = absurd h
-ends_asked known texts asked (NotOpened name) said h = (asked, said, refl, h)
+    (form : Form) → AnswersTo texts (Ok asked) → IsFormAsked known asked e form → EndsAsked known asked e →
+    EndsBy known texts e form
+ends_asked known texts asked (Ran o) form said is h = (asked, said, is, h)
+ends_asked known texts asked (Failed f) form said is h = (asked, said, is, h)
+ends_asked known texts asked (Words f) form said is h = absurd h
+ends_asked known texts asked NotText form said is h = absurd h
+ends_asked known texts asked (NotOpened name) form said is h = (asked, said, is, h)
 
 -- a file that does not open is one of the files
 pub unopened_among : (names : List (String Global)) (k : ℕ) (name : String Global) → k < length names →

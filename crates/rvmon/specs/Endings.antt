@@ -4,6 +4,7 @@ use Rattle.std.specs.Global.{Global}
 use Rattle.std.specs.Io.KnownBytes.{Appends}
 use Rattle.rv_event.specs.Texts.{◌⋯◌}
 use Rattle.rv_explain.specs.Outcomes.{IsTold}
+use Rattle.rv_explain.specs.RowTexts.{Said, said_by}
 use Rattle.rv_explain_json.specs.Reports.{IsExplainedLine}
 use Rattle.rv_picture.specs.Pictures.{IsPicture}
 use Rattle.rv_report.specs.Json.{json_text}
@@ -42,24 +43,26 @@ status_of_kind kind.Read = 3
 status_of_kind kind.NoMemory = 3
 
 -- the report as text, and behind it what is told of the outcome
-pub record IsPrintedExplained (names : List (String Global)) (o : Outcome) (old new : Option (List ℕ)) : Type 0 where
+pub record IsPrintedExplained (names : List (String Global)) (texts : Said) (o : Outcome)
+    (old new : Option (List ℕ)) : Type 0 where
   pub told : List ℕ
-  pub is_told : IsTold names o told
+  pub is_told : IsTold names texts o told
   pub appends : Appends old new (report_text o ⋯ told)
 
 -- the picture of the outcome
-pub record IsPrintedPicture (names : List (String Global)) (o : Outcome) (old new : Option (List ℕ)) : Type 0 where
+pub record IsPrintedPicture (names : List (String Global)) (texts : Said) (o : Outcome)
+    (old new : Option (List ℕ)) : Type 0 where
   pub bytes : List ℕ
-  pub is_picture : IsPicture names o bytes
+  pub is_picture : IsPicture names texts o bytes
   pub appends : Appends old new bytes
 
 -- the outcome was printed in this form
 abbrev pub IsPrinted : Form → Outcome → Option (List ℕ) → Option (List ℕ) → Type 0
 IsPrinted Text o old new = Appends old new (report_text o)
 IsPrinted Json o old new = Appends old new (json_text o ⋯ line_feed)
-IsPrinted (JsonExplained names) o old new = IsExplainedLine names.items o old new
-IsPrinted (Explained names) o old new = IsPrintedExplained names.items o old new
-IsPrinted (Picture names) o old new = IsPrintedPicture names.items o old new
+IsPrinted (JsonExplained b) o old new = IsExplainedLine b.names.items (said_by b.texts) o old new
+IsPrinted (Explained b) o old new = IsPrintedExplained b.names.items (said_by b.texts) o old new
+IsPrinted (Picture b) o old new = IsPrintedPicture b.names.items (said_by b.texts) o old new
 
 -- Where the sources were judged: the whole report and the status of the outcome, or status 3. Else
 -- nothing stands on standard output, and the status says whether the input was wrong (2) or

@@ -1,2 +1,3 @@
+pub mod Backings
 pub mod Endings
 pub mod Starting

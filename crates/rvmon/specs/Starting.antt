@@ -1,17 +1,16 @@
 -- How the program comes to its end: which of its steps each ending is of.
 use Rattle.std.specs.Prelude.{◌≡◌, ◌≢◌, ◌⊎◌, ℕ, List, [], ◌∷◌, Option, None, Ok, Err, map, option_map}
-use Rattle.std.specs.Prelude.{String, string_bytes, ⊤, ◌&&◌, if◌then◌else◌}
+use Rattle.std.specs.Prelude.{String, string_bytes, ⊤, true, false}
 use Rattle.std.specs.Global.{Global}
 use Rattle.std.specs.List.{Contains}
 use Rattle.clap.specs.Words.{Text}
 use Rattle.rv_trace.specs.Source.{Stream, bytes_say}
-use Rattle.rv_trace.specs.declared.dialect.Dialect.{Dialect}
-use Rattle.rv_trace.specs.declared.dialect.Dialect.TheVariants.{Plain, Carriers}
 use Rattle.rv_run.specs.Sources.{IsTrueOf, IsFaultAmong}
 use Rattle.rv_run.specs.declared.fault.RunFault.TheVariants as fault
 use Rattle.rv_cli.specs.Answers.{AnswersTo}
 use Rattle.rv_cli.specs.declared.request.Asked.{Asked}
 use Rattle.rv_cli.specs.declared.request.WordsFault.TheVariants as words
+use Rattle.rvmon.specs.Backings.{IsBacking, dialect_asked}
 use Rattle.rvmon.specs.declared.ending.Ending.{Ending}
 use Rattle.rvmon.specs.declared.ending.Ending.TheVariants.{Ran, Failed, Words, NotText, NotOpened}
 use Rattle.rvmon.specs.declared.form.Form.{Form}
@@ -47,10 +46,6 @@ abbrev pub bytes_asked : (Text → Option (List ℕ)) → List (String Global) �
 bytes_asked known [] = None ∷ []
 bytes_asked known (name ∷ names) = map (λ n. known (string_bytes n)) (name ∷ names)
 
--- the dialect of their rows
-abbrev pub dialect_asked : Asked → Dialect
-dialect_asked asked = if asked.carriers then Carriers else Plain
-
 -- what they say
 abbrev pub streams_asked : (Text → Option (List ℕ)) → Asked → List (Option Stream)
 streams_asked known asked = map (option_map (bytes_say (dialect_asked asked))) (bytes_asked known asked.files.items)
@@ -69,19 +64,20 @@ EndsAsked known asked NotText = ⊥
 EndsAsked known asked (NotOpened name) = Contains (map string_bytes asked.files.items) (string_bytes name)
 
 -- the form that is asked for: JSON before a picture, and a picture before an explanation; what is
--- explained or drawn has rows of the files
-abbrev pub form_asked : Asked → Form
-form_asked asked =
-    if asked.json && asked.explain then form.JsonExplained asked.files
-    else if asked.json then form.Json
-    else if asked.svg then form.Picture asked.files
-    else if asked.explain then form.Explained asked.files
-    else form.Text
+-- explained or drawn has what is known of the sources
+abbrev pub IsFormAsked : (Text → Option (List ℕ)) → Asked → Ending → Form → Type 0
+IsFormAsked known asked e form.Text = (asked.json ≡ false) × (asked.svg ≡ false) × (asked.explain ≡ false)
+IsFormAsked known asked e form.Json = (asked.json ≡ true) × (asked.explain ≡ false)
+IsFormAsked known asked e (form.JsonExplained b) =
+    (asked.json ≡ true) × (asked.explain ≡ true) × IsBacking known asked e b
+IsFormAsked known asked e (form.Picture b) = (asked.json ≡ false) × (asked.svg ≡ true) × IsBacking known asked e b
+IsFormAsked known asked e (form.Explained b) =
+    (asked.json ≡ false) × (asked.svg ≡ false) × (asked.explain ≡ true) × IsBacking known asked e b
 
 -- the request of these words ends so, and is printed in this form
 abbrev pub EndsRequest : (Text → Option (List ℕ)) → List Text → Ending → Form → Type 0
 EndsRequest known texts e form =
-    (asked : Asked) × AnswersTo texts (Ok asked) × (form ≡ form_asked asked) × EndsAsked known asked e
+    (asked : Asked) × AnswersTo texts (Ok asked) × IsFormAsked known asked e form × EndsAsked known asked e
 
 -- the ending of a command line: the words are refused, or their request ends so
 abbrev pub EndsBy : (Text → Option (List ℕ)) → List Text → Ending → Form → Type 0

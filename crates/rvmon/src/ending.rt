@@ -1,17 +1,19 @@
 //! How the program ends: what it prints, and with which status.
 ghost use Rattle.std.specs.Prelude.{◌≡◌, ◌⊎◌, OnOk};
+ghost use Rattle.rv_explain.specs.RowTexts.{said_by};
 ghost use Rattle.rvmon.specs.Endings.{IsPrinted, IsPrintedExplained, IsPrintedPicture, IsSettled};
 ghost use Rattle.rvmon.specs.Endings.{status_of, status_of_kind};
 
+use crate::backing::{Backing, Silence};
 use crate::form::Form;
 use clap::Error as ParseError;
 use rv_cli::WordsFault;
-use rv_explain::story;
+use rv_explain::{Sources, story};
 use rv_explain_json::explained_json_line;
 use rv_picture::picture;
 use rv_report::{Outcome, ReportFault, report, report_json_line, write_text};
 use rv_run::RunFault;
-use rv_trace::{FaultKind, TraceFault};
+use rv_trace::{FaultKind, FaultyField, TraceFault};
 use std::alloc::Global;
 use std::io::Write;
 
@@ -88,17 +90,59 @@ pub fn settle<O: Write, E: Write>(
     }
 }
 
+/// What is known of the sources, for explanations.
+fn sources_of(backing: &Backing) -> Sources<'_>
+    ensures names { result.names.now ≡ backing.now.names.items }
+    ensures texts { result.texts.now ≡ backing.now.texts }
+{
+    Sources {
+        names: backing.names.as_slice(),
+        texts: &backing.texts,
+    }
+}
+
+/// What is known of the sources, where the form has it.
+fn backing_in(form: &Form) -> Option<&Backing> {
+    match form {
+        Form::JsonExplained(backing) | Form::Explained(backing) | Form::Picture(backing) => {
+            Some(backing)
+        }
+        Form::Text | Form::Json => None,
+    }
+}
+
+/// Writes why the file that was to tell where rows come from does not tell it.
+fn tell_silence<E: Write>(errors: &mut E, form: &Form) {
+    let Some(backing) = backing_in(form) else {
+        return;
+    };
+    let (Some(name), Some(silence)) = (&backing.where_file, &backing.silence) else {
+        return;
+    };
+    match silence {
+        Silence::Unopened => {
+            let _ = writeln!(errors, "rvmon: cannot read {name}, which --where names");
+        }
+        Silence::Fault(fault) => {
+            let line = fault.line;
+            let kind = fault.kind;
+            let _ = writeln!(errors, "{name}:{line}: {kind}");
+        }
+    }
+}
+
 /// Writes the report of an outcome, and behind it why an event was refused.
 fn report_explained<O: Write>(
     alloc: Global,
     out: &mut O,
     outcome: &Outcome,
-    names: &[String],
+    sources: Sources<'_>,
 ) -> Result<(), ReportFault>
     ensures { OnOk result
-        (IsPrintedExplained names.now outcome.now (O.contents out.old) (O.contents out.new)) }
+        (IsPrintedExplained sources.entry.names.now (said_by sources.entry.texts.now) outcome.now
+        (O.contents out.old) (O.contents out.new)) }
 {
-    let told = story(alloc, names, outcome)?;
+    let told = story(alloc, sources, outcome)?;
     match report(alloc, out, outcome) {
         Ok(()) => write_text(out, told.as_str()),
         Err(fault) => Err(fault),
@@ -110,12 +154,13 @@ fn write_picture<O: Write>(
     alloc: Global,
     out: &mut O,
     outcome: &Outcome,
-    names: &[String],
+    sources: Sources<'_>,
 ) -> Result<(), ReportFault>
     ensures { OnOk result
-        (IsPrintedPicture names.now outcome.now (O.contents out.old) (O.contents out.new)) }
+        (IsPrintedPicture sources.entry.names.now (said_by sources.entry.texts.now) outcome.now
+        (O.contents out.old) (O.contents out.new)) }
 {
-    let text = picture(alloc, names, outcome)?;
+    let text = picture(alloc, sources, outcome)?;
     write_text(out, text.as_str())
 }
 
@@ -134,10 +179,13 @@ fn settle_outcome<O: Write, E: Write>(
     let written = match form {
         Form::Text => report(alloc, out, outcome),
         Form::Json => report_json_line(alloc, out, outcome),
-        Form::JsonExplained(names) => explained_json_line(alloc, out, names.as_slice(), outcome),
-        Form::Explained(names) => report_explained(alloc, out, outcome, names.as_slice()),
-        Form::Picture(names) => write_picture(alloc, out, outcome, names.as_slice()),
+        Form::JsonExplained(backing) => {
+            explained_json_line(alloc, out, sources_of(backing), outcome)
+        }
+        Form::Explained(backing) => report_explained(alloc, out, outcome, sources_of(backing)),
+        Form::Picture(backing) => write_picture(alloc, out, outcome, sources_of(backing)),
     };
+    tell_silence(errors, form);
     match written {
         Ok(()) => status_of(outcome),
         Err(fault) => {
@@ -184,7 +232,27 @@ fn name_of(names: &[String], source: u8) -> &str {
     }
 }
 
-/// Writes the line of a source's fault, and a second one in words where an explanation is asked for.
+/// How many bytes of a field are told.
+const FIELD_TOLD: usize = 40;
+
+/// Writes the field that has a fault, behind the words for it.
+fn tell_field<E: Write>(errors: &mut E, field: &FaultyField) {
+    let column = field.column;
+    let text = field.text.as_slice();
+    match text.get(..FIELD_TOLD) {
+        Some(start) if start.len() < text.len() => {
+            let start = start.escape_ascii();
+            let _ = write!(errors, ": {column} begins with \"{start}\"");
+        }
+        _ => {
+            let whole = text.escape_ascii();
+            let _ = write!(errors, ": {column} is \"{whole}\"");
+        }
+    }
+}
+
+/// Writes the line of a source's fault, and a second one in words where an explanation is asked
+/// for.
 fn settle_trace<E: Write>(errors: &mut E, form: &Form, source: u8, fault: TraceFault) -> u8
     ensures { result ≡ status_of_kind fault.kind }
 {
@@ -195,9 +263,13 @@ fn settle_trace<E: Write>(errors: &mut E, form: &Form, source: u8, fault: TraceF
         errors,
         "rvmon: source {source} row {row}: trace fault {number}"
     );
-    if let Form::Explained(names) | Form::JsonExplained(names) | Form::Picture(names) = form {
-        let name = name_of(names.as_slice(), source);
-        let _ = writeln!(errors, "{name}:{row}: {kind}");
+    if let Some(backing) = backing_in(form) {
+        let name = name_of(backing.names.as_slice(), source);
+        let _ = write!(errors, "{name}:{row}: {kind}");
+        if let Some(field) = &backing.field {
+            tell_field(errors, field);
+        }
+        let _ = writeln!(errors);
     }
     match fault.kind {
         FaultKind::Read | FaultKind::NoMemory => FAILED,

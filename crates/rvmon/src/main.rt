@@ -2,6 +2,8 @@
 //!
 //! - `words`: the words of the command line, as texts.
 //! - `opening`: the sources, from the names of their files.
+//! - [`backing`]: what is known of the sources beside their events: their names, what a file says
+//!   of their rows, the field of a fault.
 //! - [`form`]: whether the report is text, text with an explanation, a picture, or JSON with
 //!   an explanation or without.
 //! - [`ending`]: what is printed, and the exit status.
@@ -9,16 +11,16 @@
 //!
 //! It stands on `rv_cli` for its words, on `rv_pipe` for sources that may be silent, on `rv_run`
 //! for the judgement, on `rv_report` for the reports, on `rv_explain` for what is said
-//! behind them, on `rv_picture` for pictures, on the crates whose types these name, and on
-//! the kit's `clap` and `either`. Its one contract: each ending is of the step that it names, and a
-//! report is that of an outcome of the sources.
+//! behind them, on `rv_where` for what a file says of rows, on `rv_picture` for pictures, on the
+//! crates whose types these name, and on the kit's `clap` and `either`. Its one contract: each
+//! ending is of the step that it names, and a report is that of an outcome of the sources.
 #![tactic(auto)]
 
 ghost use Rattle.clap.specs.Walk.{texts};
-ghost use Rattle.std.specs.Prelude.{◌≡◌};
 ghost use Rattle.rv_cli.specs.Asked.{IsInRange};
-ghost use Rattle.rvmon.specs.Starting.{EndsAsked, EndsBy, IsEnd, dialect_asked, nothing_known};
+ghost use Rattle.rvmon.specs.Starting.{EndsAsked, EndsBy, IsEnd, nothing_known};
 
+mod backing;
 mod ending;
 mod form;
 #[cfg(test)]
@@ -28,29 +30,18 @@ mod opening;
 mod tests;
 mod words;
 
+use backing::dialect_of;
 use ending::{Ending, settle};
 use form::{Form, form_of};
 use opening::{Opened, Opener, SystemFiles, first_unopened, open_all};
 use rv_cli::{Asked, asked};
 use rv_pipe::Bell;
 use rv_run::{Reading, RunFault, Settings, run_reading};
-use rv_trace::Dialect;
 use std::io;
 use std::process::ExitCode;
 use std::sync::{Arc, Wait};
 use std::thread::Threads;
 use words::{texts_of, words_of};
-
-/// Which rows the sources may have that are asked for.
-fn dialect_of(asked: &Asked) -> Dialect
-    ensures { result ≡ dialect_asked asked.now }
-{
-    if asked.carriers {
-        Dialect::Carriers
-    } else {
-        Dialect::Plain
-    }
-}
 
 /// What comes of a request. Its files are those of the opener, and are judged in threads of the
 /// second handle. A source that may be silent is read in a thread that is left behind where the
@@ -102,7 +93,8 @@ fn answer_words<RT: Threads + Wait + Sync + Copy + Send + 'static, O: Opener>(
     match asked(rt.alloc(), words) {
         Ok(asked) => {
             let ending = answer(rt, threads, opener, &asked);
-            (ending, form_of(asked))
+            let form = form_of(rt.alloc(), opener, asked, &ending);
+            (ending, form)
         }
         Err(fault) => (Ending::Words(fault), Form::Text),
     }

@@ -45,7 +45,7 @@ pub(crate) enum Fault {
 }
 
 /// Why the rows end early.
-#[derive(Debug, Drop)]
+#[derive(Drop)]
 pub(crate) enum Stop {
     /// The log has a fault in this row.
     Fault(u64, Fault),

@@ -6,7 +6,7 @@ use crate::sink::Sink;
 use rv_book::{Book, Offer};
 use rv_cert::{Certificate, Forbidden, Malformed};
 use rv_event::{Entry, Event, Id, MemoryModel, NoMemory};
-use rv_explain::story;
+use rv_explain::{RowTexts, Sources, story};
 use rv_picture::picture;
 use rv_report::{Outcome, report, write_text};
 use std::alloc::{AllocError, Global};
@@ -31,12 +31,14 @@ pub(crate) struct Told {
 }
 
 /// What came of a log.
-#[derive(Debug, Drop)]
+#[derive(Drop)]
 pub(crate) struct Judgement {
     /// What the rows come to.
     pub(crate) outcome: Outcome,
     /// Where the rows that it tells come from.
     told: Vec<Told>,
+    /// The same of each row, where it is explained.
+    texts: RowTexts,
 }
 
 /// A judge of rows.
@@ -46,15 +48,18 @@ pub(crate) struct Judge {
     /// It is large, and moves with each record.
     book: Box<Book>,
     places: Places,
+    /// How its judgement is told.
+    form: Form,
 }
 
 impl Judge {
     /// A judge by this model who has taken no rows.
-    pub(crate) fn new(alloc: Global, model: MemoryModel) -> Result<Judge, AllocError> {
+    pub(crate) fn new(alloc: Global, model: MemoryModel, form: Form) -> Result<Judge, AllocError> {
         Ok(Judge {
             alloc,
             book: Box::new(alloc, Book::new(alloc, model))?,
             places: Places::new(alloc)?,
+            form,
         })
     }
 
@@ -67,7 +72,25 @@ impl Judge {
                 waiting: self.book.waiting(),
             },
             told: Vec::new(self.alloc),
+            texts: RowTexts::new(self.alloc),
         }
+    }
+
+    /// Where each row of the log comes from, where a refusal is explained. Its rows are of one
+    /// source, in its order.
+    fn texts_of(&self, log: &[Entry]) -> Result<RowTexts, AllocError> {
+        let mut texts = RowTexts::new(self.alloc);
+        if self.form == Form::Text {
+            return Ok(texts);
+        }
+        'rows: for place in 0..log.len() {
+            if let Some(from) = self.places.of(log[place].event.id) {
+                let Ok(()) = texts.note(0, place + 1, from.to_string(self.alloc)?) else {
+                    return Err(AllocError);
+                };
+            }
+        }
+        Ok(texts)
     }
 
     /// Adds where a row comes from, if it is not told yet.
@@ -95,9 +118,11 @@ impl Judge {
                 self.tell(&mut told, *store)?;
             }
         }
+        let texts = self.texts_of(forbidden.evidence())?;
         Ok(Judgement {
             outcome: Outcome::Forbidden(forbidden),
             told,
+            texts,
         })
     }
 
@@ -105,9 +130,11 @@ impl Judge {
     fn malformed(&self, malformed: Malformed) -> Result<Judgement, AllocError> {
         let mut told = Vec::new(self.alloc);
         self.tell(&mut told, malformed.refused())?;
+        let texts = self.texts_of(malformed.evidence())?;
         Ok(Judgement {
             outcome: Outcome::Malformed(malformed),
             told,
+            texts,
         })
     }
 }
@@ -165,12 +192,16 @@ pub(crate) fn write_judgement<W: Write>(
     form: Form,
 ) -> Result<(), Stop> {
     let outcome = &judgement.outcome;
+    let sources = Sources {
+        names: &[],
+        texts: &judgement.texts,
+    };
     if form == Form::Picture {
-        return write_made(out, picture(alloc, &[], outcome));
+        return write_made(out, picture(alloc, sources, outcome));
     }
     write_report(alloc, out, judgement)?;
     if form == Form::Explained {
-        return write_made(out, story(alloc, &[], outcome));
+        return write_made(out, story(alloc, sources, outcome));
     }
     Ok(())
 }

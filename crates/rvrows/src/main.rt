@@ -135,7 +135,7 @@ fn write_rows(rt: &HostRuntime, words: &Words) -> Result<u64, Stop> {
 
 /// Judges the rows of the log. It answers what came of them, and how many records were left out.
 fn judge_rows(rt: &HostRuntime, words: &Words) -> Result<(Judgement, u64), Stop> {
-    let judge = Judge::new(rt.alloc(), words.model)?;
+    let judge = Judge::new(rt.alloc(), words.model, words.form)?;
     let (judge, left_out) = translate_log(rt, words, judge)?;
     Ok((judge.allowed(), left_out))
 }

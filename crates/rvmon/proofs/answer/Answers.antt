@@ -6,7 +6,8 @@ use Rattle.rv_run.specs.declared.fault.RunFault.{RunFault}
 use Rattle.rv_run.specs.declared.fault.RunFault.TheVariants as fault
 use Rattle.rv_run.specs.declared.running.Settings.{Settings}
 use Rattle.rv_trace.specs.Source.{Stream}
-use Rattle.rvmon.specs.Starting.{bytes_asked, dialect_asked}
+use Rattle.rvmon.specs.Backings.{dialect_asked}
+use Rattle.rvmon.specs.Starting.{bytes_asked}
 use Rattle.rvmon.specs.declared.ending.Ending.TheVariants.{Failed}
 use Rattle.rvmon.proofs.Ends.{count_asked, ends_unopened, in_range, streams_are}
 use Rattle.rvmon.proofs.answer.Goals as goal

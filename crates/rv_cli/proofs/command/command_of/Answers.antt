@@ -1,10 +1,8 @@
-use Rattle.rv_cli.proofs.Common.{rules, ap₂, ◌≡◌, ◌∙◌, IfOk-weaker, with_rule, bare_app}
-use Rattle.clap.specs.Words.{app_of}
+use Rattle.rv_cli.proofs.Common.{ap₂, ◌∙◌, IfOk-weaker, with_rule}
 use Rattle.rv_cli.proofs.command.command_of.Goals as goal
 
 pub returns : goal.returns
 returns c =
-    let bare : app_of c.after_help.result ≡ bare_app = search rules in
     let workers = c.workers_arg.ensures in
     let slots = c.slots_arg.ensures in
     let model = c.model_arg.ensures in
@@ -12,16 +10,18 @@ returns c =
     let carriers = c.carriers_arg.ensures in
     let explain = c.explain_arg.ensures in
     let svg = c.svg_arg.ensures in
+    let places = c.where_arg.ensures in
     let files = c.files_arg.ensures in
-    let one = c.in_ok-arg.ensures.shape workers.local ∙ ap₂ with_rule bare workers.rule in
+    let one = c.in_ok-arg.ensures.shape workers.local ∙ ap₂ with_rule c.bare_command.ensures workers.rule in
     let two = c.in_ok-arg-2.ensures.shape slots.local ∙ ap₂ with_rule one slots.rule in
     let three = c.in_ok-arg-3.ensures.shape model.local ∙ ap₂ with_rule two model.rule.2 in
     let four = c.in_ok-arg-4.ensures.shape json.local ∙ ap₂ with_rule three json.rule in
     let five = c.in_ok-arg-5.ensures.shape carriers.local ∙ ap₂ with_rule four carriers.rule in
     let six = c.in_ok-arg-6.ensures.shape explain.local ∙ ap₂ with_rule five explain.rule in
     let seven = c.in_ok-arg-7.ensures.shape svg.local ∙ ap₂ with_rule six svg.rule in
-    IfOk-weaker c.arg-8.result _ _ (λ r added. (
+    let eight = c.in_ok-arg-8.ensures.shape places.local ∙ ap₂ with_rule seven places.rule in
+    IfOk-weaker c.arg-9.result _ _ (λ r added. (
       model.rule.0,
       model.rule.1,
-      added.shape files.local ∙ ap₂ with_rule seven files.rule,
-    )) c.arg-8.ensures
+      added.shape files.local ∙ ap₂ with_rule eight files.rule,
+    )) c.arg-9.ensures

@@ -3,6 +3,7 @@ use Rattle.rv_event.specs.Log.{events}
 use Rattle.rv_event.specs.declared.event.Entry.{Entry}
 use Rattle.rv_explain.proofs.Causes.{cause-some}
 use Rattle.rv_explain.proofs.Shows.{shown-hart}
+use Rattle.rv_explain.specs.RowTexts.{said_by}
 use Rattle.rv_explain.specs.Explaining.{IsCauseOf}
 use Rattle.rv_explain.proofs.explanation.explain.Goals as goal
 
@@ -13,6 +14,6 @@ refused_of-refused-requires c =
     (sym c.evidence-log.ensures.value) c.in_ok-cause.ensures)
 
 pub columns_of-requires : goal.columns_of-requires
-columns_of-requires c = shown-hart c.evidence-log.result.now c.args.forbidden.now.evidence c.as_slice.result.now
-    c.in_ok-shown.shown.items c.as_slice-2.result.now c.evidence-log.ensures.well_formed c.evidence-log.ensures.value
-    c.as_slice-2.ensures.value c.in_ok-shown.ensures
+columns_of-requires c = shown-hart c.evidence-log.result.now c.args.forbidden.now.evidence
+    (said_by c.args.texts.now) c.as_slice.result.now c.in_ok-shown.shown.items c.as_slice-2.result.now
+    c.evidence-log.ensures.well_formed c.evidence-log.ensures.value c.as_slice-2.ensures.value c.in_ok-shown.ensures

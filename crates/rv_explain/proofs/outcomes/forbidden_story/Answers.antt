@@ -9,6 +9,6 @@ returns c = record {
   explanation = c.in_ok-explanation.explanation;
   is_one = c.in_ok-explanation.ensures;
   bytes = c.in_ok-format.ensures.ok ∙ ap (λ (text : List ℕ). codes "\n" ⋯ text) (c.in_ok-text.ensures
-      ∙ ap (λ (m : MemoryModel). explanation_text m c.args.names.now c.in_ok-explanation.explanation)
+      ∙ ap (λ (m : MemoryModel). explanation_text m c.args.sources.names.now c.in_ok-explanation.explanation)
       c.model-model.ensures);
 }

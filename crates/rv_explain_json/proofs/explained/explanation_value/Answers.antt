@@ -1,4 +1,4 @@
-use Rattle.std.proofs.Common.{◌≡◌, ◌∙◌, ap, map, sym}
+use Rattle.std.proofs.Common.{◌∙◌, ap, map, sym}
 use Rattle.std.proofs.lemmas.Result.{IfOk-weaker}
 use Rattle.serde_json.specs.View.{items_of}
 use Rattle.rv_explain.specs.declared.explanation.Cause.{Cause}
