@@ -42,12 +42,18 @@ fn every_option_is_read(rt: HostRuntime) -> Result<(), Fail> {
         "--model",
         "tso",
         "--json",
+        "--where",
+        "rows.csv",
         "a.csv",
     ];
     let asked = asked(rt.alloc(), words.as_slice())?;
     assert_eq!(rt; (asked.workers, asked.slots), (3, 5));
     assert_eq!(rt; asked.model, MemoryModel::Ztso);
     assert!(rt; asked.json);
+    let Some(name) = &asked.where_file else {
+        return Err("no file tells where rows come from")?;
+    };
+    assert_eq!(rt; name.as_str(), "rows.csv");
     assert!(rt; has_files(&asked, &["a.csv"]));
     Ok(())
 }
