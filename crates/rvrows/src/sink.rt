@@ -18,6 +18,10 @@ pub(crate) trait Sink {
     fn pause(&mut self) -> Result<(), Stop>;
 }
 
+/// How many rows are kept before they are written. So many lines are fewer bytes than a buffered
+/// writer keeps, which so writes whole lines alone.
+const ROWS_KEPT: u32 = 32;
+
 /// A file that tells where rows come from.
 #[derive(Drop)]
 pub(crate) struct PlaceFile<F: Write + Drop> {
@@ -63,18 +67,25 @@ impl<F: Write + Drop> PlaceFile<F> {
     }
 }
 
-/// The rows as a trace.
+/// The rows as a trace. Where a row comes from is written before the row: who reads a row finds
+/// that in the file, in a whole line.
 #[derive(Drop)]
 pub(crate) struct TraceFile<W: Write + Drop, F: Write + Drop> {
     out: W,
     places: Option<PlaceFile<F>>,
+    /// How many rows are not written yet.
+    kept: u32,
 }
 
 impl<W: Write + Drop, F: Write + Drop> TraceFile<W, F> {
     /// A trace without rows: its header is written.
     pub(crate) fn new(mut out: W, places: Option<PlaceFile<F>>) -> Result<TraceFile<W, F>, Stop> {
         writeln!(out, "hart,seq,op,word,read,wrote,ann,deps")?;
-        Ok(TraceFile { out, places })
+        Ok(TraceFile {
+            out,
+            places,
+            kept: 0,
+        })
     }
 }
 
@@ -87,18 +98,23 @@ impl<W: Write + Drop, F: Write + Drop> Sink for TraceFile<W, F> {
     }
 
     fn take(&mut self, row: Event) -> Result<(), Stop> {
-        writeln!(self.out, "{row}")?;
-        match &mut self.places {
-            Some(file) => file.take(&row),
-            None => Ok(()),
+        if let Some(file) = &mut self.places {
+            file.take(&row)?;
         }
+        writeln!(self.out, "{row}")?;
+        self.kept = self.kept.saturating_add(1);
+        if self.kept < ROWS_KEPT {
+            return Ok(());
+        }
+        self.pause()
     }
 
     fn pause(&mut self) -> Result<(), Stop> {
-        self.out.flush()?;
-        match &mut self.places {
-            Some(file) => file.flush(),
-            None => Ok(()),
+        if let Some(file) = &mut self.places {
+            file.flush()?;
         }
+        self.out.flush()?;
+        self.kept = 0;
+        Ok(())
     }
 }
