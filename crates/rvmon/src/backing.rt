@@ -96,6 +96,20 @@ fn texts_asked<O: Opener>(
     }
 }
 
+/// Whether a fault is one of a field, and not of the header, of a whole row or of reading.
+fn is_of_field(kind: FaultKind) -> bool {
+    matches!(
+        kind,
+        FaultKind::Number
+            | FaultKind::Op
+            | FaultKind::Missing
+            | FaultKind::NotBlank
+            | FaultKind::Annotation
+            | FaultKind::Dependency
+            | FaultKind::TooManyDeps
+    )
+}
+
 /// The name of a source's file, if it has one.
 fn file_of(asked: &Asked, source: u8) -> Option<&String>
     ensures { option_copied result ≡ slice_get asked.now.files.items source }
@@ -120,7 +134,7 @@ fn field_in<O: Opener>(
     }
 }
 
-/// The field that has the fault of a source, where its file can be read again.
+/// The field that has the fault of a source, where one has it and the file can be read again.
 fn field_of<O: Opener>(
     alloc: Global,
     opener: &O,
@@ -132,6 +146,9 @@ fn field_of<O: Opener>(
     let Ending::Failed(RunFault::Trace { source, fault }) = ending else {
         return None;
     };
+    if !is_of_field(fault.kind) {
+        return None;
+    }
     match file_of(asked, *source) {
         Some(name) => field_in(alloc, opener, name, dialect_of(asked), fault.row),
         None => None,
