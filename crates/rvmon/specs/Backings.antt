@@ -1,8 +1,7 @@
 -- What is known of the sources of a request, beside their events.
 use Rattle.std.specs.Prelude.{ℕ, ◌≡◌, ◌⊎◌, Bool, true, false, List, Option, Some, None, String, if◌then◌else◌}
-use Rattle.std.specs.Prelude.{option_map}
+use Rattle.std.specs.Prelude.{⊤, option_map}
 use Rattle.std.specs.Prelude.{IfSome, slice_get, string_bytes}
-use Rattle.std.specs.Option.{IsSome}
 use Rattle.std.specs.Global.{Global}
 use Rattle.clap.specs.Words.{Text}
 use Rattle.rv_trace.specs.Columns.{IsFieldInRow}
@@ -15,10 +14,11 @@ use Rattle.rv_report.specs.declared.outcome.Outcome.TheVariants as outcome
 use Rattle.rv_run.specs.declared.fault.RunFault.{RunFault}
 use Rattle.rv_run.specs.declared.fault.RunFault.TheVariants as fault
 use Rattle.rv_explain.specs.RowTexts.{Said, said_by}
-use Rattle.rv_where.specs.Lines.{AreTextsOf}
+use Rattle.rv_where.specs.Lines.{AreTextsOf, IsFaultOf}
 use Rattle.rv_cli.specs.declared.request.Asked.{Asked}
 use Rattle.rvmon.specs.declared.backing.Backing.{Backing}
 use Rattle.rvmon.specs.declared.backing.Silence.{Silence}
+use Rattle.rvmon.specs.declared.backing.Silence.TheVariants.{Unopened, Fault}
 use Rattle.rvmon.specs.declared.ending.Ending.{Ending}
 use Rattle.rvmon.specs.declared.ending.Ending.TheVariants.{Ran, Failed, Words, NotText, NotOpened}
 
@@ -65,10 +65,22 @@ SaysFile known asked said =
     (name : String Global) × (asked.where_file ≡ Some name)
     × AreTextsOf (option_map text_records (known (string_bytes name))) said
 
--- nothing is said only where no file is asked for, no event was refused, or the file is not to be had
+-- why the file of this name says nothing: it has this first fault, by its bytes where they are known, or
+-- is not to be had
+abbrev pub IsSilenceOf : (Text → Option (List ℕ)) → Text → Silence → Type 0
+IsSilenceOf known name Unopened = ⊤
+IsSilenceOf known name (Fault f) = IsFaultOf (option_map text_records (known name)) f
+
+-- the file that is asked for says nothing, for this reason
+abbrev pub IsSilent : (Text → Option (List ℕ)) → Asked → Option Silence → Type 0
+IsSilent known asked None = ⊥
+IsSilent known asked (Some silence) =
+    (name : String Global) × (asked.where_file ≡ Some name) × IsSilenceOf known (string_bytes name) silence
+
+-- nothing is said only where no file is asked for, no event was refused, or the file says nothing
 abbrev pub HasTexts : (Text → Option (List ℕ)) → Asked → Ending → Said → Option Silence → Type 0
 HasTexts known asked e said silence =
-    (IsNothing said × ((asked.where_file ≡ None) ⊎ ((is_refusal e ≡ false) ⊎ IsSome silence)))
+    (IsNothing said × ((asked.where_file ≡ None) ⊎ ((is_refusal e ≡ false) ⊎ IsSilent known asked silence)))
     ⊎ SaysFile known asked said
 
 -- the names of the files, what is said of rows, and the field of a fault

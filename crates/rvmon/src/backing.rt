@@ -1,11 +1,11 @@
 //! What is known of the sources, beside their events, where a refusal is explained.
-ghost use Rattle.std.specs.Prelude.{◌≡◌, IfOk, IfSome, Some, option_map, slice_get, string_bytes};
+ghost use Rattle.std.specs.Prelude.{◌≡◌, IfErr, IfOk, IfSome, Some, option_map, slice_get, string_bytes};
 ghost use Rattle.std.specs.Option.{option_copied};
 ghost use Rattle.rv_trace.specs.Columns.{IsFieldInRow};
 ghost use Rattle.rv_trace.specs.Source.{text_records};
 ghost use Rattle.rv_explain.specs.RowTexts.{said_by};
 ghost use Rattle.rv_where.specs.Lines.{AreTextsOf};
-ghost use Rattle.rvmon.specs.Backings.{HasTexts, IsBacking, IsFieldOf, dialect_asked, is_refusal};
+ghost use Rattle.rvmon.specs.Backings.{HasTexts, IsBacking, IsFieldOf, IsSilenceOf, dialect_asked, is_refusal};
 
 use crate::ending::Ending;
 use crate::opening::Opener;
@@ -64,8 +64,9 @@ fn is_refusal(ending: &Ending) -> bool
 
 /// The texts that the file of this name has.
 fn texts_in<O: Opener>(alloc: Global, opener: &O, name: &String) -> Result<RowTexts, Silence>
-    ensures { IfOk result (λ t. AreTextsOf
+    ensures texts { IfOk result (λ t. AreTextsOf
         (option_map text_records (O.known opener.now (string_bytes name.now))) (said_by t)) }
+    ensures silence { IfErr result (IsSilenceOf (O.known opener.now) (string_bytes name.now)) }
 {
     match opener.open(name) {
         Ok(Some(file)) => match texts_from(alloc, file) {
