@@ -1,5 +1,5 @@
 -- A book that has taken the first of some events.
-use Rattle.rv_book.proofs.Common.{rules, ◌≡◌, ℕ, ◌<◌, ◌+◌, ◌-◌, List, [], ◌∷◌, ◌++◌, length, sym, arith, refl}
+use Rattle.rv_book.proofs.Common.{rules, ◌≡◌, ℕ, ◌<◌, ◌-◌, List, [], ◌∷◌, ◌++◌, length, sym, arith, refl}
 use Rattle.rv_book.proofs.Common.{take-append_seam, take-append-add, ◌==◌, count_by, length-filter, length-map}
 use Rattle.rv_book.proofs.Common.{append-nil, length-append, length-drop, Event, Entry, Booked, Content}
 use Rattle.rv_book.proofs.Common.{count_of_source, entries_of, StopsAt, IsTurn, rest_of, first_of}

@@ -8,3 +8,4 @@ pub mod ChunkOffers
 pub mod Chunked
 pub mod Tallied
 pub mod Hinted
+pub mod Linked

@@ -4,9 +4,10 @@ ghost use Rattle.std.specs.Prelude.{All, AllPairs, Contains};
 ghost use Rattle.rv_event.specs.Faults.{event_fault, first_faults, lowest};
 ghost use Rattle.rv_event.specs.Operations.{IsMemory};
 ghost use Rattle.rv_event.specs.Orders.{Lawful};
-ghost use Rattle.rv_event.specs.declared.reason.Link.{Link};
-ghost use Rattle.rv_edges.specs.Kept.{happened, grown};
-ghost use Rattle.rv_edges.specs.Histories.{kept_of};
+ghost use Rattle.rv_event.specs.Log.{writer};
+ghost use Rattle.std.specs.Option.{option_map};
+ghost use Rattle.rv_edges.specs.Kept.{happened, grown, links_of};
+ghost use Rattle.rv_edges.specs.Histories.{IsCarried, kept_of};
 ghost use Rattle.rv_book.specs.Adding.{IsRefused};
 ghost use Rattle.rv_book.specs.Arranged.{at, EachLeads, order_of};
 ghost use Rattle.rv_book.specs.Counts.{is_waiting};
@@ -18,7 +19,7 @@ use crate::hints::Hints;
 use crate::nodes::{find_nodes, ids_at, ids_of};
 use rv_cert::{Certificate, Circle, Evidence};
 use rv_edges::{Around, History};
-use rv_event::{Entry, Event, Fault, Id, MemoryModel, NoMemory};
+use rv_event::{Entry, Event, Fault, Id, Link, MemoryModel, NoMemory};
 use rv_rank::{Ranks, Refused};
 use std::alloc::Global;
 use std::marker::Model;
@@ -129,6 +130,21 @@ impl Arrangement {
         event.op.is_load()
             && event.read != 0
             && self.history.writer(event.word, event.read).is_none()
+    }
+
+    /// The name of the store that wrote this version of the word, if the history has it.
+    pub fn writer(&self, word: u32, version: u32) -> Option<Id>
+        ensures { result ≡ option_map (λ w. w.id) (writer (happened self.now.history) word version) }
+    {
+        self.history.writer(word, version)
+    }
+
+    /// The links that the history keeps, one event after the other. It takes no memory.
+    pub fn links(&self) -> &[Link]
+        ensures value { result.now ≡ links_of self.now.history }
+        ensures carried { IsCarried self.now.model self.now.history }
+    {
+        self.history.links()
     }
 
     /// Adds the entry where some order is lawful with its event.

@@ -1,8 +1,10 @@
 //! A well formed log with an order that is lawful for it.
 ghost use Rattle.std.specs.Prelude.{◌≡◌, ◌↔◌, ◌++◌, ◌∷◌, [], ◌<◌, ◌≤◌, ◌+◌, IfOk, OnErr, IsFalse, IsTrue};
 ghost use Rattle.std.specs.Prelude.{length, true};
-ghost use Rattle.rv_book.specs.Counts.{operations_of, waiting_of};
-ghost use Rattle.rv_event.specs.Log.{events};
+ghost use Rattle.std.specs.Option.{option_map};
+ghost use Rattle.rv_book.specs.Counts.{is_waiting, operations_of, waiting_of};
+ghost use Rattle.rv_book.specs.Linked.{AreLinksOf};
+ghost use Rattle.rv_event.specs.Log.{events, writer};
 ghost use Rattle.rv_event.specs.Faults.{fault_of};
 ghost use Rattle.rv_event.specs.Orders.{Lawful};
 ghost use Rattle.rv_event.specs.WellFormed.{WellFormed};
@@ -13,7 +15,7 @@ use crate::evidence::evidence_of;
 use crate::tally::Tally;
 use rv_cert::{Forbidden, Malformed, Verdict};
 use rv_chunk::{Chunk, unpack};
-use rv_event::{Entry, Event, Fault, Id, MemoryModel, NoMemory, find_deps_fault};
+use rv_event::{Entry, Event, Fault, Id, Link, MemoryModel, NoMemory, find_deps_fault};
 use std::alloc::Global;
 use std::marker::Model;
 
@@ -158,6 +160,30 @@ impl Book {
             .iter()
             .filter(|x| arrangement.is_waiting(&x.event))
             .count()
+    }
+
+    /// Whether the event is a load that returned a version above 0 which no store of the log has
+    /// written. It takes no memory, and costs one look-up.
+    pub fn is_waiting(&self, event: &Event) -> bool
+        ensures { result ≡ is_waiting (events self.now.log) event.now }
+    {
+        self.arrangement.is_waiting(event)
+    }
+
+    /// The name of the store that wrote this version of the word, if the log has it. Version 0, the
+    /// initial value, has none. It takes no memory, and costs one look-up.
+    pub fn writer(&self, word: u32, version: u32) -> Option<Id>
+        ensures { result ≡ option_map (λ w. w.id) (writer (events self.now.log) word version) }
+    {
+        self.arrangement.writer(word, version)
+    }
+
+    /// The links by which the book keeps the edges of its log, one entry after the other: each is
+    /// of an edge, and wherever the log has an edge a path of them leads. It takes no memory.
+    pub fn links(&self) -> &[Link]
+        ensures { AreLinksOf self.now.model (events self.now.log) result.now }
+    {
+        self.arrangement.links()
     }
 
     /// The ids of the memory operations, in an order that is lawful for the log.

@@ -1,8 +1,9 @@
 //! The program's command, an argument a function.
 ghost use Rattle.std.specs.Prelude.{◌≡◌, false, IfOk};
 ghost use Rattle.clap.specs.Words.{app_of, rule_of};
-ghost use Rattle.rv_cli.specs.Command.{IsCommand, ListsModels, bare_app, carriers_rule, explain_rule, files_rule};
-ghost use Rattle.rv_cli.specs.Command.{json_rule, model_rule, slots_rule, svg_rule, where_rule, workers_rule};
+ghost use Rattle.rv_cli.specs.Command.{IsCommand, ListsModels, bare_app, carriers_rule, coverage_rule, explain_rule};
+ghost use Rattle.rv_cli.specs.Command.{files_rule, json_rule, model_rule, slots_rule, svg_rule, where_rule};
+ghost use Rattle.rv_cli.specs.Command.{workers_rule};
 
 use crate::help;
 use clap::{Arg, ArgAction, Command, value_parser};
@@ -98,6 +99,17 @@ fn svg_arg<'a>(alloc: Global) -> Arg<'a>
         .help(help::SVG)
 }
 
+/// `--coverage`.
+fn coverage_arg<'a>(alloc: Global) -> Arg<'a>
+    ensures rule { rule_of result ≡ coverage_rule }
+    ensures local { result.global ≡ false }
+{
+    Arg::new(alloc, "coverage")
+        .long("coverage")
+        .action(ArgAction::SetTrue)
+        .help(help::COVERAGE)
+}
+
 /// `--where`.
 fn where_arg<'a>(alloc: Global) -> Arg<'a>
     ensures rule { rule_of result ≡ where_rule }
@@ -142,6 +154,7 @@ pub(crate) fn command_of<'a>(alloc: Global) -> Result<Command<'a>, AllocError>
         .arg(carriers_arg(alloc))?
         .arg(explain_arg(alloc))?
         .arg(svg_arg(alloc))?
+        .arg(coverage_arg(alloc))?
         .arg(where_arg(alloc))?
         .arg(files_arg(alloc))
 }

@@ -29,10 +29,17 @@ pub(crate) const JSON: &str = "Print the report as one line of JSON";
 pub(crate) const CARRIERS: &str = "Take rows I, which stand for the events that they list";
 
 /// On `--explain`.
-pub(crate) const EXPLAIN: &str = "Say behind the report why an event was refused";
+pub(crate) const EXPLAIN: &str = "\
+Say behind the report why an event was refused, or what
+an allowed trace has exercised";
 
 /// On `--svg`.
 pub(crate) const SVG: &str = "Print a picture of the refusal in place of the report";
+
+/// On `--coverage`.
+pub(crate) const COVERAGE: &str = "\
+Count behind an allowed report what of the model the
+trace has exercised";
 
 /// On `--where`.
 pub(crate) const WHERE: &str = "\

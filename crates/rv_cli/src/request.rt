@@ -26,6 +26,8 @@ pub struct Asked {
     pub explain: bool,
     /// Whether a picture is printed in place of the report.
     pub svg: bool,
+    /// Whether all is counted behind the report that an allowed log has exercised.
+    pub coverage: bool,
     /// The name of a file that tells where rows come from, if one is named.
     pub where_file: Option<String>,
     /// The names of the sources' files in the order of the words, at most 8. Standard input is the

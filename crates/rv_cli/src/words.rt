@@ -127,6 +127,7 @@ pub fn asked(alloc: Global, words: &[&str]) -> Result<Asked, WordsFault>
         carriers: flag_in(&matches, "carriers"),
         explain: flag_in(&matches, "explain"),
         svg: flag_in(&matches, "svg"),
+        coverage: flag_in(&matches, "coverage"),
         where_file,
         files,
     })

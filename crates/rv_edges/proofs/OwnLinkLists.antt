@@ -1,7 +1,10 @@
 -- Links of events, in one list, when one event more comes or the last one goes.
 use Rattle.rv_edges.proofs.Common.{common_steps, ◌≡◌, ℕ, ◌+◌, ◌-◌, ◌≤◌, List, [], ◌∷◌, ◌++◌, length, take, drop}
-use Rattle.rv_edges.proofs.Common.{sym, ap, ◌∙◌, arith, length-drop, length-take-le, take-append_seam}
-use Rattle.rv_edges.proofs.Common.{drop-append_seam, take-length, Link, Sides, OwnLinks, total, own_from}
+use Rattle.std.specs.List.{flat_map}
+use Rattle.std.proofs.lemmas.List.{drop-drop, take-append-drop}
+use Rattle.rv_edges.proofs.Common.{refl, sym, ap, ◌∙◌, append_assoc, arith, length-drop, length-take-le}
+use Rattle.rv_edges.proofs.Common.{take-append_seam, drop-append_seam, take-length}
+use Rattle.rv_edges.proofs.Common.{Link, Sides, OwnLinks, total, own_from}
 
 -- one event's links more
 pub total-push : (sides : List Sides) (s : Sides) → total (sides ++ s ∷ []) ≡ total sides + (s.before + s.after)
@@ -92,3 +95,24 @@ module _ (sides : List Sides) (s : Sides) (links : List Link) (same : total (sid
         ∙ ap (λ (ls : List Link). own_from ls (sides ++ sides_of before after ∷ [])) parts
         ∙ own_from-push sides front before after total-front,
   )
+
+-- one event after the other they are all links
+pub flat_map-own_from : (links : List Link) (sides : List Sides) → total sides ≡ length links →
+    flat_map (λ own. own.before ++ own.after) (own_from links sides) ≡ links
+flat_map-own_from [] [] same = refl
+flat_map-own_from (l ∷ links) [] same = absurd (omega (arith, same))
+flat_map-own_from links (s ∷ sides) same =
+    ap (λ (ls : List Link). (take s.before links ++ take s.after (drop s.before links)) ++ ls)
+    (flat_map-own_from (drop (s.before + s.after) links) sides left) ∙ parts-of
+  where
+    left : total sides ≡ length (drop (s.before + s.after) links)
+    left = omega (arith, same, length-drop (s.before + s.after) links)
+
+    parts-of :
+        (take s.before links ++ take s.after (drop s.before links)) ++ drop (s.before + s.after) links ≡ links
+    parts-of = append_assoc (take s.before links) (take s.after (drop s.before links)) (drop (s.before + s.after) links)
+        ∙ ap (λ (ls : List Link). take s.before links ++ ls) inner ∙ take-append-drop s.before links
+      where
+        inner : take s.after (drop s.before links) ++ drop (s.before + s.after) links ≡ drop s.before links
+        inner = ap (λ (ls : List Link). take s.after (drop s.before links) ++ ls)
+            (sym (drop-drop s.after s.before links)) ∙ take-append-drop s.after (drop s.before links)

@@ -1,6 +1,8 @@
 -- Entries and links side by side.
 use Rattle.rv_edges.proofs.Common.{common_steps, ◌≡◌, List, [], ◌∷◌, ◌++◌, length, refl, sym, ap, ◌∙◌, arith}
-use Rattle.rv_edges.proofs.Common.{length-append, Event, OwnLinks, Kept, kept_from, happened}
+use Rattle.std.specs.List.{flat_map}
+use Rattle.rv_edges.proofs.Common.{length-append, Event, Link, OwnLinks, Kept, kept_from, happened}
+use Rattle.rv_edges.specs.Kept.{links_of}
 use Rattle.std.proofs.Common.{rules}
 
 -- an entry with its links
@@ -48,3 +50,12 @@ same_front {X} xs ys x y e = grind (arith, common_steps)
 pub no_sides : (xs : List Event) (ls : List OwnLinks) → xs ≡ [] → ls ≡ [] → (length xs ≡ length ls) ×
     (kept_from xs ls ≡ [])
 no_sides xs ls e f = (ap length e ∙ sym (ap length f), ap (λ (zs : List Event). kept_from zs ls) e)
+
+-- the links of events that are kept side by side with theirs
+pub links_of-kept_from : (xs : List Event) (ls : List OwnLinks) → length xs ≡ length ls →
+    links_of (kept_from xs ls) ≡ flat_map (λ own. own.before ++ own.after) ls
+links_of-kept_from [] [] same = refl
+links_of-kept_from [] (l ∷ ls) same = absurd (omega (arith, same))
+links_of-kept_from (x ∷ xs) [] same = absurd (omega (arith, same))
+links_of-kept_from (x ∷ xs) (l ∷ ls) same =
+    ap (λ (rest : List Link). (l.before ++ l.after) ++ rest) (links_of-kept_from xs ls (omega (arith, same)))

@@ -1,5 +1,6 @@
 -- Events that are kept with links to the events before them.
 use Rattle.std.specs.Prelude.{◌≡◌, ◌⊎◌, ◌++◌, List, [], ◌∷◌, map, Contains, Any}
+use Rattle.std.specs.List.{flat_map}
 use Rattle.rv_event.specs.declared.event.Id.{Id}
 use Rattle.rv_event.specs.declared.event.Event.{Event}
 use Rattle.rv_event.specs.declared.event.Entry.{Entry}
@@ -34,6 +35,10 @@ happened kept = map (λ k. k.event) kept
 -- the events of a history and the new one
 abbrev pub grown : List Kept → Event → List Event
 grown kept e = happened kept ++ e ∷ []
+
+-- the links of events, one event after the other: of each first those from events before it
+abbrev pub links_of : List Kept → List Link
+links_of kept = flat_map (λ k. k.before ++ k.after) kept
 
 -- a link of the event leads from the one id to the other, with this reason
 abbrev pub Joins : Kept → Id → Reason → Id → Type 0

@@ -13,7 +13,7 @@ ghost use Rattle.rv_cover.specs.Thinned.{IsUnsplit, IsNearest};
 ghost use Rattle.rv_hart.specs.Harts.{IsReturned};
 ghost use Rattle.rv_hart.specs.RuleLinks.{AreRuleLinks};
 ghost use Rattle.rv_versions.specs.Reserved.{IsReserved};
-ghost use Rattle.rv_edges.specs.Kept.{Kept, happened, grown, IsTied};
+ghost use Rattle.rv_edges.specs.Kept.{Kept, happened, grown, links_of, IsTied};
 ghost use Rattle.rv_edges.specs.Histories.{IsLinked, IsCarried, kept_of, with_entry, HasOwnEdge, IsStaleOf};
 ghost use Rattle.rv_edges.specs.Indexes.{AreHarts, IsHartIn, hart_in};
 ghost use Rattle.std.specs.Option.{option_copied, option_map};
@@ -180,6 +180,16 @@ impl History {
         ensures indexed { Indexed (happened self.now.kept) }
     {
         self.versions.entries()
+    }
+
+    /// The links that the history keeps, one event after the other. It takes no memory.
+    ///
+    /// Each is of an edge of the history, and wherever it has an edge a path of them leads.
+    pub fn links(&self) -> &[Link]
+        ensures value { result.now ≡ links_of self.now.kept }
+        ensures carried { IsCarried self.now.model self.now.kept }
+    {
+        self.links.all()
     }
 
     /// Adds a copy of the event with its links, as an entry of source 0. The links are as `around`

@@ -1,5 +1,6 @@
 //! Lists of links.
 ghost use Rattle.std.specs.Prelude.{◌≡◌, ◌≢◌, ◌++◌, ◌∷◌, [], IfOk, OnOk, OnErr};
+ghost use Rattle.std.specs.List.{flat_map};
 ghost use Rattle.rv_edges.specs.OwnLinks.{OwnLinks};
 
 use rv_event::{Link, NoMemory};
@@ -74,6 +75,13 @@ impl KeptLinks {
             links: Vec::new(alloc),
             sides: Vec::new(alloc),
         }
+    }
+
+    /// All links, one event after the other. It takes no memory.
+    pub fn all(&self) -> &[Link]
+        ensures { result.now ≡ flat_map (λ own. own.before ++ own.after) self.now }
+    {
+        self.links.as_slice()
     }
 
     /// Adds those of one event more.

@@ -1,13 +1,10 @@
 -- No number of an explanation is a float.
-use Rattle.std.proofs.Common.{rules, ◌≡◌, ◌||◌, ◌∷◌, [], ℕ, List, Bool, false, Option, None, Some, String, map, refl}
+use Rattle.std.proofs.Common.{rules, ◌≡◌, ℕ, List, false, Option, None, Some, String, map, refl}
 use Rattle.std.specs.Borrow.{Bor}
 use Rattle.std.specs.Global.{Global}
 use Rattle.std.specs.Option.{option_copied}
-use Rattle.std.specs.Ordering.{nat_cmp, match_ordering}
-use Rattle.std.specs.Cmp.Lexicographic.{slice_cmp}
-use Rattle.std.specs.declared.cmp.Ordering.{Ordering}
-use Rattle.std.specs.declared.cmp.Ordering.TheVariants.{Less, Equal, Greater}
-use Rattle.serde_json.specs.Data.{Data, Members, member, no_members, null, boolean, number, string, array, object, put}
+use Rattle.rv_report.proofs.Floats.{items-none, neither, put-none}
+use Rattle.serde_json.specs.Data.{Data, null, boolean, number, string, array, object}
 use Rattle.serde_json.specs.View.{items_of}
 use Rattle.serde_json.specs.Written.{has_float, items_have_float, members_have_float}
 use Rattle.rv_event.specs.declared.event.Event.{Event}
@@ -22,42 +19,6 @@ use Rattle.rv_explain_json.specs.Explained.{cause_data, column_data, explanation
 use Rattle.rv_explain_json.specs.Explained.{shown_data, where_member}
 use Rattle.rv_explain_json.specs.Explained.{step_data, witness_data}
 use Rattle.rv_explain_json.specs.Reports.{with_explanation}
-
--- neither of two has one
-neither : (a b : Bool) → a ≡ false → b ≡ false → (a || b) ≡ false
-neither a b p q = rw (p, q) refl
-
--- the second of two has none
-second : (a b : Bool) → (a || b) ≡ false → b ≡ false
-second a b h = search rules
-
--- the first of two has none
-first : (a b : Bool) → (a || b) ≡ false → a ≡ false
-first a b h = search rules
-
--- a list of data that have none
-items-none : {A : Type 0} (f : A → Data) → ((x : A) → has_float (f x) ≡ false) → (xs : List A) →
-    items_have_float (items_of (map f xs)) ≡ false
-items-none f none [] = refl
-items-none f none (x ∷ xs) = neither (has_float (f x)) _ (none x) (items-none f none xs)
-
--- one member of members, or one behind it
-put-at : (k : List ℕ) (d : Data) (l : List ℕ) (e : Data) (ms : Members) (o : Ordering) → has_float d ≡ false →
-    members_have_float (member l e ms) ≡ false → members_have_float (put k d ms) ≡ false →
-    members_have_float (match_ordering o (member k d (member l e ms)) (member l d ms) (member l e (put k d ms)))
-    ≡ false
-put-at k d l e ms Less p q behind = neither (has_float d) _ p q
-put-at k d l e ms Equal p q behind = neither (has_float d) _ p (second (has_float e) (members_have_float ms) q)
-put-at k d l e ms Greater p q behind =
-    neither (has_float e) _ (first (has_float e) (members_have_float ms) q) behind
-
--- members that have none, with one more that has none
-put-none : (k : List ℕ) (d : Data) (ms : Members) → has_float d ≡ false → members_have_float ms ≡ false →
-    members_have_float (put k d ms) ≡ false
-put-none k d no_members p q = neither (has_float d) false p refl
-put-none k d (member l e ms) p q =
-    put-at k d l e ms (slice_cmp nat_cmp k l) p q
-    (put-none k d ms p (second (has_float e) (members_have_float ms) q))
 
 -- a report that has none, with an explanation that has none
 pub with-none : (e d : Data) → has_float e ≡ false → has_float d ≡ false → has_float (with_explanation e d) ≡ false

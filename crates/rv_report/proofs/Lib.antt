@@ -1,4 +1,5 @@
 mod Circles
+pub mod Floats
 mod JsonEdges
 mod JsonText
 pub mod Pieces

@@ -13,6 +13,10 @@ use Rattle.rv_run.proofs.Common.{FeedEnd}
 use Rattle.std.proofs.lemmas.List.Elements.{All-from_get_or}
 use Rattle.rv_event.specs.declared.fault.Fault.{Fault as EventFault}
 use Rattle.rv_book.specs.Chunked.{entries_of}
+use Rattle.rv_coverage.specs.declared.coverage.Coverage.{Coverage}
+use Rattle.rv_run.specs.Comparisons.{IsCoveredBy}
+use Rattle.rv_run.specs.Sources.{AreCovered}
+use Rattle.rv_run.specs.declared.judging.Judged.{Judged}
 use Rattle.rv_run.proofs.InconsistentRefusals.{continued, exactly_allowed}
 use Rattle.rv_run.proofs.Merges.{goes-on, low-together, merge-of, together}
 use Rattle.rv_run.proofs.MergeCounts.{length-merge, operations-merge, waiting-merge}
@@ -278,6 +282,24 @@ module _ (streams : List (Option Stream)) (fed : List Fed) (any : Fed) (same : l
     };
   }
 
+  -- what a log of all that was read has exercised the sources have
+  pub covered-true : (model : MemoryModel) (c : Coverage) → IsCoveredBy model fed c → AreCovered model streams c
+  covered-true model c a =
+      let log = a.0 in
+      let ess = map (λ (f : Fed). f.events.items) fed in
+      let long : length ess ≡ length fed = length-map fed (λ (f : Fed). f.events.items) in
+      record {
+        entries = together 0 ess;
+        read = read-all 0 streams ess (long ∙ same) (λ i low. let here : i < length fed = omega (arith, low, same) in
+            subst (λ (l : List Event). AreEventsOf (get_or streams i None) l) (sym (read-at i here))
+            (all-true (get_or streams i None) (get_or fed i any) (each i any low) (a.1.1 i any here).ended).0);
+        log = log;
+        merge = λ source. sym (merge-of log ess (subst (λ (n : ℕ). All (λ x. x.source < n) log) (sym long) a.1.0)
+            (λ i low. let here : i < length fed = omega (arith, low, long) in
+            (a.1.1 i any here).all ∙ sym (read-at i here)) source);
+        coverage = a.2;
+      }
+
   -- a fault that a feeder met is one of its source
   pub fault-true : (why : RunFault) → IsFaultIn fed why → IsFaultAmong streams why
   fault-true (fault.Trace source f) told =
@@ -303,35 +325,50 @@ each-of says readers fed same each r i f low =
     (each i r f below)
 
 -- what a run answers of sources
-pub record IsAnswer (model : MemoryModel) (streams : List (Option Stream)) (a : Result Outcome RunFault)
+pub record IsAnswer (model : MemoryModel) (streams : List (Option Stream)) (a : Result Judged RunFault)
     : Type 0 where
-  pub allowed : IfOk a (λ o. IfAllowed o (AreAllowed model streams))
-  pub forbidden : IfOk a (λ o. IfForbidden o (AreForbidden model streams))
-  pub malformed : IfOk a (λ o. IfMalformed o (AreMalformed model streams))
+  pub allowed : IfOk a (λ j. IfAllowed j.outcome (AreAllowed model streams))
+  pub forbidden : IfOk a (λ j. IfForbidden j.outcome (AreForbidden model streams))
+  pub malformed : IfOk a (λ j. IfMalformed j.outcome (AreMalformed model streams))
+  pub covered : IfOk a (λ j. IfSome j.coverage (AreCovered model streams))
   pub fault : IfErr a (IsFaultAmong streams)
 
 -- is what its threads come to
 pub answer-true :
     {R : Type 0} (says : R → Option Stream) (readers : List R) (fed : List Fed) (model : MemoryModel)
-    (a : Result Outcome RunFault) → 0 < length readers →
+    (a : Result Judged RunFault) → 0 < length readers →
     length fed ≡ length readers → ((i : ℕ) (r : R) (f : Fed) → i < length readers → IsFedOf (says (get_or readers i r))
-    (get_or fed i f)) → IfOk a (AgreesWith model fed) → IfErr a (IsFaultIn fed) →
+    (get_or fed i f)) → IfOk a (λ j. AgreesWith model fed j.outcome) →
+    IfOk a (λ j. IfSome j.coverage (IsCoveredBy model fed)) → IfErr a (IsFaultIn fed) →
     IsAnswer model (map says readers) a
-answer-true says [] fed model a some same each told why = absurd (omega (arith, some))
-answer-true says (r ∷ rs) [] model a some same each told why = absurd (omega (arith, same))
-answer-true says (r ∷ rs) (f ∷ fs) model a some same each told why = go a told why
+answer-true says [] fed model a some same each told covers why = absurd (omega (arith, some))
+answer-true says (r ∷ rs) [] model a some same each told covers why = absurd (omega (arith, same))
+answer-true says (r ∷ rs) (f ∷ fs) model a some same each told covers why = go a told covers why
   where
     long : length (f ∷ fs) ≡ length (map says (r ∷ rs))
     long = same ∙ sym (length-map (r ∷ rs) says)
 
-    go : (a : Result Outcome RunFault) → IfOk a (AgreesWith model (f ∷ fs)) → IfErr a (IsFaultIn (f ∷ fs)) →
+    covered : (c : Option Coverage) → IfSome c (IsCoveredBy model (f ∷ fs)) →
+        IfSome c (AreCovered model (map says (r ∷ rs)))
+    covered None told = tt
+    covered (Some c) told = covered-true (map says (r ∷ rs)) (f ∷ fs) f long
+        (each-of says (r ∷ rs) (f ∷ fs) same each r) model c told
+
+    go : (a : Result Judged RunFault) → IfOk a (λ j. AgreesWith model (f ∷ fs) j.outcome) →
+        IfOk a (λ j. IfSome j.coverage (IsCoveredBy model (f ∷ fs))) → IfErr a (IsFaultIn (f ∷ fs)) →
         IsAnswer model (map says (r ∷ rs)) a
-    go (Ok o) told why = let is = outcome-true (map says (r ∷ rs)) (f ∷ fs) f long
-        (each-of says (r ∷ rs) (f ∷ fs) same each r) model o told in
-        record { allowed = is.allowed; forbidden = is.forbidden; malformed = is.malformed; fault = tt }
-    go (Err e) told why = record {
+    go (Ok j) told covers why = let is = outcome-true (map says (r ∷ rs)) (f ∷ fs) f long
+        (each-of says (r ∷ rs) (f ∷ fs) same each r) model j.outcome told in record {
+          allowed = is.allowed;
+          forbidden = is.forbidden;
+          malformed = is.malformed;
+          covered = covered j.coverage covers;
+          fault = tt;
+        }
+    go (Err e) told covers why = record {
       allowed = tt;
       forbidden = tt;
       malformed = tt;
+      covered = tt;
       fault = fault-true (map says (r ∷ rs)) (f ∷ fs) f long (each-of says (r ∷ rs) (f ∷ fs) same each r) e why;
     }

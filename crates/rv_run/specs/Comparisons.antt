@@ -6,6 +6,8 @@ use Rattle.rv_event.specs.declared.memory_model.MemoryModel.{MemoryModel}
 use Rattle.rv_cert.specs.Refusals.{IsFinal, IsMalformed}
 use Rattle.rv_book.specs.Chunked.{given_by}
 use Rattle.rv_book.specs.Counts.{operations_of, waiting_of}
+use Rattle.rv_coverage.specs.Coverages.{IsCoverage}
+use Rattle.rv_coverage.specs.declared.coverage.Coverage.{Coverage}
 use Rattle.rv_trace.specs.declared.fault.TraceFault.{TraceFault}
 use Rattle.rv_report.specs.declared.outcome.Outcome.{Outcome}
 use Rattle.rv_report.specs.declared.outcome.Outcome.TheVariants.{Allowed, Forbidden, Malformed}
@@ -43,6 +45,10 @@ AgreesWith model fed (Allowed events operations waiting) =
 AgreesWith model fed (Forbidden f) =
     (f.model ≡ model) × IsBegun f.evidence fed × WellFormed f.evidence × IsFinal model f.evidence
 AgreesWith model fed (Malformed m) = (m.model ≡ model) × IsBegun m.evidence fed × IsMalformed m.evidence m.fault
+
+-- this is what a log of all that was read has exercised
+abbrev pub IsCoveredBy : MemoryModel → List Fed → Coverage → Type 0
+IsCoveredBy model fed c = (log : List Entry) × IsWhole log fed × IsCoverage model log c
 
 -- the feeder of a source ended by this fault, and that of no lower source by one
 pub record EndedBy (fed : List Fed) (source : ℕ) (fault : TraceFault) : Type 0 where

@@ -9,6 +9,8 @@ use Rattle.rv_event.specs.declared.memory_model.MemoryModel.{MemoryModel}
 use Rattle.rv_cert.specs.Refusals.{FaultyLog, IsFinal, IsMalformed, Refusal}
 use Rattle.rv_book.specs.Chunked.{IsPrefix, entries_of, given_by}
 use Rattle.rv_book.specs.Counts.{operations_of, waiting_of}
+use Rattle.rv_coverage.specs.Coverages.{IsCoverage}
+use Rattle.rv_coverage.specs.declared.coverage.Coverage.{Coverage}
 use Rattle.rv_trace.specs.Faults.{is_of_text}
 use Rattle.rv_trace.specs.Source.{Stream, bytes_say}
 use Rattle.rv_trace.specs.declared.dialect.Dialect.{Dialect}
@@ -75,6 +77,14 @@ pub record AreMalformed (model : MemoryModel) (streams : List (Option Stream)) (
   pub part : IsPartOf streams m.evidence
   pub malformed : IsMalformed m.evidence m.fault
   pub refuted : All IsSome streams → AreWellFormed streams → ⊥
+
+-- what a run tells of what they have exercised: it is so of a merge of all of their events
+pub record AreCovered (model : MemoryModel) (streams : List (Option Stream)) (c : Coverage) : Type 0 where
+  pub entries : List Entry
+  pub read : HasRead 0 streams entries
+  pub log : List Entry
+  pub merge : SameSources entries log
+  pub coverage : IsCoverage model log c
 
 -- what each reader says in a dialect, where it tells its bytes
 abbrev pub streams_in : {R : Type 0} → Dialect → (R → Option (List ℕ)) → List R → List (Option Stream)

@@ -1,6 +1,8 @@
 //! What the answers of the threads come to.
-ghost use Rattle.std.specs.Prelude.{◌≡◌, ◌≤◌, ◌<◌, IfOk, IfErr, IfSome, IsTrue, length};
-ghost use Rattle.rv_run.specs.Comparisons.{AgreesWith, IsFaultIn};
+ghost use Rattle.std.specs.Prelude.{◌≡◌, ◌≤◌, ◌<◌, IfOk, IfErr, IfSome, IsSome, IsTrue, length};
+ghost use Rattle.rv_coverage.specs.Coverages.{IsCoverage};
+ghost use Rattle.rv_run.specs.Comparisons.{AgreesWith, IsCoveredBy, IsFaultIn};
+ghost use Rattle.rv_run.specs.Replays.{IsAllowed};
 
 use crate::comparing::{is_begun, is_whole};
 use crate::fault::RunFault;
@@ -8,10 +10,40 @@ use crate::feeding::{Fed, FeedEnd};
 use crate::serving::{ServeEnd, Served};
 use rv_book::Book;
 use rv_cert::Verdict;
-use rv_event::MemoryModel;
+use rv_coverage::{Coverage, coverage_of};
+use rv_event::{MemoryModel, NoMemory};
 use rv_report::Outcome;
 use rv_verdict::VerdictCell;
 use std::alloc::Global;
+
+/// What a run comes to.
+#[derive(Drop, Debug)]
+pub struct Judged {
+    /// The outcome.
+    pub outcome: Outcome,
+    /// What of the model the sources have exercised, where that was asked for and they are allowed.
+    pub coverage: Option<Coverage>,
+}
+
+impl Judged {
+    /// The outcome alone.
+    pub fn into_outcome(self) -> Outcome
+        ensures { result ≡ self.outcome }
+    {
+        let Judged { outcome, coverage } = self;
+        drop(coverage);
+        outcome
+    }
+}
+
+/// What is asked of a run.
+#[derive(Clone, Copy)]
+pub(crate) struct Question {
+    /// By which model the sources are judged.
+    pub model: MemoryModel,
+    /// Whether it is counted what of the model they have exercised.
+    pub covering: bool,
+}
 
 /// Whether the model is the one asked for.
 fn is_asked(model: MemoryModel, asked: MemoryModel) -> bool
@@ -30,6 +62,7 @@ fn refusal_of(
 ) -> Result<Outcome, RunFault>
     requires { length fed.now ≤ 8 }
     ensures outcome { IfOk result (AgreesWith model fed.now) }
+    ensures refused { IfOk result (λ o. IsAllowed o → ⊥) }
     ensures fault { IfErr result (IsFaultIn fed.now) }
 {
     let evidence = match verdict {
@@ -62,21 +95,48 @@ fn is_out_of_memory<S>(fed: &[Fed], served: &[Served<S>]) -> bool {
         || served.iter().any(|s| matches!(s.end, ServeEnd::NoMemory))
 }
 
-/// The outcome of a book that was never stopped, if it is of this model, each source was read to
-/// its end, and its log has all of their events and no others.
-fn allowance_of(model: MemoryModel, fed: &[Fed], book: &Book) -> Result<Outcome, RunFault>
+/// What of the model the book's log has exercised, where that is asked for.
+fn coverage_asked(
+    alloc: Global,
+    question: Question,
+    book: &Book,
+) -> Result<Option<Coverage>, NoMemory>
+    ensures coverage { IfOk result (λ c. IfSome c (IsCoverage book.now.model book.now.log)) }
+    ensures asked { IfOk result (λ c. IsTrue question.covering → IsSome c) }
+    ensures only { IfOk result (λ c. IsSome c → IsTrue question.covering) }
+{
+    if question.covering {
+        Ok(Some(coverage_of(alloc, book)?))
+    } else {
+        Ok(None)
+    }
+}
+
+/// What a book comes to that was never stopped, if it is of the model asked for, each source was
+/// read to its end, and its log has all of their events and no others.
+fn allowance_of(
+    alloc: Global,
+    question: Question,
+    fed: &[Fed],
+    book: &Book,
+) -> Result<Judged, RunFault>
     requires { length fed.now ≤ 8 }
-    ensures outcome { IfOk result (AgreesWith model fed.now) }
+    ensures outcome { IfOk result (λ j. AgreesWith question.model fed.now j.outcome) }
+    ensures coverage { IfOk result (λ j. IfSome j.coverage (IsCoveredBy question.model fed.now)) }
+    ensures asked { IfOk result (λ j. IsTrue question.covering → IsSome j.coverage) }
+    ensures only { IfOk result (λ j. IsSome j.coverage → IsTrue question.covering) }
     ensures fault { IfErr result (IsFaultIn fed.now) }
 {
-    if !is_asked(book.model(), model) || !is_whole(book.log(), fed) {
+    if !is_asked(book.model(), question.model) || !is_whole(book.log(), fed) {
         return Err(RunFault::Lost);
     }
-    Ok(Outcome::Allowed {
+    let coverage = coverage_asked(alloc, question, book)?;
+    let outcome = Outcome::Allowed {
         events: book.accepted(),
         operations: book.operations(),
         waiting: book.waiting(),
-    })
+    };
+    Ok(Judged { outcome, coverage })
 }
 
 /// What the threads' answers, the verdict and the book come to.
@@ -85,19 +145,26 @@ fn allowance_of(model: MemoryModel, fed: &[Fed], book: &Book) -> Result<Outcome,
 /// memory.
 pub(crate) fn judge<S>(
     alloc: Global,
-    model: MemoryModel,
+    question: Question,
     fed: &[Fed],
     served: &[Served<S>],
     cell: &VerdictCell,
     book: &Book,
-) -> Result<Outcome, RunFault>
+) -> Result<Judged, RunFault>
     requires { length fed.now ≤ 8 }
-    ensures outcome { IfOk result (AgreesWith model fed.now) }
+    ensures outcome { IfOk result (λ j. AgreesWith question.model fed.now j.outcome) }
+    ensures coverage { IfOk result (λ j. IfSome j.coverage (IsCoveredBy question.model fed.now)) }
+    ensures asked { IfOk result (λ j. IsTrue question.covering → IsAllowed j.outcome → IsSome j.coverage) }
+    ensures only { IfOk result (λ j. IsSome j.coverage → IsTrue question.covering) }
     ensures fault { IfErr result (IsFaultIn fed.now) }
 {
     let mut note = cell.note();
     if let Some(verdict) = cell.read(&mut note) {
-        return refusal_of(alloc, model, fed, verdict);
+        let outcome = refusal_of(alloc, question.model, fed, verdict)?;
+        return Ok(Judged {
+            outcome,
+            coverage: None,
+        });
     }
     if let Some(fault) = first_fault(fed) {
         return Err(fault);
@@ -105,5 +172,5 @@ pub(crate) fn judge<S>(
     if is_out_of_memory(fed, served) {
         return Err(RunFault::NoMemory);
     }
-    allowance_of(model, fed, book)
+    allowance_of(alloc, question, fed, book)
 }

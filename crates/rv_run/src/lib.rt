@@ -17,7 +17,8 @@
 //! - `specs/`: what each thread tells of its source, and an outcome of all.
 //!
 //! It stands on `rv_event`, `rv_chunk` and `rv_cert`, on `rv_trace` for sources, on `rv_slots`,
-//! `rv_book` and `rv_verdict` for the threads' shared parts, on `rv_pipe` for the bell by which
+//! `rv_book` and `rv_verdict` for the threads' shared parts, on `rv_coverage` for what sources have
+//! exercised, on `rv_pipe` for the bell by which
 //! readers are told that a run is over, on `rv_report` for outcomes, and on the kit's `thiserror`.
 //! Its one contract to the others: an outcome is true of the entries, or of the sources' bytes
 //! where they are known.
@@ -41,6 +42,7 @@ pub use driving::{Driven, drive};
 pub use fault::RunFault;
 pub use feeding::{Fed, FeedEnd, feed};
 pub use gate::{Awaited, BookGate, Gate};
+pub use judging::Judged;
 pub use laws::{allowed_where_consistent, outcomes_agree};
 pub use replaying::replay;
 pub use running::{Reading, Settings, run, run_over, run_reading, run_with_bell};

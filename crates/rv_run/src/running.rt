@@ -1,15 +1,17 @@
 //! A whole run in threads.
-ghost use Rattle.std.specs.Prelude.{◌≡◌, ◌≢◌, ◌↔◌, ◌<◌, ◌≤◌, ◌+◌, IfOk, IfErr, Err, false, All, vec_len};
+ghost use Rattle.std.specs.Prelude.{◌≡◌, ◌≢◌, ◌↔◌, ◌<◌, ◌≤◌, ◌+◌, IfOk, IfErr, IfSome, IsSome, IsTrue, Err};
+ghost use Rattle.std.specs.Prelude.{false, All, vec_len};
 ghost use Rattle.rv_run.specs.Outcomes.{IfAllowed, IfForbidden, IfMalformed};
 ghost use Rattle.rv_run.specs.Ranges.{IsOutOfRange};
-ghost use Rattle.rv_run.specs.Sources.{AreAllowed, AreForbidden, AreMalformed, IsFaultAmong};
+ghost use Rattle.rv_run.specs.Replays.{IsAllowed};
+ghost use Rattle.rv_run.specs.Sources.{AreAllowed, AreCovered, AreForbidden, AreMalformed, IsFaultAmong};
 ghost use Rattle.rv_run.specs.Sources.{streams_in, streams_of};
 ghost use Rattle.rv_run.specs.declared.fault.RunFault.TheVariants as fault;
 
 use crate::driving::{Shared, drive_shared};
 use crate::fault::RunFault;
 use crate::gate::BookGate;
-use crate::judging::judge;
+use crate::judging::{Judged, Question, judge};
 use crate::step::InStep;
 use rv_event::MemoryModel;
 use rv_pipe::Bell;
@@ -54,6 +56,8 @@ pub struct Reading<'b> {
     pub dialect: Dialect,
     /// The bell by which their readers are told that the run is over. It is that of no other run.
     pub bell: &'b Bell,
+    /// Whether it is counted what of the model they have exercised, where they are allowed.
+    pub covering: bool,
 }
 
 /// As [`run_over`], where the sources are read so.
@@ -65,17 +69,22 @@ fn run_in<RT: Threads + Wait + Sync, R: Read + Send + Drop, C: Carrier + Sync + 
     carrier: C,
     seats: Vec<C::Seat>,
     reading: Reading<'_>,
-) -> Result<Outcome, RunFault>
+) -> Result<Judged, RunFault>
     requires sources { (0 < vec_len readers) × (vec_len readers ≤ 8) }
     requires workers { 0 < settings.workers }
     requires seats { vec_len readers + settings.workers ≤ vec_len seats }
     requires fits { All (λ s. C.fits carrier s) seats.items }
-    ensures allowed { IfOk result (λ o. IfAllowed o
+    ensures allowed { IfOk result (λ j. IfAllowed j.outcome
         (AreAllowed settings.model (streams_in reading.entry.dialect R.remaining readers.items))) }
-    ensures forbidden { IfOk result (λ o. IfForbidden o
+    ensures forbidden { IfOk result (λ j. IfForbidden j.outcome
         (AreForbidden settings.model (streams_in reading.entry.dialect R.remaining readers.items))) }
-    ensures malformed { IfOk result (λ o. IfMalformed o
+    ensures malformed { IfOk result (λ j. IfMalformed j.outcome
         (AreMalformed settings.model (streams_in reading.entry.dialect R.remaining readers.items))) }
+    ensures covered { IfOk result (λ j. IfSome j.coverage
+        (AreCovered settings.model (streams_in reading.entry.dialect R.remaining readers.items))) }
+    ensures asked { IfOk result (λ j.
+        IsTrue reading.entry.covering → IsAllowed j.outcome → IsSome j.coverage) }
+    ensures only { IfOk result (λ j. IsSome j.coverage → IsTrue reading.entry.covering) }
     ensures fault { IfErr result
         (IsFaultAmong (streams_in reading.entry.dialect R.remaining readers.items)) }
     ensures settings { result ≢ Err fault.Settings }
@@ -96,10 +105,14 @@ fn run_in<RT: Threads + Wait + Sync, R: Read + Send + Drop, C: Carrier + Sync + 
     let fed = driven.fed.as_slice();
     let served = driven.served.as_slice();
     let book = step.into_gate().into_book();
-    let outcome = judge(alloc, settings.model, fed, served, &cell, &book);
+    let question = Question {
+        model: settings.model,
+        covering: reading.covering,
+    };
+    let judged = judge(alloc, question, fed, served, &cell, &book);
     // By a call: where the scope ends, the proof would take the book apart, field by field.
     drop(book);
-    outcome
+    judged
 }
 
 /// The same as [`run`], over a carrier of one's own that has not been used yet, with seats of it
@@ -134,8 +147,10 @@ pub fn run_over<RT: Threads + Wait + Sync, R: Read + Send + Drop, C: Carrier + S
     let reading = Reading {
         dialect: Dialect::Plain,
         bell: &Bell::new(),
+        covering: false,
     };
-    run_in(rt, alloc, readers, settings, carrier, seats, reading)
+    let judged = run_in(rt, alloc, readers, settings, carrier, seats, reading)?;
+    Ok(judged.into_outcome())
 }
 
 /// Reads the sources in threads of their own, judges their events in other threads while they are
@@ -197,11 +212,20 @@ pub fn run_with_bell<RT: Threads + Wait + Sync, R: Read + Send + Drop>(
     ensures fault { IfErr result (IsFaultAmong (streams_of R.remaining readers.items)) }
     ensures settings { (result ≡ Err fault.Settings) ↔ IsOutOfRange (vec_len readers) settings }
 {
-    let dialect = Dialect::Plain;
-    run_reading(rt, alloc, readers, settings, Reading { dialect, bell })
+    let reading = Reading {
+        dialect: Dialect::Plain,
+        bell,
+        covering: false,
+    };
+    let judged = run_reading(rt, alloc, readers, settings, reading)?;
+    Ok(judged.into_outcome())
 }
 
-/// The same as [`run_with_bell`], where the sources' rows are of the dialect that is read.
+/// The same as [`run_with_bell`], where the sources' rows are of the dialect that is read, and it
+/// is counted what of the model they have exercised where that is asked for and they are allowed.
+///
+/// The counts are those of a merge of all of the sources' events: which merge depends on the
+/// threads, and with it the counts of links.
 ///
 /// # Errors
 /// As [`run_with_bell`].
@@ -211,13 +235,18 @@ pub fn run_reading<RT: Threads + Wait + Sync, R: Read + Send + Drop>(
     readers: Vec<R>,
     settings: Settings,
     reading: Reading<'_>,
-) -> Result<Outcome, RunFault>
-    ensures allowed { IfOk result (λ o. IfAllowed o
+) -> Result<Judged, RunFault>
+    ensures allowed { IfOk result (λ j. IfAllowed j.outcome
         (AreAllowed settings.model (streams_in reading.entry.dialect R.remaining readers.items))) }
-    ensures forbidden { IfOk result (λ o. IfForbidden o
+    ensures forbidden { IfOk result (λ j. IfForbidden j.outcome
         (AreForbidden settings.model (streams_in reading.entry.dialect R.remaining readers.items))) }
-    ensures malformed { IfOk result (λ o. IfMalformed o
+    ensures malformed { IfOk result (λ j. IfMalformed j.outcome
         (AreMalformed settings.model (streams_in reading.entry.dialect R.remaining readers.items))) }
+    ensures covered { IfOk result (λ j. IfSome j.coverage
+        (AreCovered settings.model (streams_in reading.entry.dialect R.remaining readers.items))) }
+    ensures asked { IfOk result (λ j.
+        IsTrue reading.entry.covering → IsAllowed j.outcome → IsSome j.coverage) }
+    ensures only { IfOk result (λ j. IsSome j.coverage → IsTrue reading.entry.covering) }
     ensures fault { IfErr result
         (IsFaultAmong (streams_in reading.entry.dialect R.remaining readers.items)) }
     ensures settings { (result ≡ Err fault.Settings) ↔ IsOutOfRange (vec_len readers) settings }

@@ -38,7 +38,7 @@ no_memory_in_range same = cc
 -- a file that did not open is an ending of what was asked
 pub ends_unopened : (known : Text → Option (List ℕ)) (asked : Asked) (e : Ending) →
     IsUnopened (map string_bytes asked.files.items) e → EndsAsked known asked e
-ends_unopened known asked (Ran o) h = absurd h
+ends_unopened known asked (Ran j) h = absurd h
 ends_unopened known asked (Failed f) h =
     (λ is. no_memory_in_range (sym h ∙ is), subst (IsFaultAmong (streams_asked known asked)) (sym h) tt)
 ends_unopened known asked (Words f) h = absurd h
@@ -49,7 +49,7 @@ ends_unopened known asked (NotOpened name) h = h
 pub ends_asked : (known : Text → Option (List ℕ)) (texts : List Text) (asked : Asked) (e : Ending) →
     (form : Form) → AnswersTo texts (Ok asked) → IsFormAsked known asked e form → EndsAsked known asked e →
     EndsBy known texts e form
-ends_asked known texts asked (Ran o) form said is h = (asked, said, is, h)
+ends_asked known texts asked (Ran j) form said is h = (asked, said, is, h)
 ends_asked known texts asked (Failed f) form said is h = (asked, said, is, h)
 ends_asked known texts asked (Words f) form said is h = absurd h
 ends_asked known texts asked NotText form said is h = absurd h
@@ -59,7 +59,7 @@ ends_asked known texts asked (NotOpened name) form said is h = (asked, said, is,
 pub unopened_among : (names : List (String Global)) (k : ℕ) (name : String Global) → k < length names →
     slice_index_or names k name ≡ name → (e : Ending) → IsUnopenedFile (string_bytes name) e →
     IsUnopened (map string_bytes names) e
-unopened_among names k name within is (Ran o) h = absurd h
+unopened_among names k name within is (Ran j) h = absurd h
 unopened_among names k name within is (Failed f) h = h
 unopened_among names k name within is (Words f) h = absurd h
 unopened_among names k name within is NotText h = absurd h

@@ -1,5 +1,5 @@
 -- What is known of the sources of a request, beside their events.
-use Rattle.std.specs.Prelude.{ℕ, ◌≡◌, ◌⊎◌, Bool, true, false, List, Option, Some, None, String, if◌then◌else◌}
+use Rattle.std.specs.Prelude.{ℕ, ◌≡◌, ◌⊎◌, ◌||◌, Bool, true, false, List, Option, Some, None, String, if◌then◌else◌}
 use Rattle.std.specs.Prelude.{⊤, option_map}
 use Rattle.std.specs.Prelude.{IfSome, slice_get, string_bytes}
 use Rattle.std.specs.Global.{Global}
@@ -26,6 +26,10 @@ use Rattle.rvmon.specs.declared.ending.Ending.TheVariants.{Ran, Failed, Words, N
 abbrev pub dialect_asked : Asked → Dialect
 dialect_asked asked = if asked.carriers then Carriers else Plain
 
+-- what the sources have exercised is counted for an explanation, and for coverage
+abbrev pub covering_asked : Asked → Bool
+covering_asked asked = asked.explain || asked.coverage
+
 -- an event was refused
 abbrev pub is_refusal_of : Outcome → Bool
 is_refusal_of (outcome.Allowed events operations waiting) = false
@@ -33,7 +37,7 @@ is_refusal_of (outcome.Forbidden f) = true
 is_refusal_of (outcome.Malformed m) = true
 
 abbrev pub is_refusal : Ending → Bool
-is_refusal (Ran o) = is_refusal_of o
+is_refusal (Ran j) = is_refusal_of j.outcome
 is_refusal (Failed f) = false
 is_refusal (Words f) = false
 is_refusal NotText = false
@@ -49,7 +53,7 @@ IsFieldOfFault known asked fault.Lost field = ⊥
 IsFieldOfFault known asked fault.Settings field = ⊥
 
 abbrev pub IsFieldOf : (Text → Option (List ℕ)) → Asked → Ending → FaultyField → Type 0
-IsFieldOf known asked (Ran o) field = ⊥
+IsFieldOf known asked (Ran j) field = ⊥
 IsFieldOf known asked (Failed f) field = IsFieldOfFault known asked f field
 IsFieldOf known asked (Words f) field = ⊥
 IsFieldOf known asked NotText field = ⊥

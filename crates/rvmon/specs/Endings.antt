@@ -1,24 +1,30 @@
 -- What the program prints at its end, and its exit status.
-use Rattle.std.specs.Prelude.{◌≡◌, ◌⊎◌, ℕ, List, Option, String}
+use Rattle.std.specs.Prelude.{◌≡◌, ◌⊎◌, ℕ, List, [], Option, Some, None, String}
 use Rattle.std.specs.Global.{Global}
 use Rattle.std.specs.Io.KnownBytes.{Appends}
 use Rattle.rv_event.specs.Texts.{◌⋯◌}
 use Rattle.rv_explain.specs.Outcomes.{IsTold}
 use Rattle.rv_explain.specs.RowTexts.{Said, said_by}
 use Rattle.rv_explain_json.specs.Reports.{IsExplainedLine}
+use Rattle.rv_coverage.specs.declared.coverage.Coverage.{Coverage}
+use Rattle.rv_coverage_report.specs.JsonData.{covered_json_text}
+use Rattle.rv_coverage_report.specs.Texts.{coverage_text}
+use Rattle.rv_coverage_report.specs.declared.text.Extent.{Extent}
+use Rattle.rv_coverage_report.specs.declared.text.Extent.TheVariants as extent
 use Rattle.rv_picture.specs.Pictures.{IsPicture}
 use Rattle.rv_report.specs.Json.{json_text}
 use Rattle.rv_report.specs.Texts.{report_text, line_feed}
 use Rattle.rv_report.specs.declared.outcome.Outcome.{Outcome}
 use Rattle.rv_report.specs.declared.outcome.Outcome.TheVariants as outcome
 use Rattle.rv_run.specs.declared.fault.RunFault.TheVariants as fault
+use Rattle.rv_run.specs.declared.judging.Judged.{Judged}
 use Rattle.rv_trace.specs.declared.fault.FaultKind.{FaultKind}
 use Rattle.rv_trace.specs.declared.fault.FaultKind.TheVariants as kind
 use Rattle.rv_cli.specs.declared.request.WordsFault.TheVariants as words
 use Rattle.rvmon.specs.declared.ending.Ending.{Ending}
 use Rattle.rvmon.specs.declared.ending.Ending.TheVariants.{Ran, Failed, Words, NotText, NotOpened}
 use Rattle.rvmon.specs.declared.form.Form.{Form}
-use Rattle.rvmon.specs.declared.form.Form.TheVariants.{Text, Json, JsonExplained, Explained, Picture}
+use Rattle.rvmon.specs.declared.form.Form.TheVariants.{Text, Covered, Json, JsonExplained, Explained, Picture}
 
 -- 0 for allowed, 1 for forbidden, 2 for malformed
 abbrev pub status_of : Outcome → ℕ
@@ -42,12 +48,35 @@ status_of_kind kind.Csv = 2
 status_of_kind kind.Read = 3
 status_of_kind kind.NoMemory = 3
 
--- the report as text, and behind it what is told of the outcome
-pub record IsPrintedExplained (names : List (String Global)) (texts : Said) (o : Outcome)
-    (old new : Option (List ℕ)) : Type 0 where
+-- what is told of what the sources have exercised, if it was counted
+abbrev pub covered_text : Extent → Option Coverage → List ℕ
+covered_text extent None = []
+covered_text extent (Some c) = coverage_text extent c
+
+-- the report as JSON, with that
+abbrev pub json_of : Outcome → Option Coverage → List ℕ
+json_of o None = json_text o
+json_of o (Some c) = covered_json_text o c
+
+-- why an event was refused, and what the sources have exercised
+pub record IsToldBehind (names : List (String Global)) (texts : Said) (extent : Extent) (j : Judged)
+    (text : List ℕ) : Type 0 where
   pub told : List ℕ
-  pub is_told : IsTold names texts o told
-  pub appends : Appends old new (report_text o ⋯ told)
+  pub is_told : IsTold names texts j.outcome told
+  pub bytes : text ≡ told ⋯ covered_text extent j.coverage
+
+-- the report as text, and that behind it
+pub record IsPrintedBehind (names : List (String Global)) (texts : Said) (extent : Extent) (j : Judged)
+    (old new : Option (List ℕ)) : Type 0 where
+  pub behind : List ℕ
+  pub is_told : IsToldBehind names texts extent j behind
+  pub appends : Appends old new (report_text j.outcome ⋯ behind)
+
+-- the report as JSON, with why an event was refused, or with what the sources have exercised
+abbrev pub IsJsonExplained : List (String Global) → Said → Outcome → Option Coverage →
+    Option (List ℕ) → Option (List ℕ) → Type 0
+IsJsonExplained names texts o None old new = IsExplainedLine names texts o old new
+IsJsonExplained names texts o (Some c) old new = Appends old new (json_of o (Some c) ⋯ line_feed)
 
 -- the picture of the outcome
 pub record IsPrintedPicture (names : List (String Global)) (texts : Said) (o : Outcome)
@@ -56,20 +85,22 @@ pub record IsPrintedPicture (names : List (String Global)) (texts : Said) (o : O
   pub is_picture : IsPicture names texts o bytes
   pub appends : Appends old new bytes
 
--- the outcome was printed in this form
-abbrev pub IsPrinted : Form → Outcome → Option (List ℕ) → Option (List ℕ) → Type 0
-IsPrinted Text o old new = Appends old new (report_text o)
-IsPrinted Json o old new = Appends old new (json_text o ⋯ line_feed)
-IsPrinted (JsonExplained b) o old new = IsExplainedLine b.names.items (said_by b.texts) o old new
-IsPrinted (Explained b) o old new = IsPrintedExplained b.names.items (said_by b.texts) o old new
-IsPrinted (Picture b) o old new = IsPrintedPicture b.names.items (said_by b.texts) o old new
+-- what a run came to was printed in this form
+abbrev pub IsPrinted : Form → Judged → Option (List ℕ) → Option (List ℕ) → Type 0
+IsPrinted Text j old new = Appends old new (report_text j.outcome)
+IsPrinted Covered j old new = Appends old new (report_text j.outcome ⋯ covered_text extent.All j.coverage)
+IsPrinted Json j old new = Appends old new (json_of j.outcome j.coverage ⋯ line_feed)
+IsPrinted (JsonExplained b) j old new =
+    IsJsonExplained b.names.items (said_by b.texts) j.outcome j.coverage old new
+IsPrinted (Explained b extent) j old new = IsPrintedBehind b.names.items (said_by b.texts) extent j old new
+IsPrinted (Picture b) j old new = IsPrintedPicture b.names.items (said_by b.texts) j.outcome old new
 
 -- Where the sources were judged: the whole report and the status of the outcome, or status 3. Else
 -- nothing stands on standard output, and the status says whether the input was wrong (2) or
 -- something failed (3). What is said where the parser refuses the words, or is asked for help, is
 -- the parser's; help that cannot be written is status 3.
 abbrev pub IsSettled : Ending → Form → Option (List ℕ) → Option (List ℕ) → ℕ → Type 0
-IsSettled (Ran o) form old new status = ((status ≡ status_of o) × IsPrinted form o old new) ⊎ (status ≡ 3)
+IsSettled (Ran j) form old new status = ((status ≡ status_of j.outcome) × IsPrinted form j old new) ⊎ (status ≡ 3)
 IsSettled (Failed (fault.Trace source f)) form old new status = (status ≡ status_of_kind f.kind) × (new ≡ old)
 IsSettled (Failed fault.NoMemory) form old new status = (status ≡ 3) × (new ≡ old)
 IsSettled (Failed fault.Lost) form old new status = (status ≡ 3) × (new ≡ old)

@@ -5,14 +5,15 @@ ghost use Rattle.rv_trace.specs.Columns.{IsFieldInRow};
 ghost use Rattle.rv_trace.specs.Source.{text_records};
 ghost use Rattle.rv_explain.specs.RowTexts.{said_by};
 ghost use Rattle.rv_where.specs.Lines.{AreTextsOf};
-ghost use Rattle.rvmon.specs.Backings.{HasTexts, IsBacking, IsFieldOf, IsSilenceOf, dialect_asked, is_refusal};
+ghost use Rattle.rvmon.specs.Backings.{HasTexts, IsBacking, IsFieldOf, IsSilenceOf, covering_asked, dialect_asked};
+ghost use Rattle.rvmon.specs.Backings.{is_refusal};
 
 use crate::ending::Ending;
 use crate::opening::Opener;
 use rv_cli::Asked;
 use rv_explain::RowTexts;
 use rv_report::Outcome;
-use rv_run::RunFault;
+use rv_run::{Judged, RunFault};
 use rv_trace::{Dialect, FaultKind, FaultyField, faulty_field};
 use rv_where::{WhereFault, texts_from};
 use std::alloc::Global;
@@ -52,13 +53,23 @@ pub fn dialect_of(asked: &Asked) -> Dialect
     }
 }
 
+/// Whether it is counted what the sources have exercised.
+pub fn is_covering(asked: &Asked) -> bool
+    ensures { result ≡ covering_asked asked.now }
+{
+    asked.explain || asked.coverage
+}
+
 /// Whether an event was refused.
 fn is_refusal(ending: &Ending) -> bool
     ensures { result ≡ is_refusal ending.now }
 {
     matches!(
         ending,
-        Ending::Ran(Outcome::Forbidden(_)) | Ending::Ran(Outcome::Malformed(_))
+        Ending::Ran(Judged {
+            outcome: Outcome::Forbidden(_) | Outcome::Malformed(_),
+            ..
+        })
     )
 }
 

@@ -1,18 +1,24 @@
 //! How the program ends: what it prints, and with which status.
-ghost use Rattle.std.specs.Prelude.{◌≡◌, ◌⊎◌, OnOk};
+ghost use Rattle.std.specs.Prelude.{◌≡◌, ◌⊎◌, IfOk, OnOk, string_bytes};
+ghost use Rattle.std.specs.Io.KnownBytes.{Appends};
+ghost use Rattle.rv_event.specs.Texts.{◌⋯◌};
+ghost use Rattle.rv_report.specs.Texts.{line_feed, report_text};
 ghost use Rattle.rv_explain.specs.RowTexts.{said_by};
-ghost use Rattle.rvmon.specs.Endings.{IsPrinted, IsPrintedExplained, IsPrintedPicture, IsSettled};
-ghost use Rattle.rvmon.specs.Endings.{status_of, status_of_kind};
+ghost use Rattle.rv_coverage_report.specs.declared.text.Extent.TheVariants as extent;
+ghost use Rattle.rvmon.specs.Endings.{IsJsonExplained, IsPrinted, IsPrintedPicture, IsSettled, IsToldBehind};
+ghost use Rattle.rvmon.specs.Endings.{IsPrintedBehind, covered_text, json_of, status_of, status_of_kind};
 
 use crate::backing::{Backing, Silence};
 use crate::form::Form;
 use clap::Error as ParseError;
 use rv_cli::WordsFault;
+use rv_coverage_report::{Extent, coverage_text, covered_json_line};
+use rv_event::NoMemory;
 use rv_explain::{Sources, story};
 use rv_explain_json::explained_json_line;
 use rv_picture::picture;
 use rv_report::{Outcome, ReportFault, report, report_json_line, write_text};
-use rv_run::RunFault;
+use rv_run::{Judged, RunFault};
 use rv_trace::{FaultKind, FaultyField, TraceFault};
 use std::alloc::Global;
 use std::io::Write;
@@ -21,7 +27,7 @@ use std::io::Write;
 #[derive(Debug, Drop)]
 pub enum Ending {
     /// The sources were judged.
-    Ran(Outcome),
+    Ran(Judged),
     /// A source has a fault, or memory was refused.
     Failed(RunFault),
     /// The words of the command line were refused, or asked for help.
@@ -58,7 +64,7 @@ pub fn settle<O: Write, E: Write>(
     ensures { IsSettled ending.now form.now (O.contents out.old) (O.contents out.new) result }
 {
     match ending {
-        Ending::Ran(outcome) => settle_outcome(alloc, out, errors, outcome, form),
+        Ending::Ran(judged) => settle_judged(alloc, out, errors, judged, form),
         Ending::Failed(RunFault::Trace { source, fault }) => {
             settle_trace(errors, form, *source, *fault)
         }
@@ -104,10 +110,10 @@ fn sources_of(backing: &Backing) -> Sources<'_>
 /// What is known of the sources, where the form has it.
 fn backing_in(form: &Form) -> Option<&Backing> {
     match form {
-        Form::JsonExplained(backing) | Form::Explained(backing) | Form::Picture(backing) => {
+        Form::JsonExplained(backing) | Form::Explained(backing, _) | Form::Picture(backing) => {
             Some(backing)
         }
-        Form::Text | Form::Json => None,
+        Form::Text | Form::Covered | Form::Json => None,
     }
 }
 
@@ -131,21 +137,100 @@ fn tell_silence<E: Write>(errors: &mut E, form: &Form) {
     }
 }
 
-/// Writes the report of an outcome, and behind it why an event was refused.
-fn report_explained<O: Write>(
+/// What is told of what the sources have exercised, if it was counted.
+fn coverage_told(alloc: Global, judged: &Judged, extent: Extent) -> Result<String, NoMemory>
+    ensures { IfOk result (λ text. string_bytes text ≡ covered_text extent judged.now.coverage) }
+{
+    match &judged.coverage {
+        Some(coverage) => coverage_text(alloc, coverage, extent),
+        None => Ok(String::new(alloc)),
+    }
+}
+
+/// What is told behind a report: why an event was refused, or what the sources have exercised.
+fn told_behind(
+    alloc: Global,
+    judged: &Judged,
+    sources: Sources<'_>,
+    extent: Extent,
+) -> Result<String, NoMemory>
+    ensures { IfOk result (λ text. IsToldBehind
+        sources.entry.names.now (said_by sources.entry.texts.now) extent judged.now (string_bytes text)) }
+{
+    let explained = story(alloc, sources, &judged.outcome)?;
+    let covered = coverage_told(alloc, judged, extent)?;
+    Ok(format!(in alloc; "{explained}{covered}")?)
+}
+
+/// Writes the report of an outcome, and a text behind it.
+fn report_with<O: Write>(
     alloc: Global,
     out: &mut O,
     outcome: &Outcome,
+    text: &str,
+) -> Result<(), ReportFault>
+    ensures { OnOk result
+        (Appends (O.contents out.old) (O.contents out.new) (report_text outcome.now ⋯ text.now)) }
+{
+    match report(alloc, out, outcome) {
+        Ok(()) => write_text(out, text),
+        Err(fault) => Err(fault),
+    }
+}
+
+/// Writes the report of an outcome, and behind it what the sources have exercised, if it was
+/// counted.
+fn report_covered<O: Write>(alloc: Global, out: &mut O, judged: &Judged) -> Result<(), ReportFault>
+    ensures { OnOk result (Appends (O.contents out.old) (O.contents out.new)
+        (report_text judged.now.outcome ⋯ covered_text extent.All judged.now.coverage)) }
+{
+    let told = coverage_told(alloc, judged, Extent::All)?;
+    report_with(alloc, out, &judged.outcome, told.as_str())
+}
+
+/// Writes the report of an outcome, and behind it why an event was refused, or what the sources
+/// have exercised.
+fn report_explained<O: Write>(
+    alloc: Global,
+    out: &mut O,
+    judged: &Judged,
+    sources: Sources<'_>,
+    extent: Extent,
+) -> Result<(), ReportFault>
+    ensures { OnOk result
+        (IsPrintedBehind sources.entry.names.now (said_by sources.entry.texts.now) extent judged.now
+        (O.contents out.old) (O.contents out.new)) }
+{
+    let told = told_behind(alloc, judged, sources, extent)?;
+    report_with(alloc, out, &judged.outcome, told.as_str())
+}
+
+/// Writes the report as a line of JSON, with what the sources have exercised, if it was counted.
+fn write_json<O: Write>(alloc: Global, out: &mut O, judged: &Judged) -> Result<(), ReportFault>
+    ensures { OnOk result (Appends (O.contents out.old) (O.contents out.new)
+        (json_of judged.now.outcome judged.now.coverage ⋯ line_feed)) }
+{
+    match &judged.coverage {
+        Some(coverage) => covered_json_line(alloc, out, &judged.outcome, coverage),
+        None => report_json_line(alloc, out, &judged.outcome),
+    }
+}
+
+/// Writes the report as a line of JSON, with why an event was refused, or what the sources have
+/// exercised, if it was counted.
+fn write_json_explained<O: Write>(
+    alloc: Global,
+    out: &mut O,
+    judged: &Judged,
     sources: Sources<'_>,
 ) -> Result<(), ReportFault>
     ensures { OnOk result
-        (IsPrintedExplained sources.entry.names.now (said_by sources.entry.texts.now) outcome.now
-        (O.contents out.old) (O.contents out.new)) }
+        (IsJsonExplained sources.entry.names.now (said_by sources.entry.texts.now) judged.now.outcome
+        judged.now.coverage (O.contents out.old) (O.contents out.new)) }
 {
-    let told = story(alloc, sources, outcome)?;
-    match report(alloc, out, outcome) {
-        Ok(()) => write_text(out, told.as_str()),
-        Err(fault) => Err(fault),
+    match &judged.coverage {
+        Some(coverage) => covered_json_line(alloc, out, &judged.outcome, coverage),
+        None => explained_json_line(alloc, out, sources, &judged.outcome),
     }
 }
 
@@ -164,30 +249,45 @@ fn write_picture<O: Write>(
     write_text(out, text.as_str())
 }
 
-/// Writes the report of the outcome in its form.
-fn settle_outcome<O: Write, E: Write>(
+/// Writes what a run came to, in its form.
+fn write_judged<O: Write>(
+    alloc: Global,
+    out: &mut O,
+    judged: &Judged,
+    form: &Form,
+) -> Result<(), ReportFault>
+    ensures { OnOk result (IsPrinted form.now judged.now (O.contents out.old) (O.contents out.new)) }
+{
+    match form {
+        Form::Text => report(alloc, out, &judged.outcome),
+        Form::Covered => report_covered(alloc, out, judged),
+        Form::Json => write_json(alloc, out, judged),
+        Form::JsonExplained(backing) => {
+            write_json_explained(alloc, out, judged, sources_of(backing))
+        }
+        Form::Explained(backing, extent) => {
+            report_explained(alloc, out, judged, sources_of(backing), *extent)
+        }
+        Form::Picture(backing) => write_picture(alloc, out, &judged.outcome, sources_of(backing)),
+    }
+}
+
+/// Writes what a run came to, in its form, and what could not be had for it.
+fn settle_judged<O: Write, E: Write>(
     alloc: Global,
     out: &mut O,
     errors: &mut E,
-    outcome: &Outcome,
+    judged: &Judged,
     form: &Form,
 ) -> u8
-    ensures { ((result ≡ status_of outcome.now)
-        × IsPrinted form.now outcome.now (O.contents out.old) (O.contents out.new))
+    ensures { ((result ≡ status_of judged.now.outcome)
+        × IsPrinted form.now judged.now (O.contents out.old) (O.contents out.new))
         ⊎ (result ≡ FAILED) }
 {
-    let written = match form {
-        Form::Text => report(alloc, out, outcome),
-        Form::Json => report_json_line(alloc, out, outcome),
-        Form::JsonExplained(backing) => {
-            explained_json_line(alloc, out, sources_of(backing), outcome)
-        }
-        Form::Explained(backing) => report_explained(alloc, out, outcome, sources_of(backing)),
-        Form::Picture(backing) => write_picture(alloc, out, outcome, sources_of(backing)),
-    };
+    let written = write_judged(alloc, out, judged, form);
     tell_silence(errors, form);
     match written {
-        Ok(()) => status_of(outcome),
+        Ok(()) => status_of(&judged.outcome),
         Err(fault) => {
             let _ = writeln!(errors, "rvmon: {fault}");
             FAILED

@@ -7,6 +7,7 @@ use crate::ending::Ending;
 use crate::opening::{Opener, Unopened};
 use crate::tests::assert_printed;
 use rv_report::Outcome;
+use rv_run::Judged;
 use std::alloc::Global;
 use std::collections::HashMap;
 use std::test::Fail;
@@ -91,6 +92,14 @@ fn two_files_are_judged_together(rt: HostRuntime) -> Result<(), Fail> {
     let files = files_of(rt.alloc())?;
     let opener = MemoryFiles { files: &files };
     let (ending, _) = answer_words(&rt, &rt, &opener, &["one.csv", "other.csv"]);
-    assert!(rt; matches!(&ending, Ending::Ran(Outcome::Forbidden(_))));
+    assert!(rt;
+        matches!(
+            &ending,
+            Ending::Ran(Judged {
+                outcome: Outcome::Forbidden(_),
+                ..
+            })
+        )
+    );
     Ok(())
 }

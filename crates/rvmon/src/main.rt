@@ -30,7 +30,7 @@ mod opening;
 mod tests;
 mod words;
 
-use backing::dialect_of;
+use backing::{dialect_of, is_covering};
 use ending::{Ending, settle};
 use form::{Form, form_of};
 use opening::{Opened, Opener, SystemFiles, first_unopened, open_all};
@@ -71,9 +71,10 @@ fn answer<RT: Threads + Wait + Sync + Copy + Send + 'static, O: Opener>(
     let reading = Reading {
         dialect: dialect_of(asked),
         bell: &bell,
+        covering: is_covering(asked),
     };
     match run_reading(threads, rt.alloc(), inputs, settings, reading) {
-        Ok(outcome) => Ending::Ran(outcome),
+        Ok(judged) => Ending::Ran(judged),
         Err(fault) => match first_unopened(rt.alloc(), threads, names, pipes.as_slice()) {
             Some(ending) => ending,
             None => Ending::Failed(fault),

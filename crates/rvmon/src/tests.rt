@@ -3,7 +3,7 @@ use crate::ending::{Ending, settle};
 use crate::form::Form;
 use rv_cli::{WordsFault, asked};
 use rv_event::MemoryModel;
-use rv_run::{RunFault, Settings, run};
+use rv_run::{Judged, RunFault, Settings, run};
 use rv_trace::{FaultKind, TraceFault};
 use std::alloc::Global;
 use std::io;
@@ -54,7 +54,10 @@ fn end_of<RT: Threads + Wait + Sync + Abort>(rt: &RT, alloc: Global, trace: &str
         model: MemoryModel::Rvwmo,
     };
     match run(rt, alloc, readers, settings) {
-        Ok(outcome) => Ending::Ran(outcome),
+        Ok(outcome) => Ending::Ran(Judged {
+            outcome,
+            coverage: None,
+        }),
         Err(fault) => Ending::Failed(fault),
     }
 }

@@ -1,13 +1,13 @@
 use Rattle.std.proofs.Common.{rules, List, Option, Err, string_bytes, ap, length, refl}
 use Rattle.std.proofs.Common.{sym, ◌∙◌, subst}
 use Rattle.std.proofs.lemmas.List.{length-map}
-use Rattle.rv_run.specs.Sources.{IsFaultAmong, IsTrueOf}
+use Rattle.rv_run.specs.Sources.{IsFaultAmong}
 use Rattle.rv_run.specs.declared.fault.RunFault.{RunFault}
 use Rattle.rv_run.specs.declared.fault.RunFault.TheVariants as fault
 use Rattle.rv_run.specs.declared.running.Settings.{Settings}
 use Rattle.rv_trace.specs.Source.{Stream}
 use Rattle.rvmon.specs.Backings.{dialect_asked}
-use Rattle.rvmon.specs.Starting.{bytes_asked}
+use Rattle.rvmon.specs.Starting.{IsJudgedOf, bytes_asked}
 use Rattle.rvmon.specs.declared.ending.Ending.TheVariants.{Failed}
 use Rattle.rvmon.proofs.Ends.{count_asked, ends_unopened, in_range, streams_are}
 use Rattle.rvmon.proofs.answer.Goals as goal
@@ -25,9 +25,14 @@ returns-in-Ok-run_reading g c =
     let asked = c.args.asked.now in
     let opened = c.in-Ok-open_all.ensures.opened ∙ ap (bytes_asked known) c.as_slice-names.ensures.value in
     let ran = c.in-Ok-run_reading.ensures in
-    subst (λ (ss : List (Option Stream)). IsTrueOf asked.model ss c.in-Ok-run_reading.outcome)
+    subst (λ (ss : List (Option Stream)). IsJudgedOf asked ss c.in-Ok-run_reading.judged)
     (streams_are _ (dialect_asked asked) _ c.in-Ok-open_all.opened.inputs.items _ c.dialect_of.ensures opened)
-    (record { allowed = ran.allowed; forbidden = ran.forbidden; malformed = ran.malformed })
+    (record {
+      outcome = record { allowed = ran.allowed; forbidden = ran.forbidden; malformed = ran.malformed };
+      covered = ran.covered;
+      counted = λ asks. ran.asked (c.is_covering.ensures ∙ asks);
+      only = λ some. sym c.is_covering.ensures ∙ ran.only some;
+    })
 
 pub returns : goal.returns
 returns g c =

@@ -10,6 +10,7 @@ returns c =
     let carriers = c.carriers_arg.ensures in
     let explain = c.explain_arg.ensures in
     let svg = c.svg_arg.ensures in
+    let coverage = c.coverage_arg.ensures in
     let places = c.where_arg.ensures in
     let files = c.files_arg.ensures in
     let one = c.in_ok-arg.ensures.shape workers.local ∙ ap₂ with_rule c.bare_command.ensures workers.rule in
@@ -19,9 +20,10 @@ returns c =
     let five = c.in_ok-arg-5.ensures.shape carriers.local ∙ ap₂ with_rule four carriers.rule in
     let six = c.in_ok-arg-6.ensures.shape explain.local ∙ ap₂ with_rule five explain.rule in
     let seven = c.in_ok-arg-7.ensures.shape svg.local ∙ ap₂ with_rule six svg.rule in
-    let eight = c.in_ok-arg-8.ensures.shape places.local ∙ ap₂ with_rule seven places.rule in
-    IfOk-weaker c.arg-9.result _ _ (λ r added. (
+    let eight = c.in_ok-arg-8.ensures.shape coverage.local ∙ ap₂ with_rule seven coverage.rule in
+    let nine = c.in_ok-arg-9.ensures.shape places.local ∙ ap₂ with_rule eight places.rule in
+    IfOk-weaker c.arg-10.result _ _ (λ r added. (
       model.rule.0,
       model.rule.1,
-      added.shape files.local ∙ ap₂ with_rule eight files.rule,
-    )) c.arg-9.ensures
+      added.shape files.local ∙ ap₂ with_rule nine files.rule,
+    )) c.arg-10.ensures

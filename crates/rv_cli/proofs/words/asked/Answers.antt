@@ -13,6 +13,7 @@ returns-clause-answer c =
       carriers = c.flag_in-2.result;
       explain = c.flag_in-3.result;
       svg = c.flag_in-4.result;
+      coverage = c.flag_in-5.result;
       where_file = c.in_ok-where_file.where_file;
       files = c.in_ok-files.files;
     } in

@@ -1,5 +1,6 @@
 use Rattle.rv_run.proofs.Common.{List, IfOk, IfErr, option_map, rules, subst, bytes_say, AgreesWith, IsFaultIn}
-use Rattle.rv_run.proofs.Common.{Fed}
+use Rattle.rv_run.proofs.Common.{Fed, IfSome}
+use Rattle.rv_run.specs.Comparisons.{IsCoveredBy}
 use Rattle.rv_run.proofs.Outcomes.{IsAnswer, answer-true}
 use Rattle.rv_run.specs.Sources.{streams_in}
 use Rattle.rv_run.proofs.running.run_in.Goals as goal
@@ -7,17 +8,23 @@ use Rattle.rv_run.proofs.running.run_in.Goals as goal
 pub returns : goal.returns
 returns g c =
     let answer : IsAnswer c.args.settings.model
-    (streams_in c.args.reading.dialect g.R.Read.remaining c.args.readers.items) c.judge-outcome.result =
+    (streams_in c.args.reading.dialect g.R.Read.remaining c.args.readers.items) c.judge-judged.result =
     answer-true (λ r. option_map (bytes_say c.args.reading.dialect) (g.R.Read.remaining r)) c.args.readers.items
-    c.in_ok-driven.driven.fed.items c.args.settings.model c.judge-outcome.result
+    c.in_ok-driven.driven.fed.items c.args.settings.model c.judge-judged.result
     (search rules) c.in_ok-driven.ensures.fed.0 c.in_ok-driven.ensures.fed.1
-    (subst (λ (fed : List Fed). IfOk c.judge-outcome.result (AgreesWith c.args.settings.model fed))
-    c.as_slice-fed.ensures.value c.judge-outcome.ensures.outcome)
-    (subst (λ (fed : List Fed). IfErr c.judge-outcome.result (IsFaultIn fed)) c.as_slice-fed.ensures.value
-    c.judge-outcome.ensures.fault) in record {
+    (subst (λ (fed : List Fed). IfOk c.judge-judged.result (λ j. AgreesWith c.args.settings.model fed j.outcome))
+    c.as_slice-fed.ensures.value c.judge-judged.ensures.outcome)
+    (subst (λ (fed : List Fed). IfOk c.judge-judged.result
+    (λ j. IfSome j.coverage (IsCoveredBy c.args.settings.model fed)))
+    c.as_slice-fed.ensures.value c.judge-judged.ensures.coverage)
+    (subst (λ (fed : List Fed). IfErr c.judge-judged.result (IsFaultIn fed)) c.as_slice-fed.ensures.value
+    c.judge-judged.ensures.fault) in record {
       allowed = answer.allowed;
       forbidden = answer.forbidden;
       malformed = answer.malformed;
+      covered = answer.covered;
+      asked = search rules;
+      only = search rules;
       fault = answer.fault;
       settings = search rules;
     }

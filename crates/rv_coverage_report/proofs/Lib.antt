@@ -1,0 +1,2 @@
+mod NoFloats
+mod Parts

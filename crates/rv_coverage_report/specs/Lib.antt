@@ -1,0 +1,2 @@
+pub mod JsonData
+pub mod Texts

@@ -1,0 +1,154 @@
+//! The JSON report of an outcome with what of the model its log has exercised.
+ghost use Rattle.std.specs.Prelude.{◌≡◌, false, Err, IfOk, OnOk, map, string_bytes};
+ghost use Rattle.std.specs.Io.KnownBytes.{Appends};
+ghost use Rattle.serde_json.specs.View.{view};
+ghost use Rattle.serde_json.specs.Written.{has_float};
+ghost use Rattle.rv_event.specs.Texts.{◌⋯◌};
+ghost use Rattle.rv_report.specs.Texts.{line_feed};
+ghost use Rattle.rv_report.specs.Writing.{IsCutShort};
+ghost use Rattle.rv_report.specs.declared.fault.ReportFault.TheVariants as fault;
+ghost use Rattle.rv_coverage_report.specs.JsonData.{allowed_data, counts_data, coverage_data, covered_data};
+ghost use Rattle.rv_coverage_report.specs.JsonData.{covered_json_text, wait_data};
+
+use rv_coverage::{Count, Coverage, Wait};
+use rv_event::NoMemory;
+use rv_report::{Outcome, ReportFault, report_json, write_text};
+use serde_json::{Map, Value, json, put};
+use std::alloc::{AllocError, Global};
+use std::io::Write;
+
+/// The counts of a group, each under its name.
+fn counts_value(alloc: Global, counts: &[Count]) -> Result<Value, AllocError>
+    ensures { IfOk result (λ v. view v ≡ counts_data counts.now) }
+{
+    let mut members = Map::new(alloc);
+    let mut rest = counts;
+    'counts: while let Some((counted, after)) = rest.split_first() {
+        let Count { feature, count } = *counted;
+        let name = feature.to_string(alloc)?;
+        let count = json!(in alloc; count)?;
+        put(&mut members, alloc, name.as_str(), count)?;
+        rest = after;
+    }
+    Ok(Value::Object(members))
+}
+
+/// A load that waits.
+fn wait_value(alloc: Global, wait: Wait) -> Result<Value, AllocError>
+    ensures { IfOk result (λ v. view v ≡ wait_data wait) }
+{
+    let Wait { id, word, version } = wait;
+    let event = id.to_string(alloc)?;
+    json!(in alloc; {"event": event.as_str(), "version": version, "word": word})
+}
+
+/// Loads that wait.
+fn wait_values(alloc: Global, waits: &[Wait]) -> Result<Vec<Value>, AllocError>
+    ensures { IfOk result (λ vs. map view vs.items ≡ map wait_data waits.now) }
+{
+    let mut values = Vec::new(alloc);
+    'waits: for wait in waits {
+        values.push(wait_value(alloc, *wait)?)?;
+    }
+    Ok(values)
+}
+
+/// What of the model a log has exercised.
+fn coverage_value(alloc: Global, coverage: &Coverage) -> Result<Value, AllocError>
+    ensures { IfOk result (λ v. view v ≡ coverage_data coverage.now) }
+{
+    let events = counts_value(alloc, coverage.events.as_slice())?;
+    let harts = coverage.harts;
+    let links = counts_value(alloc, coverage.links.as_slice())?;
+    let pairs = coverage.pairs;
+    let reads = counts_value(alloc, coverage.reads.as_slice())?;
+    let waiting = wait_values(alloc, coverage.waiting.as_slice())?;
+    json!(in alloc; {
+        "events": events,
+        "harts": harts,
+        "links": links,
+        "pairs": pairs,
+        "reads": reads,
+        "waiting": Value::Array(waiting)
+    })
+}
+
+/// The report of accepted events, with what they have exercised.
+fn allowed_value(
+    alloc: Global,
+    events: usize,
+    operations: usize,
+    waiting: usize,
+    coverage: Value,
+) -> Result<Value, AllocError>
+    ensures { IfOk result (λ v. view v ≡ allowed_data events operations waiting (view coverage)) }
+{
+    json!(in alloc; {
+        "coverage": coverage,
+        "events": events,
+        "operations": operations,
+        "outcome": "allowed",
+        "waiting": waiting
+    })
+}
+
+/// The JSON report of an outcome, as a value: one object, its keys in ascending order and its
+/// numbers whole. Of accepted events `coverage` says what they have exercised.
+///
+/// # Errors
+/// `NoMemory` where a part of it could not be had.
+#[tactic(auto, using(crate::proofs::NoFloats::coverage_none))]
+pub fn covered_json(
+    alloc: Global,
+    outcome: &Outcome,
+    coverage: &Coverage,
+) -> Result<Value, NoMemory>
+    ensures data { IfOk result (λ v. view v ≡ covered_data outcome.now coverage.now) }
+    ensures no_float { IfOk result (λ v. has_float (view v) ≡ false) }
+{
+    match outcome {
+        Outcome::Allowed {
+            events,
+            operations,
+            waiting,
+        } => {
+            let coverage = coverage_value(alloc, coverage)?;
+            Ok(allowed_value(alloc, *events, *operations, *waiting, coverage)?)
+        }
+        Outcome::Forbidden(_) | Outcome::Malformed(_) => report_json(alloc, outcome),
+    }
+}
+
+/// The compact text of the JSON report, and a line feed.
+fn line_of(alloc: Global, outcome: &Outcome, coverage: &Coverage) -> Result<String, NoMemory>
+    ensures { IfOk result (λ line.
+        string_bytes line ≡ covered_json_text outcome.now coverage.now ⋯ line_feed) }
+{
+    let value = covered_json(alloc, outcome, coverage)?;
+    let mut line = value.to_string(alloc)?;
+    line.push('\n')?;
+    Ok(line)
+}
+
+/// Writes the compact text of the JSON report with what the events have exercised, and one line
+/// feed.
+///
+/// # Errors
+/// - `Write` where the writer failed or took no byte: it then has a part of the text, from its
+///   first byte on. A failed write is not tried again.
+/// - `NoMemory` where the text could not be had: the writer is then as it was.
+pub fn covered_json_line<W: Write>(
+    alloc: Global,
+    writer: &mut W,
+    outcome: &Outcome,
+    coverage: &Coverage,
+) -> Result<(), ReportFault>
+    ensures written { OnOk result (Appends (W.contents writer.old) (W.contents writer.new)
+        (covered_json_text outcome.now coverage.now ⋯ line_feed)) }
+    ensures cut { result ≡ Err fault.Write → IsCutShort (W.contents writer.old) (W.contents writer.new)
+        (covered_json_text outcome.now coverage.now ⋯ line_feed) }
+    ensures untouched { result ≡ Err fault.NoMemory → writer.new ≡ writer.old }
+{
+    let line = line_of(alloc, outcome, coverage)?;
+    write_text(writer, line.as_str())
+}

@@ -1,0 +1,16 @@
+//! What of the model a log has exercised, as text and as JSON.
+//!
+//! - `text`: the lines of a coverage ([`coverage_text`]).
+//! - `json_report`: the JSON report of an outcome with it ([`covered_json`] and
+//!   [`covered_json_line`]).
+//! - `specs/`: both byte by byte.
+//!
+//! It stands on `rv_coverage` for what was counted, on `rv_report` for reports, and on the kit's
+//! `serde_json`. Its one contract to the others: what is written is exactly the text of the counts.
+#![tactic(auto)]
+
+mod json_report;
+mod text;
+
+pub use json_report::{covered_json, covered_json_line};
+pub use text::{Extent, coverage_text};
