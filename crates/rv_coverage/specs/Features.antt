@@ -11,7 +11,7 @@ abbrev pub origin_text : Origin → List ℕ
 origin_text Initial = codes "initial value"
 origin_text Own = codes "own hart"
 origin_text Other = codes "another hart"
-origin_text Waiting = codes "still waiting"
+origin_text Waiting = codes "missing store"
 
 abbrev pub feature_text : Feature → List ℕ
 feature_text (feature.Event k) = kind_text k

@@ -8,7 +8,7 @@ use std::fmt;
 
 /// Where a load got what it returned.
 ///
-/// It is printed as `initial value`, `own hart`, `another hart` or `still waiting`.
+/// It is printed as `initial value`, `own hart`, `another hart` or `missing store`.
 #[derive(Clone, Copy, PartialEq, Eq, Debug)]
 pub enum Origin {
     /// From no store: version 0.
@@ -29,7 +29,7 @@ impl fmt::Display for Origin {
             Origin::Initial => write!(f, "initial value"),
             Origin::Own => write!(f, "own hart"),
             Origin::Other => write!(f, "another hart"),
-            Origin::Waiting => write!(f, "still waiting"),
+            Origin::Waiting => write!(f, "missing store"),
         }
     }
 }

@@ -36,5 +36,5 @@ numbers_text harts pairs =
 abbrev pub coverage_text : Extent → Coverage → List ℕ
 coverage_text extent c =
     codes "\ncoverage:\n" ⋯ counts_text (codes "event") extent c.events.items
-    ⋯ counts_text (codes "link") extent c.links.items ⋯ counts_text (codes "read") extent c.reads.items
+    ⋯ counts_text (codes "link") extent c.links.items ⋯ counts_text (codes "read from") extent c.reads.items
     ⋯ numbers_text c.harts c.pairs ⋯ waits_text c.waiting.items

@@ -77,7 +77,7 @@ pub fn coverage_text(alloc: Global, coverage: &Coverage, extent: Extent) -> Resu
     let mut text = String::from_str(alloc, "\ncoverage:\n")?;
     push_counts(&mut text, "event", coverage.events.as_slice(), extent)?;
     push_counts(&mut text, "link", coverage.links.as_slice(), extent)?;
-    push_counts(&mut text, "read", coverage.reads.as_slice(), extent)?;
+    push_counts(&mut text, "read from", coverage.reads.as_slice(), extent)?;
     push_numbers(&mut text, coverage.harts, coverage.pairs)?;
     push_waits(&mut text, coverage.waiting.as_slice())?;
     Ok(text)

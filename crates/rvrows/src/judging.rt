@@ -5,6 +5,8 @@ use crate::places::{Place, Places};
 use crate::sink::Sink;
 use rv_book::{Book, Offer};
 use rv_cert::{Certificate, Forbidden, Malformed};
+use rv_coverage::{Coverage, coverage_of};
+use rv_coverage_report::{Extent, coverage_text};
 use rv_event::{Entry, Event, Id, MemoryModel, NoMemory};
 use rv_explain::{RowTexts, Sources, story};
 use rv_picture::picture;
@@ -12,7 +14,7 @@ use rv_report::{Outcome, report, write_text};
 use std::alloc::{AllocError, Global};
 use std::io::Write;
 
-/// How a judgement is told.
+/// In which form a judgement is told.
 #[derive(Clone, Copy, PartialEq, Eq, Debug)]
 pub(crate) enum Form {
     /// The report, and where the rows that it tells come from.
@@ -21,6 +23,27 @@ pub(crate) enum Form {
     Explained,
     /// A picture in place of the report.
     Picture,
+}
+
+/// How a judgement is told.
+#[derive(Clone, Copy, PartialEq, Eq, Debug)]
+pub(crate) struct Telling {
+    /// In which form.
+    pub(crate) form: Form,
+    /// Whether all is counted behind the report that an allowed log has exercised.
+    pub(crate) coverage: bool,
+}
+
+impl Telling {
+    /// How much is told of what an allowed log has exercised, if anything is.
+    fn extent(self) -> Option<Extent> {
+        match self.form {
+            Form::Picture => None,
+            Form::Text | Form::Explained if self.coverage => Some(Extent::All),
+            Form::Explained => Some(Extent::Met),
+            Form::Text => None,
+        }
+    }
 }
 
 /// A row that is told, and where it comes from.
@@ -39,6 +62,8 @@ pub(crate) struct Judgement {
     told: Vec<Told>,
     /// The same of each row, where it is explained.
     texts: RowTexts,
+    /// What of the model they have exercised, where that is told and they are allowed.
+    coverage: Option<Coverage>,
 }
 
 /// A judge of rows.
@@ -49,23 +74,27 @@ pub(crate) struct Judge {
     book: Box<Book>,
     places: Places,
     /// How its judgement is told.
-    form: Form,
+    telling: Telling,
 }
 
 impl Judge {
     /// A judge by this model who has taken no rows.
-    pub(crate) fn new(alloc: Global, model: MemoryModel, form: Form) -> Result<Judge, AllocError> {
+    pub(crate) fn new(
+        alloc: Global,
+        model: MemoryModel,
+        telling: Telling,
+    ) -> Result<Judge, AllocError> {
         Ok(Judge {
             alloc,
             book: Box::new(alloc, Book::new(alloc, model))?,
             places: Places::new(alloc)?,
-            form,
+            telling,
         })
     }
 
     /// What came of a log whose rows were all accepted.
-    pub(crate) fn allowed(&self) -> Judgement {
-        Judgement {
+    pub(crate) fn allowed(&self) -> Result<Judgement, Stop> {
+        Ok(Judgement {
             outcome: Outcome::Allowed {
                 events: self.book.accepted(),
                 operations: self.book.operations(),
@@ -73,6 +102,18 @@ impl Judge {
             },
             told: Vec::new(self.alloc),
             texts: RowTexts::new(self.alloc),
+            coverage: self.coverage()?,
+        })
+    }
+
+    /// What of the model the rows have exercised, where that is told.
+    fn coverage(&self) -> Result<Option<Coverage>, Stop> {
+        if self.telling.extent().is_none() {
+            return Ok(None);
+        }
+        match coverage_of(self.alloc, &self.book) {
+            Ok(coverage) => Ok(Some(coverage)),
+            Err(NoMemory) => Err(Stop::NoMemory),
         }
     }
 
@@ -80,7 +121,7 @@ impl Judge {
     /// source, in its order.
     fn texts_of(&self, log: &[Entry]) -> Result<RowTexts, AllocError> {
         let mut texts = RowTexts::new(self.alloc);
-        if self.form == Form::Text {
+        if self.telling.form == Form::Text {
             return Ok(texts);
         }
         'rows: for place in 0..log.len() {
@@ -123,6 +164,7 @@ impl Judge {
             outcome: Outcome::Forbidden(forbidden),
             told,
             texts,
+            coverage: None,
         })
     }
 
@@ -135,6 +177,7 @@ impl Judge {
             outcome: Outcome::Malformed(malformed),
             told,
             texts,
+            coverage: None,
         })
     }
 }
@@ -189,19 +232,22 @@ pub(crate) fn write_judgement<W: Write>(
     alloc: Global,
     out: &mut W,
     judgement: &Judgement,
-    form: Form,
+    telling: Telling,
 ) -> Result<(), Stop> {
     let outcome = &judgement.outcome;
     let sources = Sources {
         names: &[],
         texts: &judgement.texts,
     };
-    if form == Form::Picture {
+    if telling.form == Form::Picture {
         return write_made(out, picture(alloc, sources, outcome));
     }
     write_report(alloc, out, judgement)?;
-    if form == Form::Explained {
-        return write_made(out, story(alloc, sources, outcome));
+    if telling.form == Form::Explained {
+        write_made(out, story(alloc, sources, outcome))?;
     }
-    Ok(())
+    match (&judgement.coverage, telling.extent()) {
+        (Some(coverage), Some(extent)) => write_made(out, coverage_text(alloc, coverage, extent)),
+        _ => Ok(()),
+    }
 }

@@ -14,7 +14,8 @@
 //! - `translating`: the rows, record by record.
 //!
 //! It stands on `rv_logrows` for the rows, on `rv_book` and `rv_report` for the judgement, on
-//! `rv_explain` and `rv_picture` for what is said of a refusal, on the crates whose types these
+//! `rv_explain` and `rv_picture` for what is said of a refusal, on `rv_coverage` and
+//! `rv_coverage_report` for what an allowed log has exercised, on the crates whose types these
 //! name, and on the kit's `csv` and `thiserror`. The rows are those that `rv_logrows` gives, and
 //! the judgement is the book's; no promise stands on how the program reads and writes.
 #![tactic(auto)]
@@ -135,9 +136,9 @@ fn write_rows(rt: &HostRuntime, words: &Words) -> Result<u64, Stop> {
 
 /// Judges the rows of the log. It answers what came of them, and how many records were left out.
 fn judge_rows(rt: &HostRuntime, words: &Words) -> Result<(Judgement, u64), Stop> {
-    let judge = Judge::new(rt.alloc(), words.model, words.form)?;
+    let judge = Judge::new(rt.alloc(), words.model, words.telling)?;
     let (judge, left_out) = translate_log(rt, words, judge)?;
-    Ok((judge.allowed(), left_out))
+    Ok((judge.allowed()?, left_out))
 }
 
 /// Tells how many records were left out, if any were.
@@ -153,7 +154,7 @@ fn tell_left_out<E: Write>(errors: &mut E, name: &str, left_out: u64) {
 /// Prints a judgement, and gives the status.
 fn settle<E: Write>(rt: &HostRuntime, words: &Words, errors: &mut E, judgement: &Judgement) -> u8 {
     let mut out = io::writer(rt);
-    match write_judgement(rt.alloc(), &mut out, judgement, words.form) {
+    match write_judgement(rt.alloc(), &mut out, judgement, words.telling) {
         Ok(()) => {}
         Err(Stop::NoMemory) => return tell_failure(errors, "rvmon", "no memory"),
         Err(_) => return tell_failure(errors, "rvmon", "the report can't be written"),

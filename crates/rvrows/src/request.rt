@@ -1,6 +1,6 @@
 //! What the words of the command line ask for.
 
-use crate::judging::Form;
+use crate::judging::{Form, Telling};
 use rv_event::MemoryModel;
 use rv_insn::Width;
 use std::alloc::Global;
@@ -26,8 +26,11 @@ Usage: rvrows [WORD..] [LOG..]
                     and multiples of 8
   --where FILE      rvrows: writes where each row comes from, as source,row,text
   --model rvwmo|tso rvmon: the memory model; rvwmo where it is not said
-  --explain         rvmon: says behind the report why a row was refused
+  --explain         rvmon: says behind the report why a row was refused, or what an
+                    allowed log has exercised
   --svg             rvmon: prints a picture of the refusal in place of the report
+  --coverage        rvmon: counts behind an allowed report what of the model the log has
+                    exercised
 
 A log is CSV: this header, and then a record for each instruction and store.
 
@@ -96,7 +99,7 @@ pub(crate) struct Words {
     /// The memory model that they are judged by.
     pub(crate) model: MemoryModel,
     /// How the judgement is told.
-    pub(crate) form: Form,
+    pub(crate) telling: Telling,
     /// The files of the log; none for standard input.
     pub(crate) files: Vec<String>,
     /// The file that tells where rows come from, if there is one.
@@ -188,7 +191,10 @@ impl Words {
             },
             judges: false,
             model: MemoryModel::Rvwmo,
-            form: Form::Text,
+            telling: Telling {
+                form: Form::Text,
+                coverage: false,
+            },
             files: Vec::new(alloc),
             places: None,
             help: false,
@@ -219,10 +225,11 @@ impl Words {
             "--complete" => self.request.complete = true,
             "--pending" => self.request.pending = true,
             "--log" => self.judges = true,
-            "--svg" => self.form = Form::Picture,
+            "--svg" => self.telling.form = Form::Picture,
+            "--coverage" => self.telling.coverage = true,
             "--explain" => {
-                if self.form == Form::Text {
-                    self.form = Form::Explained;
+                if self.telling.form == Form::Text {
+                    self.telling.form = Form::Explained;
                 }
             }
             "--help" | "-h" => self.help = true,

@@ -13,7 +13,7 @@ returns c =
     search rules in
     let reads : string_bytes c.push_counts-3.new.text
     ≡ string_bytes c.push_counts-2.new.text
-    ++ counts_text (codes "read") c.args.extent c.args.coverage.now.reads.items = search rules in
+    ++ counts_text (codes "read from") c.args.extent c.args.coverage.now.reads.items = search rules in
     let waits : string_bytes c.push_waits.new.text
     ≡ string_bytes c.push_numbers.new.text ++ waits_text c.args.coverage.now.waiting.items = search rules in
     parts _ _ _ _ _ _ _ _ _ _ _ _ c.in_ok-text.ensures.ok events links reads c.in_ok-push_numbers.ensures waits
