@@ -123,6 +123,7 @@ fn allowance_of(
     requires { length fed.now ≤ 8 }
     ensures outcome { IfOk result (λ j. AgreesWith question.model fed.now j.outcome) }
     ensures coverage { IfOk result (λ j. IfSome j.coverage (IsCoveredBy question.model fed.now)) }
+    ensures allowed { IfOk result (λ j. IsAllowed j.outcome) }
     ensures asked { IfOk result (λ j. IsTrue question.covering → IsSome j.coverage) }
     ensures only { IfOk result (λ j. IsSome j.coverage → IsTrue question.covering) }
     ensures fault { IfErr result (IsFaultIn fed.now) }
@@ -155,7 +156,7 @@ pub(crate) fn judge<S>(
     ensures outcome { IfOk result (λ j. AgreesWith question.model fed.now j.outcome) }
     ensures coverage { IfOk result (λ j. IfSome j.coverage (IsCoveredBy question.model fed.now)) }
     ensures asked { IfOk result (λ j. IsTrue question.covering → IsAllowed j.outcome → IsSome j.coverage) }
-    ensures only { IfOk result (λ j. IsSome j.coverage → IsTrue question.covering) }
+    ensures only { IfOk result (λ j. IsSome j.coverage → IsTrue question.covering × IsAllowed j.outcome) }
     ensures fault { IfErr result (IsFaultIn fed.now) }
 {
     let mut note = cell.note();

@@ -84,7 +84,8 @@ fn run_in<RT: Threads + Wait + Sync, R: Read + Send + Drop, C: Carrier + Sync + 
         (AreCovered settings.model (streams_in reading.entry.dialect R.remaining readers.items))) }
     ensures asked { IfOk result (λ j.
         IsTrue reading.entry.covering → IsAllowed j.outcome → IsSome j.coverage) }
-    ensures only { IfOk result (λ j. IsSome j.coverage → IsTrue reading.entry.covering) }
+    ensures only { IfOk result (λ j.
+        IsSome j.coverage → IsTrue reading.entry.covering × IsAllowed j.outcome) }
     ensures fault { IfErr result
         (IsFaultAmong (streams_in reading.entry.dialect R.remaining readers.items)) }
     ensures settings { result ≢ Err fault.Settings }
@@ -246,7 +247,8 @@ pub fn run_reading<RT: Threads + Wait + Sync, R: Read + Send + Drop>(
         (AreCovered settings.model (streams_in reading.entry.dialect R.remaining readers.items))) }
     ensures asked { IfOk result (λ j.
         IsTrue reading.entry.covering → IsAllowed j.outcome → IsSome j.coverage) }
-    ensures only { IfOk result (λ j. IsSome j.coverage → IsTrue reading.entry.covering) }
+    ensures only { IfOk result (λ j.
+        IsSome j.coverage → IsTrue reading.entry.covering × IsAllowed j.outcome) }
     ensures fault { IfErr result
         (IsFaultAmong (streams_in reading.entry.dialect R.remaining readers.items)) }
     ensures settings { (result ≡ Err fault.Settings) ↔ IsOutOfRange (vec_len readers) settings }

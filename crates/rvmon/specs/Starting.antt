@@ -59,12 +59,12 @@ abbrev pub nothing_known : Text → Option (List ℕ)
 nothing_known name = None
 
 -- what a run of a request comes to: its outcome is true of the sources, and what they have exercised is
--- told where it is asked for and they are allowed, and only where it is asked for
+-- told just where it is asked for and they are allowed
 pub record IsJudgedOf (asked : Asked) (streams : List (Option Stream)) (j : Judged) : Type 0 where
   pub outcome : IsTrueOf asked.model streams j.outcome
   pub covered : IfSome j.coverage (AreCovered asked.model streams)
   pub counted : IsTrue (covering_asked asked) → IsAllowed j.outcome → IsSome j.coverage
-  pub only : IsSome j.coverage → IsTrue (covering_asked asked)
+  pub only : IsSome j.coverage → IsTrue (covering_asked asked) × IsAllowed j.outcome
 
 -- the ending of a request: a file does not open, the sources that it names have no outcome, or this
 -- is theirs; its numbers are never out of range

@@ -31,7 +31,7 @@ returns-in-Ok-run_reading g c =
       outcome = record { allowed = ran.allowed; forbidden = ran.forbidden; malformed = ran.malformed };
       covered = ran.covered;
       counted = λ asks. ran.asked (c.is_covering.ensures ∙ asks);
-      only = λ some. sym c.is_covering.ensures ∙ ran.only some;
+      only = λ some. (sym c.is_covering.ensures ∙ (ran.only some).0, (ran.only some).1);
     })
 
 pub returns : goal.returns
