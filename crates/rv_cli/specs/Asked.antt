@@ -35,6 +35,7 @@ pub record SaysAsked (rows : List Row) (asked : Asked) : Type 0 where
   pub explain : asked.explain ≡ is_true (first_of (codes "explain") rows)
   pub svg : asked.svg ≡ is_true (first_of (codes "svg") rows)
   pub coverage : asked.coverage ≡ is_true (first_of (codes "coverage") rows)
+  pub complete : asked.complete ≡ is_true (first_of (codes "complete") rows)
   pub where_file : option_map string_bytes asked.where_file ≡ first_of (codes "where") rows
   pub files : map string_bytes asked.files.items ≡ files_in rows
 

@@ -1,9 +1,9 @@
 //! The program's command, an argument a function.
 ghost use Rattle.std.specs.Prelude.{◌≡◌, false, IfOk};
 ghost use Rattle.clap.specs.Words.{app_of, rule_of};
-ghost use Rattle.rv_cli.specs.Command.{IsCommand, ListsModels, bare_app, carriers_rule, coverage_rule, explain_rule};
-ghost use Rattle.rv_cli.specs.Command.{files_rule, json_rule, model_rule, slots_rule, svg_rule, where_rule};
-ghost use Rattle.rv_cli.specs.Command.{workers_rule};
+ghost use Rattle.rv_cli.specs.Command.{IsCommand, ListsModels, bare_app, carriers_rule, complete_rule};
+ghost use Rattle.rv_cli.specs.Command.{coverage_rule, explain_rule, files_rule, json_rule, model_rule};
+ghost use Rattle.rv_cli.specs.Command.{slots_rule, svg_rule, where_rule, workers_rule};
 
 use crate::help;
 use clap::{Arg, ArgAction, Command, value_parser};
@@ -110,6 +110,17 @@ fn coverage_arg<'a>(alloc: Global) -> Arg<'a>
         .help(help::COVERAGE)
 }
 
+/// `--complete`.
+fn complete_arg<'a>(alloc: Global) -> Arg<'a>
+    ensures rule { rule_of result ≡ complete_rule }
+    ensures local { result.global ≡ false }
+{
+    Arg::new(alloc, "complete")
+        .long("complete")
+        .action(ArgAction::SetTrue)
+        .help(help::COMPLETE)
+}
+
 /// `--where`.
 fn where_arg<'a>(alloc: Global) -> Arg<'a>
     ensures rule { rule_of result ≡ where_rule }
@@ -155,6 +166,7 @@ pub(crate) fn command_of<'a>(alloc: Global) -> Result<Command<'a>, AllocError>
         .arg(explain_arg(alloc))?
         .arg(svg_arg(alloc))?
         .arg(coverage_arg(alloc))?
+        .arg(complete_arg(alloc))?
         .arg(where_arg(alloc))?
         .arg(files_arg(alloc))
 }

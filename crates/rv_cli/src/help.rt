@@ -41,6 +41,11 @@ pub(crate) const COVERAGE: &str = "\
 Count behind an allowed report what of the model the
 trace has exercised";
 
+/// On `--complete`.
+pub(crate) const COMPLETE: &str = "\
+Allow only whole traces: each ends with a record end,N
+that counts its rows, and no load waits";
+
 /// On `--where`.
 pub(crate) const WHERE: &str = "\
 Tell where rows come from, by the file ROWS:{n}\
@@ -83,6 +88,7 @@ a branch. Only L, LR, SC, SF and AMO are depended on. With --carriers a row may
 also have op I and in deps [d]: what lists it depends on all that it lists.
 
 A file has at most 65536 rows below the header, a hart at most 4096 events.
+With --complete, and only then, its last line may be end,N: N rows stand above.
 
 Example: two harts each store to a word, fence, and load the other's word, and
 both loads return the initial value.
@@ -130,4 +136,5 @@ Exit status:
   0  allowed, or help
   1  forbidden
   2  malformed, a source that is not in the format, or wrong arguments
-  3  a source or report that cannot be opened, read or written, or no memory";
+  3  a source or report that cannot be opened, read or written, or no memory
+  4  with --complete: allowed, but no whole run; a line incomplete: TEXT says why";

@@ -28,6 +28,9 @@ pub struct Asked {
     pub svg: bool,
     /// Whether all is counted behind the report that an allowed log has exercised.
     pub coverage: bool,
+    /// Whether the run is to be complete: each source ends with an end record that counts its rows,
+    /// and no load waits.
+    pub complete: bool,
     /// The name of a file that tells where rows come from, if one is named.
     pub where_file: Option<String>,
     /// The names of the sources' files in the order of the words, at most 8. Standard input is the

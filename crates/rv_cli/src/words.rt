@@ -128,6 +128,7 @@ pub fn asked(alloc: Global, words: &[&str]) -> Result<Asked, WordsFault>
         explain: flag_in(&matches, "explain"),
         svg: flag_in(&matches, "svg"),
         coverage: flag_in(&matches, "coverage"),
+        complete: flag_in(&matches, "complete"),
         where_file,
         files,
     })

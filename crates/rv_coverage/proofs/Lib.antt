@@ -1,2 +1,3 @@
 mod Firsts
+mod NoWaits
 mod Pairs

@@ -21,4 +21,4 @@ mod waiting;
 pub use coverage::{Coverage, coverage_of};
 pub use feature::{Count, Feature, Origin};
 pub use kind::Kind;
-pub use waiting::Wait;
+pub use waiting::{Wait, first_waits};

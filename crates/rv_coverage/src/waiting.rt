@@ -1,7 +1,7 @@
 //! The loads whose stores have not come.
-ghost use Rattle.std.specs.Prelude.{◌≡◌, ◌==◌, ◌&&◌, ◌++◌, IfOk, OnOk, Some, take};
+ghost use Rattle.std.specs.Prelude.{◌≡◌, ◌==◌, ◌&&◌, ◌++◌, [], IfOk, OnOk, Some, take};
 ghost use Rattle.rv_event.specs.Log.{events};
-ghost use Rattle.rv_book.specs.Counts.{is_waiting};
+ghost use Rattle.rv_book.specs.Counts.{is_waiting, waiting_of};
 ghost use Rattle.rv_coverage.specs.Waits.{wait_of, wait_text, waits, waits_of};
 
 use rv_book::Book;
@@ -62,15 +62,18 @@ fn push_waits(book: &Book, hart: u8, waits: &mut Vec<Wait>) -> Result<(), NoMemo
     Ok(())
 }
 
-/// The first ten loads that wait, by their names.
+/// The first ten loads that wait, by their names. There is none only where no load waits.
 ///
 /// It costs a pass over the log for each hart, and memory for each load that waits.
 ///
 /// # Errors
 /// `NoMemory` where the list could not be had.
 pub fn first_waits(alloc: Global, book: &Book) -> Result<Vec<Wait>, NoMemory>
-    ensures { IfOk result (λ firsts. firsts.items ≡ take 10 (waits book.now.log)) }
+    ensures firsts { IfOk result (λ firsts. firsts.items ≡ take 10 (waits book.now.log)) }
+    ensures none { IfOk result (λ firsts. firsts.items ≡ [] → waiting_of book.now.log ≡ 0) }
 {
+    // For the proof alone, which has from this call that the log is well formed.
+    let _log = book.log();
     let harts: [u8; 16] = [0, 1, 2, 3, 4, 5, 6, 7, 8, 9, 10, 11, 12, 13, 14, 15];
     let mut waits = Vec::new(alloc);
     'harts: for hart in harts {

@@ -1,5 +1,5 @@
--- What of the model a log has exercised, as the data of a JSON value.
-use Rattle.std.specs.Prelude.{ℕ, List, [], ◌∷◌, codes, map}
+-- What is told beside a report, as the data of a JSON value.
+use Rattle.std.specs.Prelude.{ℕ, List, [], ◌∷◌, Option, Some, None, codes, map, option_map}
 use Rattle.serde_json.specs.Data.{Data, Members, string, array, object, member, no_members, put}
 use Rattle.serde_json.specs.View.{items_of}
 use Rattle.serde_json.specs.Written.{compact_text}
@@ -34,22 +34,28 @@ coverage_data c =
     (member (codes "reads") (counts_data c.reads.items)
     (member (codes "waiting") (array (items_of (map wait_data c.waiting.items))) no_members))))))
 
--- the report of accepted events, with what they have exercised
-abbrev pub allowed_data : ℕ → ℕ → ℕ → Data → Data
-allowed_data events operations waiting coverage =
-    object (member (codes "coverage") coverage
-    (member (codes "events") (whole_number events)
+-- the members of the report of accepted events
+abbrev pub allowed_members : ℕ → ℕ → ℕ → Members
+allowed_members events operations waiting =
+    member (codes "events") (whole_number events)
     (member (codes "operations") (whole_number operations)
     (member (codes "outcome") (string (codes "allowed"))
-    (member (codes "waiting") (whole_number waiting) no_members)))))
+    (member (codes "waiting") (whole_number waiting) no_members)))
 
--- that of another outcome has nothing more
-abbrev pub covered_data : Outcome → Coverage → Data
-covered_data (outcome.Allowed events operations waiting) c =
-    allowed_data events operations waiting (coverage_data c)
-covered_data (outcome.Forbidden f) c = report_data (outcome.Forbidden f)
-covered_data (outcome.Malformed m) c = report_data (outcome.Malformed m)
+-- with one more, if it is told
+abbrev pub and_told : List ℕ → Option Data → Members → Members
+and_told name None ms = ms
+and_told name (Some d) ms = put name d ms
+
+-- The report of accepted events, with what they have exercised and what their run lacks, where
+-- these are told. That of another outcome has nothing more.
+abbrev pub told_data : Outcome → Option Coverage → Option (List ℕ) → Data
+told_data (outcome.Allowed events operations waiting) c incomplete =
+    object (and_told (codes "incomplete") (option_map string incomplete)
+    (and_told (codes "coverage") (option_map coverage_data c) (allowed_members events operations waiting)))
+told_data (outcome.Forbidden f) c incomplete = report_data (outcome.Forbidden f)
+told_data (outcome.Malformed m) c incomplete = report_data (outcome.Malformed m)
 
 -- its compact text
-abbrev pub covered_json_text : Outcome → Coverage → List ℕ
-covered_json_text o c = compact_text (covered_data o c)
+abbrev pub told_json_text : Outcome → Option Coverage → Option (List ℕ) → List ℕ
+told_json_text o c incomplete = compact_text (told_data o c incomplete)

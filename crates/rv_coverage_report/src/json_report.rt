@@ -1,14 +1,17 @@
-//! The JSON report of an outcome with what of the model its log has exercised.
-ghost use Rattle.std.specs.Prelude.{◌≡◌, false, Err, IfOk, OnOk, map, string_bytes};
+//! The JSON report of an outcome with what is told beside it.
+ghost use Rattle.std.specs.Prelude.{◌≡◌, false, Err, IfOk, OnOk, codes, map, option_map, string_bytes};
+ghost use Rattle.std.specs.Option.{option_copied};
 ghost use Rattle.std.specs.Io.KnownBytes.{Appends};
-ghost use Rattle.serde_json.specs.View.{view};
+ghost use Rattle.serde_json.specs.Data.{string};
+ghost use Rattle.serde_json.specs.View.{members_view, view};
 ghost use Rattle.serde_json.specs.Written.{has_float};
 ghost use Rattle.rv_event.specs.Texts.{◌⋯◌};
 ghost use Rattle.rv_report.specs.Texts.{line_feed};
 ghost use Rattle.rv_report.specs.Writing.{IsCutShort};
 ghost use Rattle.rv_report.specs.declared.fault.ReportFault.TheVariants as fault;
-ghost use Rattle.rv_coverage_report.specs.JsonData.{allowed_data, counts_data, coverage_data, covered_data};
-ghost use Rattle.rv_coverage_report.specs.JsonData.{covered_json_text, wait_data};
+ghost use Rattle.rv_report.specs.declared.outcome.Outcome.TheVariants as outcome;
+ghost use Rattle.rv_coverage_report.specs.JsonData.{allowed_members, and_told, counts_data, coverage_data};
+ghost use Rattle.rv_coverage_report.specs.JsonData.{told_data, told_json_text, wait_data};
 
 use rv_coverage::{Count, Coverage, Wait};
 use rv_event::NoMemory;
@@ -73,37 +76,96 @@ fn coverage_value(alloc: Global, coverage: &Coverage) -> Result<Value, AllocErro
     })
 }
 
-/// The report of accepted events, with what they have exercised.
+/// The members of the report of accepted events.
+fn allowed_members(
+    alloc: Global,
+    events: usize,
+    operations: usize,
+    waiting: usize,
+) -> Result<Map<String, Value>, AllocError>
+    ensures { IfOk result (λ ms.
+        members_view ms.entries ≡ allowed_members events operations waiting) }
+{
+    let mut members = Map::new(alloc);
+    put(&mut members, alloc, "events", json!(in alloc; events)?)?;
+    put(
+        &mut members,
+        alloc,
+        "operations",
+        json!(in alloc; operations)?,
+    )?;
+    put(&mut members, alloc, "outcome", json!(in alloc; "allowed")?)?;
+    put(&mut members, alloc, "waiting", json!(in alloc; waiting)?)?;
+    Ok(members)
+}
+
+/// Adds what the events have exercised, if it was counted.
+fn put_coverage(
+    members: &mut Map<String, Value>,
+    alloc: Global,
+    coverage: Option<&Coverage>,
+) -> Result<(), AllocError>
+    ensures { OnOk result (members_view members.new.entries
+        ≡ and_told (codes "coverage") (option_map coverage_data (option_copied coverage.entry))
+        (members_view members.old.entries)) }
+{
+    if let Some(coverage) = coverage {
+        let coverage = coverage_value(alloc, coverage)?;
+        put(members, alloc, "coverage", coverage)?;
+    }
+    Ok(())
+}
+
+/// Adds what their run lacks, if it lacks anything.
+fn put_incomplete(
+    members: &mut Map<String, Value>,
+    alloc: Global,
+    incomplete: Option<&str>,
+) -> Result<(), AllocError>
+    ensures { OnOk result (members_view members.new.entries
+        ≡ and_told (codes "incomplete") (option_map string (option_copied incomplete.entry))
+        (members_view members.old.entries)) }
+{
+    if let Some(incomplete) = incomplete {
+        let incomplete = json!(in alloc; incomplete)?;
+        put(members, alloc, "incomplete", incomplete)?;
+    }
+    Ok(())
+}
+
+/// The report of accepted events, with what is told beside.
 fn allowed_value(
     alloc: Global,
     events: usize,
     operations: usize,
     waiting: usize,
-    coverage: Value,
+    coverage: Option<&Coverage>,
+    incomplete: Option<&str>,
 ) -> Result<Value, AllocError>
-    ensures { IfOk result (λ v. view v ≡ allowed_data events operations waiting (view coverage)) }
+    ensures { IfOk result (λ v. view v ≡ told_data (outcome.Allowed events operations waiting)
+        (option_copied coverage.entry) (option_copied incomplete.entry)) }
 {
-    json!(in alloc; {
-        "coverage": coverage,
-        "events": events,
-        "operations": operations,
-        "outcome": "allowed",
-        "waiting": waiting
-    })
+    let mut members = allowed_members(alloc, events, operations, waiting)?;
+    put_coverage(&mut members, alloc, coverage)?;
+    put_incomplete(&mut members, alloc, incomplete)?;
+    Ok(Value::Object(members))
 }
 
 /// The JSON report of an outcome, as a value: one object, its keys in ascending order and its
-/// numbers whole. Of accepted events `coverage` says what they have exercised.
+/// numbers whole. Of accepted events `coverage` says what they have exercised, and `incomplete`
+/// what their run lacks that would be complete, where these are given.
 ///
 /// # Errors
 /// `NoMemory` where a part of it could not be had.
-#[tactic(auto, using(crate::proofs::NoFloats::coverage_none))]
-pub fn covered_json(
+#[tactic(auto, using(crate::proofs::NoFloats::told_none))]
+pub fn told_json(
     alloc: Global,
     outcome: &Outcome,
-    coverage: &Coverage,
+    coverage: Option<&Coverage>,
+    incomplete: Option<&str>,
 ) -> Result<Value, NoMemory>
-    ensures data { IfOk result (λ v. view v ≡ covered_data outcome.now coverage.now) }
+    ensures data { IfOk result (λ v.
+        view v ≡ told_data outcome.now (option_copied coverage.entry) (option_copied incomplete.entry)) }
     ensures no_float { IfOk result (λ v. has_float (view v) ≡ false) }
 {
     match outcome {
@@ -112,43 +174,48 @@ pub fn covered_json(
             operations,
             waiting,
         } => {
-            let coverage = coverage_value(alloc, coverage)?;
-            Ok(allowed_value(alloc, *events, *operations, *waiting, coverage)?)
+            let (events, operations, waiting) = (*events, *operations, *waiting);
+            Ok(allowed_value(alloc, events, operations, waiting, coverage, incomplete)?)
         }
         Outcome::Forbidden(_) | Outcome::Malformed(_) => report_json(alloc, outcome),
     }
 }
 
 /// The compact text of the JSON report, and a line feed.
-fn line_of(alloc: Global, outcome: &Outcome, coverage: &Coverage) -> Result<String, NoMemory>
-    ensures { IfOk result (λ line.
-        string_bytes line ≡ covered_json_text outcome.now coverage.now ⋯ line_feed) }
+fn line_of(
+    alloc: Global,
+    outcome: &Outcome,
+    coverage: Option<&Coverage>,
+    incomplete: Option<&str>,
+) -> Result<String, NoMemory>
+    ensures { IfOk result (λ line. string_bytes line
+        ≡ told_json_text outcome.now (option_copied coverage.entry) (option_copied incomplete.entry) ⋯ line_feed) }
 {
-    let value = covered_json(alloc, outcome, coverage)?;
+    let value = told_json(alloc, outcome, coverage, incomplete)?;
     let mut line = value.to_string(alloc)?;
     line.push('\n')?;
     Ok(line)
 }
 
-/// Writes the compact text of the JSON report with what the events have exercised, and one line
-/// feed.
+/// Writes the compact text of the JSON report with what is told beside it, and one line feed.
 ///
 /// # Errors
 /// - `Write` where the writer failed or took no byte: it then has a part of the text, from its
 ///   first byte on. A failed write is not tried again.
 /// - `NoMemory` where the text could not be had: the writer is then as it was.
-pub fn covered_json_line<W: Write>(
+pub fn told_json_line<W: Write>(
     alloc: Global,
     writer: &mut W,
     outcome: &Outcome,
-    coverage: &Coverage,
+    coverage: Option<&Coverage>,
+    incomplete: Option<&str>,
 ) -> Result<(), ReportFault>
     ensures written { OnOk result (Appends (W.contents writer.old) (W.contents writer.new)
-        (covered_json_text outcome.now coverage.now ⋯ line_feed)) }
+        (told_json_text outcome.now (option_copied coverage.entry) (option_copied incomplete.entry) ⋯ line_feed)) }
     ensures cut { result ≡ Err fault.Write → IsCutShort (W.contents writer.old) (W.contents writer.new)
-        (covered_json_text outcome.now coverage.now ⋯ line_feed) }
+        (told_json_text outcome.now (option_copied coverage.entry) (option_copied incomplete.entry) ⋯ line_feed) }
     ensures untouched { result ≡ Err fault.NoMemory → writer.new ≡ writer.old }
 {
-    let line = line_of(alloc, outcome, coverage)?;
+    let line = line_of(alloc, outcome, coverage, incomplete)?;
     write_text(writer, line.as_str())
 }

@@ -1,8 +1,8 @@
-//! What of the model a log has exercised, as text and as JSON.
+//! What of the model a log has exercised, as text, and what is told beside a report, as JSON.
 //!
 //! - `text`: the lines of a coverage ([`coverage_text`]).
-//! - `json_report`: the JSON report of an outcome with it ([`covered_json`] and
-//!   [`covered_json_line`]).
+//! - `json_report`: the JSON report of an outcome with it, and with what a run lacks that would be
+//!   complete ([`told_json`] and [`told_json_line`]).
 //! - `specs/`: both byte by byte.
 //!
 //! It stands on `rv_coverage` for what was counted, on `rv_report` for reports, and on the kit's
@@ -12,5 +12,5 @@
 mod json_report;
 mod text;
 
-pub use json_report::{covered_json, covered_json_line};
+pub use json_report::{told_json, told_json_line};
 pub use text::{Extent, coverage_text};

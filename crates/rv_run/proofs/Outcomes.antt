@@ -9,12 +9,11 @@ use Rattle.rv_run.proofs.Common.{Outcome, Allowed, Forbidden, Malformed, AgreesW
 use Rattle.rv_run.proofs.Common.{IsEndOf, IsConsistent, IsReplayed, IsAllowed, AreWellFormed, EndsIn, HasRead}
 use Rattle.rv_run.proofs.Common.{AreEventsOf, IsFaultAmong, IsRefused, IsPartOf, IsTrueOf, AreAllowed, AreForbidden}
 use Rattle.rv_run.proofs.Common.{AreMalformed, EndsWhole, IfAllowed, IfForbidden, IfMalformed, RunFault, Fed}
-use Rattle.rv_run.proofs.Common.{FeedEnd}
 use Rattle.std.proofs.lemmas.List.Elements.{All-from_get_or}
 use Rattle.rv_event.specs.declared.fault.Fault.{Fault as EventFault}
 use Rattle.rv_book.specs.Chunked.{entries_of}
 use Rattle.rv_coverage.specs.declared.coverage.Coverage.{Coverage}
-use Rattle.rv_run.specs.Comparisons.{IsCoveredBy}
+use Rattle.rv_run.specs.Comparisons.{IsCoveredBy, IsWhole}
 use Rattle.rv_run.specs.Sources.{AreCovered}
 use Rattle.rv_run.specs.declared.judging.Judged.{Judged}
 use Rattle.rv_run.proofs.InconsistentRefusals.{continued, exactly_allowed}
@@ -133,7 +132,13 @@ first-true (Some t) fed given n is first = (
 all-true : (s : Option Stream) (fed : Fed) → IsFedOf s fed → fed.end ≡ end.Whole →
     AreEventsOf s fed.events.items × EndsWhole s
 all-true None fed is whole = (tt, tt)
-all-true (Some t) fed is whole = subst (λ (e : FeedEnd). IsEndOf t fed.events.items e) whole is.1
+all-true (Some t) fed is whole = let so = subst (IsEndOf t fed.events.items fed.said) whole is.1 in (so.0, so.1)
+
+-- and so does its end record
+pub said-true : (s : Stream) (fed : Fed) → IsFedOf (Some s) fed → fed.end ≡ end.Whole →
+    (s.said ≡ fed.said) × (length s.events ≡ length fed.events.items)
+said-true s fed is whole =
+    let so = subst (IsEndOf s fed.events.items fed.said) whole is.1 in (so.2, ap length so.0)
 
 prefix-known : (o : Option Stream) (given es : List Event) → IsSome o → IfSome o (λ t. IsPrefix given t.events) →
     AreEventsOf o es → IsPrefix given es
@@ -282,23 +287,39 @@ module _ (streams : List (Option Stream)) (fed : List Fed) (any : Fed) (same : l
     };
   }
 
-  -- what a log of all that was read has exercised the sources have
-  pub covered-true : (model : MemoryModel) (c : Coverage) → IsCoveredBy model fed c → AreCovered model streams c
-  covered-true model c a =
-      let log = a.0 in
+  -- a log of all that was read has the events of the sources
+  abbrev pub every : List Entry
+  every = together 0 (map (λ (f : Fed). f.events.items) fed)
+
+  pub read-true : (log : List Entry) → IsWhole log fed → HasRead 0 streams every
+  read-true log whole =
       let ess = map (λ (f : Fed). f.events.items) fed in
       let long : length ess ≡ length fed = length-map fed (λ (f : Fed). f.events.items) in
-      record {
-        entries = together 0 ess;
-        read = read-all 0 streams ess (long ∙ same) (λ i low. let here : i < length fed = omega (arith, low, same) in
-            subst (λ (l : List Event). AreEventsOf (get_or streams i None) l) (sym (read-at i here))
-            (all-true (get_or streams i None) (get_or fed i any) (each i any low) (a.1.1 i any here).ended).0);
-        log = log;
-        merge = λ source. sym (merge-of log ess (subst (λ (n : ℕ). All (λ x. x.source < n) log) (sym long) a.1.0)
+      read-all 0 streams ess (long ∙ same) (λ i low. let here : i < length fed = omega (arith, low, same) in
+      subst (λ (l : List Event). AreEventsOf (get_or streams i None) l) (sym (read-at i here))
+      (all-true (get_or streams i None) (get_or fed i any) (each i any low) (whole.1 i any here).ended).0)
+
+  pub merge-true : (log : List Entry) → IsWhole log fed →
+      All (λ x. x.source < length fed) log × All (λ x. x.source < length fed) every × SameSources log every
+  merge-true log whole =
+      let ess = map (λ (f : Fed). f.events.items) fed in
+      let long : length ess ≡ length fed = length-map fed (λ (f : Fed). f.events.items) in (
+        whole.0,
+        subst (λ (n : ℕ). All (λ x. x.source < n) every) long (low-together 0 (length ess) ess (omega arith)),
+        merge-of log ess (subst (λ (n : ℕ). All (λ x. x.source < n) log) (sym long) whole.0)
             (λ i low. let here : i < length fed = omega (arith, low, long) in
-            (a.1.1 i any here).all ∙ sym (read-at i here)) source);
-        coverage = a.2;
-      }
+            (whole.1 i any here).all ∙ sym (read-at i here)),
+      )
+
+  -- what such a log has exercised the sources have
+  pub covered-true : (model : MemoryModel) (c : Coverage) → IsCoveredBy model fed c → AreCovered model streams c
+  covered-true model c a = record {
+    entries = every;
+    read = read-true a.0 a.1;
+    log = a.0;
+    merge = λ source. sym ((merge-true a.0 a.1).2 source);
+    coverage = a.2;
+  }
 
   -- a fault that a feeder met is one of its source
   pub fault-true : (why : RunFault) → IsFaultIn fed why → IsFaultAmong streams why
@@ -308,13 +329,13 @@ module _ (streams : List (Option Stream)) (fed : List Fed) (any : Fed) (same : l
     where
       own : (s : Option Stream) (one : Fed) → IsFedOf s one → one.end ≡ end.Fault f → EndsIn s f
       own None one is by = tt
-      own (Some t) one is by = subst (λ (e : FeedEnd). IsEndOf t one.events.items e) by is.1
+      own (Some t) one is by = subst (IsEndOf t one.events.items one.said) by is.1
   fault-true fault.NoMemory told = tt
   fault-true fault.Lost told = tt
   fault-true fault.Settings told = tt
 
 -- the same of readers, by what each says
-each-of :
+pub each-of :
     {R : Type 0} (says : R → Option Stream) (readers : List R) (fed : List Fed) → length fed ≡ length readers →
     ((i : ℕ) (r : R) (f : Fed) → i < length readers → IsFedOf (says (get_or readers i r)) (get_or fed i f)) →
     (r : R) (i : ℕ) (f : Fed) →

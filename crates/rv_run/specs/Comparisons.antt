@@ -1,5 +1,6 @@
 -- When an outcome agrees with what the feeders have read.
-use Rattle.std.specs.Prelude.{◌≡◌, ◌<◌, ℕ, List, All, length, take, slice_index_or, ⊤}
+use Rattle.std.specs.Prelude.{◌≡◌, ◌≢◌, ◌⊎◌, ◌<◌, ℕ, List, [], All, Option, Some, None, IsSome, length, take}
+use Rattle.std.specs.Prelude.{slice_index_or, ⊤}
 use Rattle.rv_event.specs.WellFormed.{WellFormed}
 use Rattle.rv_event.specs.declared.event.Entry.{Entry}
 use Rattle.rv_event.specs.declared.memory_model.MemoryModel.{MemoryModel}
@@ -11,11 +12,14 @@ use Rattle.rv_coverage.specs.declared.coverage.Coverage.{Coverage}
 use Rattle.rv_trace.specs.declared.fault.TraceFault.{TraceFault}
 use Rattle.rv_report.specs.declared.outcome.Outcome.{Outcome}
 use Rattle.rv_report.specs.declared.outcome.Outcome.TheVariants.{Allowed, Forbidden, Malformed}
+use Rattle.rv_run.specs.Completeness.{IsFirstWait}
 use Rattle.rv_run.specs.Replays.{IsConsistent}
 use Rattle.rv_run.specs.declared.fault.RunFault.{RunFault}
 use Rattle.rv_run.specs.declared.fault.RunFault.TheVariants.{Trace, NoMemory, Lost, Settings}
 use Rattle.rv_run.specs.declared.feeding.Fed.{Fed}
 use Rattle.rv_run.specs.declared.feeding.FeedEnd.TheVariants.{Whole, Fault}
+use Rattle.rv_run.specs.declared.missing.Missing.{Missing}
+use Rattle.rv_run.specs.declared.missing.Missing.TheVariants.{EndRecord, Rows, Events, Store}
 
 -- the log's events of the source are the first that were read
 pub record IsBegunIn (log : List Entry) (source : ℕ) (fed : Fed) : Type 0 where
@@ -50,6 +54,49 @@ AgreesWith model fed (Malformed m) = (m.model ≡ model) × IsBegun m.evidence f
 abbrev pub IsCoveredBy : MemoryModel → List Fed → Coverage → Type 0
 IsCoveredBy model fed c = (log : List Entry) × IsWhole log fed × IsCoverage model log c
 
+-- ---- completeness
+-- the end record of a source counts the events that were read, or this is what it lacks
+abbrev pub IsCountedFed : Fed → Type 0
+IsCountedFed fed = fed.said ≡ Some (length fed.events.items)
+
+abbrev pub IsMiscountedFed : ℕ → ℕ → Fed → Type 0
+IsMiscountedFed rows said fed = (rows ≢ said) × (length fed.events.items ≡ rows) × (fed.said ≡ Some said)
+
+abbrev pub IsEndLacking : ℕ → Fed → Option Missing → Type 0
+IsEndLacking source fed None = IsCountedFed fed
+IsEndLacking source fed (Some (EndRecord i)) = (i ≡ source) × (fed.said ≡ None)
+IsEndLacking source fed (Some (Rows i rows said)) = (i ≡ source) × IsMiscountedFed rows said fed
+IsEndLacking source fed (Some Events) = ⊥
+IsEndLacking source fed (Some (Store w)) = ⊥
+
+-- the end records of the first so many sources do; those of all, or this is the first that does not
+abbrev pub AreCountedFed : List Fed → ℕ → Type 0
+AreCountedFed fed n = (i : ℕ) (f : Fed) → i < n → IsCountedFed (slice_index_or fed i f)
+
+abbrev pub AreEndsLacking : List Fed → Option Missing → Type 0
+AreEndsLacking fed None = AreCountedFed fed (length fed)
+AreEndsLacking fed (Some m) =
+    (source : ℕ) × AreCountedFed fed source × (source < length fed)
+    × ((f : Fed) → IsEndLacking source (slice_index_or fed source f) (Some m))
+
+-- the log has events of which none waits, or this is what it lacks
+abbrev pub IsLogLacking : List Entry → Option Missing → Type 0
+IsLogLacking log None = (0 < length log) × (waiting_of log ≡ 0)
+IsLogLacking log (Some Events) = log ≡ []
+IsLogLacking log (Some (Store w)) = IsFirstWait log w
+IsLogLacking log (Some (EndRecord source)) = ⊥
+IsLogLacking log (Some (Rows source rows said)) = ⊥
+
+-- nothing is lacking, or this is the first that is
+abbrev pub IsLacking : List Fed → List Entry → Option Missing → Type 0
+IsLacking fed log m =
+    (IsSome m × AreEndsLacking fed m) ⊎ (AreCountedFed fed (length fed) × IsLogLacking log m)
+
+-- the same of a log of all that was read
+abbrev pub LacksBy : List Fed → Option Missing → Type 0
+LacksBy fed m = (log : List Entry) × IsWhole log fed × IsLacking fed log m
+
+-- ---- faults
 -- the feeder of a source ended by this fault, and that of no lower source by one
 pub record EndedBy (fed : List Fed) (source : ℕ) (fault : TraceFault) : Type 0 where
   pub low : source < length fed

@@ -14,22 +14,22 @@ use Rattle.rv_run.specs.declared.feeding.Fed.{Fed}
 use Rattle.rv_run.specs.declared.feeding.FeedEnd.{FeedEnd}
 use Rattle.rv_run.specs.declared.feeding.FeedEnd.TheVariants.{Whole, Stopped, Fault, NoMemory}
 
--- a whole end is the source's, after all its events; a fault of the text is the one that the source
--- ends in
-abbrev pub IsEndOf : Stream → List Event → FeedEnd → Type 0
-IsEndOf s events Whole = (s.events ≡ events) × (s.end ≡ None)
-IsEndOf s events Stopped = ⊤
-IsEndOf s events (Fault f) = is_of_text f.kind ≡ true → s.end ≡ Some f
-IsEndOf s events NoMemory = ⊤
+-- a whole end is the source's, after all its events, and its end record says so much; a fault of
+-- the text is the one that the source ends in
+abbrev pub IsEndOf : Stream → List Event → Option ℕ → FeedEnd → Type 0
+IsEndOf s events said Whole = (s.events ≡ events) × (s.end ≡ None) × (s.said ≡ said)
+IsEndOf s events said Stopped = ⊤
+IsEndOf s events said (Fault f) = is_of_text f.kind ≡ true → s.end ≡ Some f
+IsEndOf s events said NoMemory = ⊤
 
 -- the events are the first of the source's, and so is the end
-abbrev pub IsReadOf : Option Stream → List Event → FeedEnd → Type 0
-IsReadOf None events end = ⊤
-IsReadOf (Some s) events end = IsPrefix events s.events × IsEndOf s events end
+abbrev pub IsReadOf : Option Stream → List Event → Option ℕ → FeedEnd → Type 0
+IsReadOf None events said end = ⊤
+IsReadOf (Some s) events said end = IsPrefix events s.events × IsEndOf s events said end
 
 -- what a feeder gives is so
 abbrev pub IsFedOf : Option Stream → Fed → Type 0
-IsFedOf start fed = IsReadOf start fed.events.items fed.end
+IsFedOf start fed = IsReadOf start fed.events.items fed.said fed.end
 
 -- no fault was met, and these events were taken, which can be packed
 pub record IsFeeding (start : Option Stream) (events : List Event) (trace : TraceLeft) : Type 0 where
@@ -42,7 +42,7 @@ pub record IsFeeding (start : Option Stream) (events : List Event) (trace : Trac
 -- the feeder goes on, or it has ended
 abbrev pub GoesOn : Option Stream → List Event → TraceLeft → Option FeedEnd → Type 0
 GoesOn start events trace None = IsFeeding start events trace
-GoesOn start events trace (Some end) = IsReadOf start events end
+GoesOn start events trace (Some end) = IsReadOf start events trace.said end
 
 -- the chunk has the events from the last multiple of eight on
 abbrev pub IsLastOf : List Event → ℕ → Content → Type 0

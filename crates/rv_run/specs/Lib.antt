@@ -1,4 +1,5 @@
 pub mod Comparisons
+pub mod Completeness
 pub mod Desks
 pub mod Drives
 pub mod Feeds

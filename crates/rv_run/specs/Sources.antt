@@ -14,7 +14,7 @@ use Rattle.rv_coverage.specs.declared.coverage.Coverage.{Coverage}
 use Rattle.rv_trace.specs.Faults.{is_of_text}
 use Rattle.rv_trace.specs.Source.{Stream, bytes_say}
 use Rattle.rv_trace.specs.declared.dialect.Dialect.{Dialect}
-use Rattle.rv_trace.specs.declared.dialect.Dialect.TheVariants.{Plain}
+use Rattle.rv_trace.specs.Dialects.{plain}
 use Rattle.rv_trace.specs.declared.fault.TraceFault.{TraceFault}
 use Rattle.rv_report.specs.declared.outcome.Outcome.{Outcome}
 use Rattle.rv_report.specs.declared.outcome.Outcome.TheVariants.{Allowed, Forbidden, Malformed}
@@ -90,9 +90,9 @@ pub record AreCovered (model : MemoryModel) (streams : List (Option Stream)) (c 
 abbrev pub streams_in : {R : Type 0} → Dialect → (R → Option (List ℕ)) → List R → List (Option Stream)
 streams_in d remaining readers = map (λ r. option_map (bytes_say d) (remaining r)) readers
 
--- without carriers
+-- of the nine operations alone
 abbrev pub streams_of : {R : Type 0} → (R → Option (List ℕ)) → List R → List (Option Stream)
-streams_of remaining readers = streams_in Plain remaining readers
+streams_of remaining readers = streams_in plain remaining readers
 
 -- an outcome is true of the sources
 pub record IsTrueOf (model : MemoryModel) (streams : List (Option Stream)) (outcome : Outcome) : Type 0 where

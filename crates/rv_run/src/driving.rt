@@ -1,7 +1,7 @@
 //! A thread for each source and for each worker.
 ghost use Rattle.std.specs.Prelude.{◌≡◌, ℕ, ◌<◌, ◌≤◌, ◌+◌, IfOk, OnOk, All, vec_len, slice_index_or, option_map};
 ghost use Rattle.rv_trace.specs.Source.{bytes_say};
-ghost use Rattle.rv_trace.specs.declared.dialect.Dialect.TheVariants.{Plain};
+ghost use Rattle.rv_trace.specs.Dialects.{plain};
 ghost use Rattle.rv_run.specs.Drives.{AreFedOf, AreServed};
 ghost use Rattle.rv_run.specs.Feeds.{IsFedOf};
 
@@ -269,14 +269,14 @@ pub fn drive<RT: Threads + Wait + Sync, R: Read + Send + Drop, C: Carrier + Sync
     requires workers { 0 < workers }
     requires seats { vec_len readers + workers ≤ vec_len seats }
     requires fits { All (λ s. C.fits carrier.now s) seats.items }
-    ensures fed { IfOk result (λ d. AreFedOf Plain R.remaining readers.items d.fed.items) }
+    ensures fed { IfOk result (λ d. AreFedOf plain R.remaining readers.items d.fed.items) }
     ensures served { IfOk result
         (λ d. AreServed (C.fits carrier.now) cell.now workers d.served.items) }
 {
     let shared = Shared {
         rt,
         alloc,
-        dialect: Dialect::Plain,
+        dialect: Dialect::plain(),
         carrier,
         gate,
         cell,

@@ -1,8 +1,9 @@
 //! A source's chunks, put into the carrier.
-ghost use Rattle.std.specs.Prelude.{◌≡◌, ◌<◌, ◌≤◌, All, IfSome, Option, length, option_map};
+ghost use Rattle.std.specs.Prelude.{◌≡◌, ◌<◌, ◌≤◌, All, IfSome, None, Option, length, option_map};
 ghost use Rattle.rv_chunk.specs.Chunks.{IsPackable};
 ghost use Rattle.rv_trace.specs.Source.{Stream, bytes_say, source_says};
 ghost use Rattle.rv_run.specs.Feeds.{GoesOn, IsFedOf, IsFeeding, IsLastOf, IsSettledEnd};
+ghost use Rattle.rv_run.specs.declared.feeding.FeedEnd.TheVariants.{Stopped};
 
 use crate::gate::{Awaited, Gate};
 use crate::waiting::Patience;
@@ -49,6 +50,8 @@ pub struct Fed {
     pub events: Vec<Event>,
     /// How it ended.
     pub end: FeedEnd,
+    /// How many rows the source's end record says, where it was read to its end and has one.
+    pub said: Option<u32>,
 }
 
 /// Tries until a slot has taken the chunk (`Placed`), or the gate is stopped (`Busy`). Between two
@@ -147,6 +150,17 @@ fn settle_end<RT: Wait, G: Gate>(rt: &RT, end: FeedEnd, is_put: bool, gate: &G) 
     }
 }
 
+/// What a feeder gives where the gate was stopped.
+fn stopped(events: Vec<Event>) -> Fed
+    ensures { result ≡ record { events = events; end = Stopped; said = None } }
+{
+    Fed {
+        events,
+        end: FeedEnd::Stopped,
+        said: None,
+    }
+}
+
 /// Reads the source and puts its chunks into the carrier, one after another. Before a read that
 /// would have to wait, the events at hand are put, however few. The gate is asked before each read
 /// whether it was told that it is stopped, and after each chunk whether it is.
@@ -173,13 +187,11 @@ fn put_all<RT: Wait, R: Read + Drop, C: Carrier, G: Gate>(
             seat = back;
             put = count;
             if !is_put || gate.stopped(rt) {
-                let end = FeedEnd::Stopped;
-                return Fed { events, end };
+                return stopped(events);
             }
         }
         if gate.is_over() {
-            let end = FeedEnd::Stopped;
-            return Fed { events, end };
+            return stopped(events);
         }
         if let Some(end) = read_next(&mut trace, &mut events) {
             let mut is_put = true;
@@ -187,7 +199,8 @@ fn put_all<RT: Wait, R: Read + Drop, C: Carrier, G: Gate>(
                 (_, is_put) = put_last(rt, events.as_slice(), number, carrier, seat, gate);
             }
             let end = settle_end(rt, end, is_put, gate);
-            return Fed { events, end };
+            let said = trace.said();
+            return Fed { events, end, said };
         }
     }
     unreachable!()
@@ -218,7 +231,7 @@ pub fn feed<RT: Wait, R: Read + Drop, C: Carrier, G: Gate>(
     let source = Source {
         reader,
         number: source,
-        dialect: Dialect::Plain,
+        dialect: Dialect::plain(),
     };
     feed_source(rt, alloc, source, carrier, seat, gate)
 }

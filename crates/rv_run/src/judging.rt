@@ -1,12 +1,13 @@
 //! What the answers of the threads come to.
 ghost use Rattle.std.specs.Prelude.{◌≡◌, ◌≤◌, ◌<◌, IfOk, IfErr, IfSome, IsSome, IsTrue, length};
 ghost use Rattle.rv_coverage.specs.Coverages.{IsCoverage};
-ghost use Rattle.rv_run.specs.Comparisons.{AgreesWith, IsCoveredBy, IsFaultIn};
+ghost use Rattle.rv_run.specs.Comparisons.{AgreesWith, IsCoveredBy, IsFaultIn, IsLacking, LacksBy};
 ghost use Rattle.rv_run.specs.Replays.{IsAllowed};
 
 use crate::comparing::{is_begun, is_whole};
 use crate::fault::RunFault;
 use crate::feeding::{Fed, FeedEnd};
+use crate::missing::{Missing, first_lacking};
 use crate::serving::{ServeEnd, Served};
 use rv_book::Book;
 use rv_cert::Verdict;
@@ -23,6 +24,8 @@ pub struct Judged {
     pub outcome: Outcome,
     /// What of the model the sources have exercised, where that was asked for and they are allowed.
     pub coverage: Option<Coverage>,
+    /// The first thing that the run lacks, where it was to be complete and the sources are allowed.
+    pub missing: Option<Missing>,
 }
 
 impl Judged {
@@ -30,7 +33,11 @@ impl Judged {
     pub fn into_outcome(self) -> Outcome
         ensures { result ≡ self.outcome }
     {
-        let Judged { outcome, coverage } = self;
+        let Judged {
+            outcome,
+            coverage,
+            ..
+        } = self;
         drop(coverage);
         outcome
     }
@@ -43,6 +50,8 @@ pub(crate) struct Question {
     pub model: MemoryModel,
     /// Whether it is counted what of the model they have exercised.
     pub covering: bool,
+    /// Whether they are to be complete.
+    pub complete: bool,
 }
 
 /// Whether the model is the one asked for.
@@ -112,6 +121,24 @@ fn coverage_asked(
     }
 }
 
+/// What the run lacks, where it is to be complete.
+fn missing_asked(
+    alloc: Global,
+    question: Question,
+    fed: &[Fed],
+    book: &Book,
+) -> Result<Option<Missing>, NoMemory>
+    requires { length fed.now ≤ 8 }
+    ensures lacks { IfOk result (λ m. IsTrue question.complete → IsLacking fed.now book.now.log m) }
+    ensures only { IfOk result (λ m. IsSome m → IsTrue question.complete) }
+{
+    if question.complete {
+        first_lacking(alloc, fed, book)
+    } else {
+        Ok(None)
+    }
+}
+
 /// What a book comes to that was never stopped, if it is of the model asked for, each source was
 /// read to its end, and its log has all of their events and no others.
 fn allowance_of(
@@ -126,18 +153,25 @@ fn allowance_of(
     ensures allowed { IfOk result (λ j. IsAllowed j.outcome) }
     ensures asked { IfOk result (λ j. IsTrue question.covering → IsSome j.coverage) }
     ensures only { IfOk result (λ j. IsSome j.coverage → IsTrue question.covering) }
+    ensures lacks { IfOk result (λ j. IsTrue question.complete → LacksBy fed.now j.missing) }
+    ensures complete { IfOk result (λ j. IsSome j.missing → IsTrue question.complete) }
     ensures fault { IfErr result (IsFaultIn fed.now) }
 {
     if !is_asked(book.model(), question.model) || !is_whole(book.log(), fed) {
         return Err(RunFault::Lost);
     }
     let coverage = coverage_asked(alloc, question, book)?;
+    let missing = missing_asked(alloc, question, fed, book)?;
     let outcome = Outcome::Allowed {
         events: book.accepted(),
         operations: book.operations(),
         waiting: book.waiting(),
     };
-    Ok(Judged { outcome, coverage })
+    Ok(Judged {
+        outcome,
+        coverage,
+        missing,
+    })
 }
 
 /// What the threads' answers, the verdict and the book come to.
@@ -157,6 +191,8 @@ pub(crate) fn judge<S>(
     ensures coverage { IfOk result (λ j. IfSome j.coverage (IsCoveredBy question.model fed.now)) }
     ensures asked { IfOk result (λ j. IsTrue question.covering → IsAllowed j.outcome → IsSome j.coverage) }
     ensures only { IfOk result (λ j. IsSome j.coverage → IsTrue question.covering × IsAllowed j.outcome) }
+    ensures lacks { IfOk result (λ j. IsTrue question.complete → IsAllowed j.outcome → LacksBy fed.now j.missing) }
+    ensures complete { IfOk result (λ j. IsSome j.missing → IsTrue question.complete × IsAllowed j.outcome) }
     ensures fault { IfErr result (IsFaultIn fed.now) }
 {
     let mut note = cell.note();
@@ -165,6 +201,7 @@ pub(crate) fn judge<S>(
         return Ok(Judged {
             outcome,
             coverage: None,
+            missing: None,
         });
     }
     if let Some(fault) = first_fault(fed) {

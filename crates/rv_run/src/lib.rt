@@ -11,7 +11,7 @@
 //!   which no source runs far ahead of the others, and threads are woken that rest; `waiting`: how
 //!   they come to rest.
 //! - [`running`]: a run's parts, and its settings; `judging`, `comparing`: what the threads'
-//!   answers come to.
+//!   answers come to; [`missing`]: what a run lacks that would be complete.
 //! - [`replaying`]: the pass in one thread; [`fault`]: why a run has no outcome; [`laws`]: that
 //!   outcomes agree.
 //! - `specs/`: what each thread tells of its source, and an outcome of all.
@@ -32,6 +32,7 @@ mod feeding;
 mod gate;
 mod judging;
 mod laws;
+mod missing;
 mod replaying;
 mod running;
 mod serving;
@@ -44,6 +45,7 @@ pub use feeding::{Fed, FeedEnd, feed};
 pub use gate::{Awaited, BookGate, Gate};
 pub use judging::Judged;
 pub use laws::{allowed_where_consistent, outcomes_agree};
+pub use missing::Missing;
 pub use replaying::replay;
 pub use running::{Reading, Settings, run, run_over, run_reading, run_with_bell};
 pub use rv_report::Outcome;

@@ -1,6 +1,7 @@
 //! A whole run in threads.
 ghost use Rattle.std.specs.Prelude.{◌≡◌, ◌≢◌, ◌↔◌, ◌<◌, ◌≤◌, ◌+◌, IfOk, IfErr, IfSome, IsSome, IsTrue, Err};
 ghost use Rattle.std.specs.Prelude.{false, All, vec_len};
+ghost use Rattle.rv_run.specs.Completeness.{Lacks};
 ghost use Rattle.rv_run.specs.Outcomes.{IfAllowed, IfForbidden, IfMalformed};
 ghost use Rattle.rv_run.specs.Ranges.{IsOutOfRange};
 ghost use Rattle.rv_run.specs.Replays.{IsAllowed};
@@ -52,7 +53,7 @@ impl Settings {
 /// How the sources of a run are read.
 #[derive(Clone, Copy)]
 pub struct Reading<'b> {
-    /// Which rows they may have.
+    /// Which records they may have. Where they may have end records, the run is to be complete.
     pub dialect: Dialect,
     /// The bell by which their readers are told that the run is over. It is that of no other run.
     pub bell: &'b Bell,
@@ -86,6 +87,10 @@ fn run_in<RT: Threads + Wait + Sync, R: Read + Send + Drop, C: Carrier + Sync + 
         IsTrue reading.entry.covering → IsAllowed j.outcome → IsSome j.coverage) }
     ensures only { IfOk result (λ j.
         IsSome j.coverage → IsTrue reading.entry.covering × IsAllowed j.outcome) }
+    ensures lacks { IfOk result (λ j. IsTrue reading.entry.dialect.end_record → IsAllowed j.outcome
+        → Lacks (streams_in reading.entry.dialect R.remaining readers.items) j.missing) }
+    ensures complete { IfOk result (λ j.
+        IsSome j.missing → IsTrue reading.entry.dialect.end_record × IsAllowed j.outcome) }
     ensures fault { IfErr result
         (IsFaultAmong (streams_in reading.entry.dialect R.remaining readers.items)) }
     ensures settings { result ≢ Err fault.Settings }
@@ -109,6 +114,7 @@ fn run_in<RT: Threads + Wait + Sync, R: Read + Send + Drop, C: Carrier + Sync + 
     let question = Question {
         model: settings.model,
         covering: reading.covering,
+        complete: reading.dialect.end_record,
     };
     let judged = judge(alloc, question, fed, served, &cell, &book);
     // By a call: where the scope ends, the proof would take the book apart, field by field.
@@ -146,7 +152,7 @@ pub fn run_over<RT: Threads + Wait + Sync, R: Read + Send + Drop, C: Carrier + S
     ensures settings { result ≢ Err fault.Settings }
 {
     let reading = Reading {
-        dialect: Dialect::Plain,
+        dialect: Dialect::plain(),
         bell: &Bell::new(),
         covering: false,
     };
@@ -214,7 +220,7 @@ pub fn run_with_bell<RT: Threads + Wait + Sync, R: Read + Send + Drop>(
     ensures settings { (result ≡ Err fault.Settings) ↔ IsOutOfRange (vec_len readers) settings }
 {
     let reading = Reading {
-        dialect: Dialect::Plain,
+        dialect: Dialect::plain(),
         bell,
         covering: false,
     };
@@ -222,11 +228,16 @@ pub fn run_with_bell<RT: Threads + Wait + Sync, R: Read + Send + Drop>(
     Ok(judged.into_outcome())
 }
 
-/// The same as [`run_with_bell`], where the sources' rows are of the dialect that is read, and it
-/// is counted what of the model they have exercised where that is asked for and they are allowed.
+/// The same as [`run_with_bell`], where the sources' records are of the dialect that is read.
+/// Where the sources are allowed, two things more may be told of them.
 ///
-/// The counts are those of a merge of all of the sources' events: which merge depends on the
-/// threads, and with it the counts of links.
+/// What of the model they have exercised is counted where that is asked for. The counts are those
+/// of a merge of all of the sources' events: which merge depends on the threads, and with it the
+/// counts of links.
+///
+/// Where the dialect has end records, the first thing is told that the run lacks which would be
+/// complete: the end record of a source, or its right number; an event; or the store of the first
+/// load that waits, by the loads' names. It lacks nothing where none is told.
 ///
 /// # Errors
 /// As [`run_with_bell`].
@@ -249,6 +260,10 @@ pub fn run_reading<RT: Threads + Wait + Sync, R: Read + Send + Drop>(
         IsTrue reading.entry.covering → IsAllowed j.outcome → IsSome j.coverage) }
     ensures only { IfOk result (λ j.
         IsSome j.coverage → IsTrue reading.entry.covering × IsAllowed j.outcome) }
+    ensures lacks { IfOk result (λ j. IsTrue reading.entry.dialect.end_record → IsAllowed j.outcome
+        → Lacks (streams_in reading.entry.dialect R.remaining readers.items) j.missing) }
+    ensures complete { IfOk result (λ j.
+        IsSome j.missing → IsTrue reading.entry.dialect.end_record × IsAllowed j.outcome) }
     ensures fault { IfErr result
         (IsFaultAmong (streams_in reading.entry.dialect R.remaining readers.items)) }
     ensures settings { (result ≡ Err fault.Settings) ↔ IsOutOfRange (vec_len readers) settings }

@@ -10,9 +10,8 @@ use Rattle.rv_event.specs.declared.event.Op.TheVariants as op
 use Rattle.rv_event.specs.declared.event.Set.{Set}
 use Rattle.rv_event.specs.declared.event.Set.TheVariants.{R, W, Rw}
 use Rattle.rv_trace.specs.Operations.{Annotated, annotated, bare, columns_of, fence, fence_sets}
-use Rattle.rv_trace.specs.Operations.{has_carriers, mnemonic, ordered}
+use Rattle.rv_trace.specs.Operations.{mnemonic, ordered}
 use Rattle.rv_trace.specs.declared.dialect.Dialect.{Dialect}
-use Rattle.rv_trace.specs.declared.dialect.Dialect.TheVariants as dialect
 use Rattle.rv_trace.specs.declared.fault.FaultKind.{FaultKind}
 use Rattle.rv_trace.specs.declared.fault.FaultKind.TheVariants as fault
 use Rattle.rv_trace.specs.declared.operation.Mnemonic.{Mnemonic}
@@ -135,7 +134,7 @@ fence_is (Some q) p said = (q.0, q.1, cc said)
 
 -- an operation that is read with its annotations is so printed
 pub marked_of : (d : Dialect) (n : Mnemonic) (text : List ℕ) (p : Annotated) →
-    (n ≡ name.Carrier → has_carriers d ≡ true) → annotated n text ≡ Ok p → IsMarked d n p
+    (n ≡ name.Carrier → d.carriers ≡ true) → annotated n text ≡ Ok p → IsMarked d n p
 unfolding mnemonic
 marked_of d name.Load text p may said =
     subst (IsMarked d name.Load) (sym (bare_is op.Load text p said))
@@ -175,26 +174,29 @@ past false n rest other said = said
 
 -- a text names a carrier only in a dialect that has them
 pub carrier_named : (d : Dialect) (text : List ℕ) (n : Mnemonic) → mnemonic d text ≡ Ok n → n ≡ name.Carrier →
-    has_carriers d ≡ true
+    d.carriers ≡ true
 unfolding mnemonic
-carrier_named dialect.Carriers text n said is = refl
-carrier_named dialect.Plain text n said is = absurd (none (last (bytes_eq text (codes "I")) (
-    past _ name.Branch _ (λ e. cc e)
-    (past _ name.FenceTso _ (λ e. cc e)
-    (past _ name.Fence _ (λ e. cc e)
-    (past _ name.Amo _ (λ e. cc e)
-    (past _ name.ScFailed _ (λ e. cc e)
-    (past _ name.Sc _ (λ e. cc e)
-    (past _ name.Lr _ (λ e. cc e)
-    (past _ name.Store _ (λ e. cc e)
-    (past _ name.Load _ (λ e. cc e)
-    (said ∙ ap Ok is)))))))))
-    )))
+carrier_named d text n said is = elim (cases_Bool d.carriers) [
+  | inl has ↦ has
+  | inr others ↦ absurd (none (last (bytes_eq text (codes "I")) d.carriers others (
+      past _ name.Branch _ (λ e. cc e)
+      (past _ name.FenceTso _ (λ e. cc e)
+      (past _ name.Fence _ (λ e. cc e)
+      (past _ name.Amo _ (λ e. cc e)
+      (past _ name.ScFailed _ (λ e. cc e)
+      (past _ name.Sc _ (λ e. cc e)
+      (past _ name.Lr _ (λ e. cc e)
+      (past _ name.Store _ (λ e. cc e)
+      (past _ name.Load _ (λ e. cc e)
+      (said ∙ ap Ok is)))))))))
+      )))
+]
   where
     none : (let r : Result Mnemonic FaultKind = Err fault.Op in r ≡ Ok name.Carrier) → ⊥
     none e = cc e
 
-    last : (b : Bool) → (if b && false then Ok name.Carrier else Err fault.Op) ≡ Ok name.Carrier →
+    last : (b c : Bool) → c ≡ false → (if b && c then Ok name.Carrier else Err fault.Op) ≡ Ok name.Carrier →
         (let r : Result Mnemonic FaultKind = Err fault.Op in r ≡ Ok name.Carrier)
-    last true e = e
-    last false e = e
+    last true true no_carriers e = cc no_carriers
+    last true false no_carriers e = e
+    last false c no_carriers e = e

@@ -1,6 +1,7 @@
 -- Traces that are written from events, as the CSV reader tells them apart.
 use Rattle.std.proofs.Common.{◌≡◌, ◌<◌, ◌≤◌, ◌+◌, ℕ, zero, suc, List, [], ◌∷◌, ◌++◌, length, map, refl, sym, ap}
-use Rattle.std.proofs.Common.{◌∙◌, false, true, Bool, Some, None, All, arith, add-one, append_assoc, append-nil}
+use Rattle.std.proofs.Common.{◌∙◌, if◌then◌else◌, false, true, Bool, Some, None, All, arith, add-one}
+use Rattle.std.proofs.Common.{append_assoc, append-nil}
 use Rattle.std.specs.Prelude.{codes}
 use Rattle.std.specs.List.{join_with_byte}
 use Rattle.std.proofs.lemmas.Bool.{le-ltb, ne_eqb}
@@ -25,7 +26,7 @@ use Rattle.rv_event.specs.declared.event.Set.{Set}
 use Rattle.rv_event.specs.declared.event.Set.TheVariants.{R, W, Rw}
 use Rattle.rv_trace.specs.Operations.{columns_of}
 use Rattle.rv_trace.specs.Row.{Fields, event_of}
-use Rattle.rv_trace.specs.Source.{records_say, rows_say, text_records}
+use Rattle.rv_trace.specs.Source.{end_of, last_says, records_say, rows_say, text_records}
 use Rattle.rv_trace.specs.Written.{IsInRow, TextsTellEvents, WrittenTracesAreRead, rows_text, trace_text}
 use Rattle.rv_trace.specs.declared.dialect.Dialect.{Dialect}
 use Rattle.rv_trace.specs.declared.operation.Columns.{Columns}
@@ -174,15 +175,25 @@ long : (es : List Event) → length es ≤ length (rows_text es)
 long [] = omega arith
 long (e ∷ es) = omega (arith, long es, length-append (event_text e) (10 ∷ rows_text es))
 
+-- none of them is an end record, which has two fields
+no_end_in : (has : Bool) (e : Event) → (if has then end_of (event_fields e) else None) ≡ None
+unfolding end_of
+no_end_in true e = refl
+no_end_in false e = refl
+
+no_end : (d : Dialect) (e : Event) (es : List Event) → last_says d (event_fields e) (map event_fields es) ≡ None
+no_end d e [] = no_end_in d.end_record e
+no_end d e (next ∷ es) = refl
+
 -- and each record is its event
 rows_said : (d : Dialect) (es : List Event) (n : ℕ) → All (IsInRow d) es → n + length es ≤ 65537 →
-    rows_say d n (map event_fields es) ≡ record { events = es; end = None }
+    rows_say d n (map event_fields es) ≡ record { events = es; end = None; said = None }
 unfolding rows_say
 rows_said d [] n said few = refl
 rows_said d (e ∷ es) n said few =
     let first = row-text d e (said_is d e (All-head (IsInRow d) e es said)) in
     let more = rows_said d es (n + 1) (All-tail (IsInRow d) e es said) (omega arith) in
-    rw (le-ltb 65536 n (omega arith), first, more) refl
+    rw (no_end d e es, le-ltb 65536 n (omega arith), first, more) refl
 
 -- the header's fields
 abbrev header : Fields

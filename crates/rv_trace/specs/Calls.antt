@@ -1,5 +1,5 @@
 -- What a call answered: a value, the end, or a fault.
-use Rattle.std.specs.Prelude.{◌≡◌, ◌↔◌, Bool, true, Option, Some, None, Result, IfOk, IfErr, IfSome, IfNone}
+use Rattle.std.specs.Prelude.{◌≡◌, ◌↔◌, ℕ, Bool, true, Option, Some, None, Result, IfOk, IfErr, IfSome, IfNone}
 use Rattle.rv_trace.specs.declared.fault.FaultKind.TheVariants as fault
 use Rattle.rv_trace.specs.declared.fault.TraceFault.{TraceFault}
 use Rattle.rv_trace.specs.Source.{Stream, whole}
@@ -19,9 +19,9 @@ OnEnd answer P = IfOk answer (λ o. IfNone o P)
 abbrev pub IfFirst : {A : Type 0} → Option TraceFault → Answer A → (TraceFault → Type 0) → Type 0
 IfFirst kept answer P = IfErr answer (λ f. kept ≡ None → P f)
 
--- the end has come, and nothing is left
-abbrev pub IsAtEnd : Bool → Option Stream → Type 0
-IsAtEnd ended stream = (ended ≡ true) × (stream ≡ Some whole)
+-- the end has come, and nothing is left; the end record said so much, if there was one
+abbrev pub IsAtEnd : Bool → Option ℕ → Option Stream → Type 0
+IsAtEnd ended said stream = (ended ≡ true) × (stream ≡ Some (whole said))
 
 -- the fault is one of reading exactly where the reader refused
 abbrev pub IsReadWhere : Bool → TraceFault → Type 0

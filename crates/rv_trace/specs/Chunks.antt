@@ -12,8 +12,9 @@ use Rattle.rv_trace.specs.Trace.{TraceLeft}
 
 -- Chunks: their source's number; the number of the next chunk; whether the header is still to be
 -- read; how many events were read, which are those of the chunks given until a fault comes; what is
--- still given, where the reader tells its bytes; whether the end has come; the fault that is
--- repeated; and whether the last read failed since the reader underneath refused.
+-- still given, where the reader tells its bytes; whether the end has come, and what the end record
+-- said, if there was one; the fault that is repeated; and whether the last read failed since the
+-- reader underneath refused.
 pub record ChunksLeft : Type 0 where
   pub source : ℕ
   pub number : ℕ
@@ -21,6 +22,7 @@ pub record ChunksLeft : Type 0 where
   pub given : ℕ
   pub stream : Option Stream
   pub ended : Bool
+  pub said : Option ℕ
   pub fault : Option TraceFault
   pub refused : Bool
 
@@ -32,6 +34,7 @@ chunks_left source number fault trace = record {
   given = trace.given;
   stream = trace.stream;
   ended = trace.ended;
+  said = trace.said;
   fault = fault;
   refused = trace.refused;
 }
@@ -45,6 +48,7 @@ fresh_chunks d source known = record {
   given = 0;
   stream = option_map (bytes_say d) known;
   ended = false;
+  said = None;
   fault = None;
   refused = false;
 }
@@ -59,13 +63,13 @@ pub record IsBetween (number : ℕ) (trace : TraceLeft) : Type 0 where
 
 -- a chunk has eight events, or the end has come
 abbrev pub IsFullOrLast : List Event → ChunksLeft → Type 0
-IsFullOrLast events left = (length events ≡ 8) ⊎ IsAtEnd left.ended left.stream
+IsFullOrLast events left = (length events ≡ 8) ⊎ IsAtEnd left.ended left.said left.stream
 
 -- these events of a known stream were taken
 abbrev pub TakesEvents : Option Stream → Option Stream → List Event → Type 0
 TakesEvents None new es = ⊤
 TakesEvents (Some s) None es = ⊥
-TakesEvents (Some s) (Some t) es = s ≡ record { events = es ++ t.events; end = t.end }
+TakesEvents (Some s) (Some t) es = s ≡ record { events = es ++ t.events; end = t.end; said = t.said }
 
 -- a fault is the one that a known stream ends in before its eighth event, or one of reading or
 -- memory

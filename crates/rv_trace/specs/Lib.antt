@@ -3,6 +3,7 @@ pub mod Chunks
 pub mod Columns
 pub mod Counted
 pub mod Dependencies
+pub mod Dialects
 pub mod Faults
 pub mod Numbers
 pub mod Operations
@@ -10,5 +11,6 @@ pub mod Row
 pub mod Rows
 pub mod Source
 pub mod Steps
+pub mod Taking
 pub mod Trace
 pub mod Written

@@ -6,17 +6,11 @@ use Rattle.rv_event.specs.declared.event.Op.TheVariants as op
 use Rattle.rv_event.specs.declared.event.Set.{Set}
 use Rattle.rv_event.specs.declared.event.Set.TheVariants as set
 use Rattle.rv_trace.specs.declared.dialect.Dialect.{Dialect}
-use Rattle.rv_trace.specs.declared.dialect.Dialect.TheVariants as dialect
 use Rattle.rv_trace.specs.declared.fault.FaultKind.{FaultKind}
 use Rattle.rv_trace.specs.declared.fault.FaultKind.TheVariants as fault
 use Rattle.rv_trace.specs.declared.operation.Columns.{Columns}
 use Rattle.rv_trace.specs.declared.operation.Mnemonic.{Mnemonic}
 use Rattle.rv_trace.specs.declared.operation.Mnemonic.TheVariants as name
-
--- whether a trace of the dialect may have carriers
-abbrev pub has_carriers : Dialect → Bool
-has_carriers dialect.Plain = false
-has_carriers dialect.Carriers = true
 
 unfoldable pub mnemonic : Dialect → List ℕ → Result Mnemonic FaultKind
 mnemonic d text =
@@ -29,7 +23,7 @@ mnemonic d text =
     else if bytes_eq text (codes "F") then Ok name.Fence
     else if bytes_eq text (codes "FT") then Ok name.FenceTso
     else if bytes_eq text (codes "BR") then Ok name.Branch
-    else if bytes_eq text (codes "I") && has_carriers d then Ok name.Carrier
+    else if bytes_eq text (codes "I") && d.carriers then Ok name.Carrier
     else Err fault.Op
 
 -- which numbers there are, and which letters a dependency may have

@@ -23,7 +23,7 @@ trace_text es = codes "hart,seq,op,word,read,wrote,ann,deps" ++ (10 ∷ rows_tex
 abbrev pub WrittenTracesAreRead : Type 0
 WrittenTracesAreRead =
     (d : Dialect) (es : List Event) → All (IsInRow d) es → length es ≤ 65536 →
-    bytes_say d (trace_text es) ≡ record { events = es; end = None }
+    bytes_say d (trace_text es) ≡ record { events = es; end = None; said = None }
 
 -- two such events with one text are equal
 abbrev pub TextsTellEvents : Type 0

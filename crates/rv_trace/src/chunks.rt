@@ -7,7 +7,7 @@ ghost use Rattle.rv_trace.specs.Chunks.{IsFaultWithin, IsFullOrLast, IsReadingRo
 ghost use Rattle.rv_trace.specs.Chunks.{IsTakingRow, TakesEvents, fresh_chunks};
 ghost use Rattle.rv_trace.specs.Faults.{NeverCsv};
 ghost use Rattle.rv_trace.specs.Trace.{IsWhole};
-ghost use Rattle.rv_trace.specs.declared.dialect.Dialect.TheVariants.{Plain};
+ghost use Rattle.rv_trace.specs.Dialects.{plain};
 
 use crate::dialect::Dialect;
 use crate::fault::{FaultKind, TraceFault};
@@ -72,7 +72,7 @@ fn take_events<R: Read>(alloc: Global, trace: &mut Trace<R>) -> Result<Vec<Event
     ensures count { IfOk result (λ v. trace.new.given ≡ trace.old.given + length v.items) }
     ensures rows { OnOk result (trace.new.given ≤ 65536) }
     ensures end { IfOk result
-        (λ v. length v.items < FULL → IsAtEnd trace.new.ended trace.new.stream) }
+        (λ v. length v.items < FULL → IsAtEnd trace.new.ended trace.new.said trace.new.stream) }
     ensures stays { trace.old.ended ≡ true
         → IsOkAnd result (λ v. v.items ≡ []) × (trace.new ≡ trace.old) }
     ensures good { OnOk result ((trace.new.fault ≡ None) × (trace.new.refused ≡ false)) }
@@ -104,9 +104,9 @@ impl<R: Read> Chunks<R> {
     /// is none. It reads nothing and takes no memory.
     pub fn new(alloc: Global, reader: R, source: u8) -> Chunks<R>
         requires { source < 8 }
-        ensures { result ≡ fresh_chunks Plain source (R.remaining reader) }
+        ensures { result ≡ fresh_chunks plain source (R.remaining reader) }
     {
-        Chunks::with_dialect(alloc, reader, source, Dialect::Plain)
+        Chunks::with_dialect(alloc, reader, source, Dialect::plain())
     }
 
     /// The same, where the rows are of this dialect.
@@ -121,6 +121,14 @@ impl<R: Read> Chunks<R> {
             number: 0,
             fault: None,
         }
+    }
+
+    /// How many rows the end record says that the source has, once it was read. `None` before the
+    /// end, and where there is none.
+    pub fn said(&self) -> Option<u32>
+        ensures { result ≡ self.now.said }
+    {
+        self.trace.said()
     }
 
     /// The next chunk, and `None` from the end on.
@@ -142,8 +150,8 @@ impl<R: Read> Chunks<R> {
             (λ c. self.new.given ≡ self.old.given + length c.events) }
         ensures few { IfGiven result (λ _. self.new.given ≤ 65536) }
 
-        ensures whole { OnEnd result (IsWhole self.old.stream) }
-        ensures end { OnEnd result (IsAtEnd self.new.ended self.new.stream) }
+        ensures whole { OnEnd result (IsWhole self.old.stream self.new.said) }
+        ensures end { OnEnd result (IsAtEnd self.new.ended self.new.said self.new.stream) }
         ensures still { OnEnd result
             ((self.new.number ≡ self.old.number) × (self.new.given ≡ self.old.given)) }
         ensures stays { self.old.ended ≡ true

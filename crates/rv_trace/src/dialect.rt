@@ -1,22 +1,25 @@
-//! Which rows a trace may have.
+//! Which records a trace may have.
 ghost use Rattle.std.specs.Prelude.{◌≡◌};
+ghost use Rattle.rv_trace.specs.Dialects.{plain};
 
-/// Which operations the rows of a trace may have.
+/// Which records a trace may have beside its header and the rows of the nine operations that every
+/// trace may have.
 #[derive(Clone, Copy, PartialEq, Eq, Debug)]
-pub enum Dialect {
-    /// The nine that every trace may have. A row `I` is of none.
-    Plain,
-    /// These, and carriers: rows `I`.
-    Carriers,
+pub struct Dialect {
+    /// Rows `I`, which are carriers.
+    pub carriers: bool,
+    /// An end record, which stands last: `end,N`, and N is the number of the rows below the header.
+    pub end_record: bool,
 }
 
 impl Dialect {
-    ghost use Rattle.rv_trace.specs.Operations.{has_carriers};
-
-    /// Whether a row may be a carrier.
-    pub fn has_carriers(self) -> bool
-        ensures { result ≡ has_carriers self }
+    /// No others. A row `I` is of no operation, and each record has eight fields.
+    pub fn plain() -> Dialect
+        ensures { result ≡ plain }
     {
-        self == Dialect::Carriers
+        Dialect {
+            carriers: false,
+            end_record: false,
+        }
     }
 }

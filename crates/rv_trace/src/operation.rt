@@ -115,7 +115,7 @@ pub fn mnemonic_of(dialect: Dialect, text: &[u8]) -> Result<Mnemonic, FaultKind>
         b"F" => Ok(Mnemonic::Fence),
         b"FT" => Ok(Mnemonic::FenceTso),
         b"BR" => Ok(Mnemonic::Branch),
-        b"I" if dialect.has_carriers() => Ok(Mnemonic::Carrier),
+        b"I" if dialect.carriers => Ok(Mnemonic::Carrier),
         _ => Err(FaultKind::Op),
     }
 }

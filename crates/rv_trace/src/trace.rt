@@ -4,15 +4,17 @@ ghost use Rattle.std.specs.Prelude.{IfErr, IfSome, OnOk, option_map};
 ghost use Rattle.csv.specs.Records.{fields_of};
 ghost use Rattle.rv_chunk.specs.Chunks.{IsPackable};
 ghost use Rattle.rv_trace.specs.Calls.{IfFirst, IfGiven, IsAtEnd, IsReadWhere, OnEnd};
+ghost use Rattle.rv_trace.specs.Taking.{IfEnd, IfRow};
 ghost use Rattle.rv_trace.specs.Faults.{NeverCsv};
 ghost use Rattle.rv_trace.specs.Row.{field};
-ghost use Rattle.rv_trace.specs.Source.{is_header, records_say, rows_say};
-ghost use Rattle.rv_trace.specs.declared.dialect.Dialect.TheVariants.{Plain};
+ghost use Rattle.rv_trace.specs.Source.{end_in, end_of, is_header, records_say, rows_say};
+ghost use Rattle.rv_trace.specs.Dialects.{plain};
 ghost use Rattle.rv_trace.specs.Trace.{GoesOn, IsAtRow, IsFaultOf, IsWhole, TakesEvent};
 ghost use Rattle.rv_trace.specs.Trace.{fresh_trace, refused_in};
 
 use crate::dialect::Dialect;
 use crate::fault::{FaultKind, TraceFault};
+use crate::number::number_of;
 use crate::row::{event_of_row, field_of};
 use crate::rows::Rows;
 use csv::ByteRecord;
@@ -31,10 +33,19 @@ enum Stage {
     Start,
     /// A data row.
     Rows,
-    /// Nothing: the last row was read.
-    Ended,
+    /// Nothing: the last row was read, and the end record, if there is one, which says so much.
+    Ended(Option<u32>),
     /// Nothing: a fault was answered.
     Failed(TraceFault),
+}
+
+/// What stands behind the rows that were taken.
+#[derive(Drop)]
+enum Taken {
+    /// A row.
+    Row(Event),
+    /// The end, and the number of rows that an end record says, if there is one.
+    End(Option<u32>),
 }
 
 /// The events of a source, read row by row.
@@ -113,24 +124,52 @@ fn take_header<R: Read>(dialect: Dialect, rows: &mut Rows<R>) -> Result<(), Trac
     }
 }
 
-/// Reads the data row after so many.
+/// The number that an end record says, if the record is one.
+#[tactic(auto, unfolding(crate::specs::Source::end_of))]
+fn end_of(row: &ByteRecord) -> Option<u32>
+    ensures { result ≡ end_of (fields_of row.now) }
+{
+    if row.len() == 2 && field_is(row, 0, b"end") {
+        match number_of(field_of(row, 1), u32::MAX) {
+            Ok(said) => Some(said),
+            Err(_) => None,
+        }
+    } else {
+        None
+    }
+}
+
+/// The same, where the dialect may have end records.
+fn end_in(dialect: Dialect, row: &ByteRecord) -> Option<u32>
+    ensures { result ≡ end_in dialect (fields_of row.now) }
+{
+    if dialect.end_record {
+        end_of(row)
+    } else {
+        None
+    }
+}
+
+/// Reads what stands behind so many data rows.
+///
+/// Behind an end record it looks for one record more: it is no end record where one follows.
 #[inline(always)]
 fn take_row<R: Read>(
     alloc: Global,
     dialect: Dialect,
     rows: &mut Rows<R>,
     given: u32,
-) -> Result<Option<Event>, TraceFault>
+) -> Result<Taken, TraceFault>
     requires goes { rows.old.stopped ≡ false }
     requires given { given ≤ MAX_ROWS }
-    ensures event { IfGiven result
+    ensures event { IfRow result
         (TakesEvent
         (option_map (rows_say dialect (given + 1)) rows.old.left)
         (option_map (rows_say dialect (given + 2)) rows.new.left)) }
-    ensures packable { IfGiven result IsPackable }
-    ensures goes { IfGiven result (λ _. rows.new.stopped ≡ false) }
-    ensures few { IfGiven result (λ _. given < MAX_ROWS) }
-    ensures whole { OnEnd result (IsWhole (option_map (rows_say dialect (given + 1)) rows.old.left)) }
+    ensures packable { IfRow result IsPackable }
+    ensures goes { IfRow result (λ _. rows.new.stopped ≡ false) }
+    ensures few { IfRow result (λ _. given < MAX_ROWS) }
+    ensures whole { IfEnd result (IsWhole (option_map (rows_say dialect (given + 1)) rows.old.left)) }
     ensures good { OnOk result (rows.new.failed ≡ false) }
     ensures fault { IfErr result (IsFaultOf (option_map (rows_say dialect (given + 1)) rows.old.left)) }
     ensures row { IfErr result (λ f. f.row ≡ given + 1) }
@@ -138,19 +177,28 @@ fn take_row<R: Read>(
 {
     let row = given + 1;
     match rows.next_row() {
-        Ok(true) => {
-            if given >= MAX_ROWS {
-                return Err(TraceFault {
-                    kind: FaultKind::TooLong,
-                    row,
-                });
-            }
-            match event_of_row(alloc, dialect, rows.row()) {
-                Ok(event) => Ok(Some(event)),
-                Err(kind) => Err(TraceFault { kind, row }),
-            }
+        Ok(true) => {}
+        Ok(false) => return Ok(Taken::End(None)),
+        Err(kind) => return Err(TraceFault { kind, row }),
+    }
+    let said = end_in(dialect, rows.row());
+    if said.is_some() {
+        match rows.next_row() {
+            Ok(true) => {}
+            Ok(false) => return Ok(Taken::End(said)),
+            Err(kind) => return Err(TraceFault { kind, row }),
         }
-        Ok(false) => Ok(None),
+    }
+    if given >= MAX_ROWS {
+        let kind = FaultKind::TooLong;
+        return Err(TraceFault { kind, row });
+    }
+    let read = match said {
+        Some(_) => Err(FaultKind::Fields),
+        None => event_of_row(alloc, dialect, rows.row()),
+    };
+    match read {
+        Ok(event) => Ok(Taken::Row(event)),
         Err(kind) => Err(TraceFault { kind, row }),
     }
 }
@@ -160,9 +208,9 @@ impl<R: Read> Trace<R> {
     /// `I` is none. It reads nothing and takes no memory.
     pub fn new(alloc: Global, reader: R, source: u8) -> Trace<R>
         requires { source < 8 }
-        ensures { result ≡ fresh_trace Plain source (R.remaining reader) }
+        ensures { result ≡ fresh_trace plain source (R.remaining reader) }
     {
-        Trace::with_dialect(alloc, reader, source, Dialect::Plain)
+        Trace::with_dialect(alloc, reader, source, Dialect::plain())
     }
 
     /// The same, where the rows are of this dialect.
@@ -187,6 +235,17 @@ impl<R: Read> Trace<R> {
         self.given
     }
 
+    /// How many rows the end record says that the source has, once it was read. `None` before the
+    /// end, and where there is none.
+    pub fn said(&self) -> Option<u32>
+        ensures { result ≡ self.now.said }
+    {
+        match self.stage {
+            Stage::Ended(said) => said,
+            Stage::Start | Stage::Rows | Stage::Failed(_) => None,
+        }
+    }
+
     /// The next event, and `None` from the end on.
     ///
     /// # Errors
@@ -200,8 +259,8 @@ impl<R: Read> Trace<R> {
         ensures count { IfGiven result (λ _. self.new.given ≡ self.old.given + 1) }
         ensures few { IfGiven result (λ _. self.new.given ≤ MAX_ROWS) }
 
-        ensures whole { OnEnd result (IsWhole self.old.stream) }
-        ensures end { OnEnd result (IsAtEnd self.new.ended self.new.stream) }
+        ensures whole { OnEnd result (IsWhole self.old.stream self.new.said) }
+        ensures end { OnEnd result (IsAtEnd self.new.ended self.new.said self.new.stream) }
         ensures still { OnEnd result (self.new.given ≡ self.old.given) }
         ensures stays { self.old.ended ≡ true → (result ≡ Ok None) × (self.new ≡ self.old) }
 
@@ -221,7 +280,7 @@ impl<R: Read> Trace<R> {
     {
         match self.stage {
             Stage::Failed(fault) => return Err(fault),
-            Stage::Ended => return Ok(None),
+            Stage::Ended(_) => return Ok(None),
             Stage::Start => {
                 if let Err(fault) = take_header(self.dialect, &mut self.rows) {
                     self.stage = Stage::Failed(fault);
@@ -231,12 +290,19 @@ impl<R: Read> Trace<R> {
             }
             Stage::Rows => {}
         }
-        let taken = take_row(self.alloc, self.dialect, &mut self.rows, self.given);
-        match &taken {
-            Ok(Some(_)) => self.given += 1,
-            Ok(None) => self.stage = Stage::Ended,
-            Err(fault) => self.stage = Stage::Failed(*fault),
+        match take_row(self.alloc, self.dialect, &mut self.rows, self.given) {
+            Ok(Taken::Row(event)) => {
+                self.given += 1;
+                Ok(Some(event))
+            }
+            Ok(Taken::End(said)) => {
+                self.stage = Stage::Ended(said);
+                Ok(None)
+            }
+            Err(fault) => {
+                self.stage = Stage::Failed(fault);
+                Err(fault)
+            }
         }
-        taken
     }
 }

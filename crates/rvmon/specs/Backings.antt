@@ -1,5 +1,5 @@
 -- What is known of the sources of a request, beside their events.
-use Rattle.std.specs.Prelude.{ℕ, ◌≡◌, ◌⊎◌, ◌||◌, Bool, true, false, List, Option, Some, None, String, if◌then◌else◌}
+use Rattle.std.specs.Prelude.{ℕ, ◌≡◌, ◌⊎◌, ◌||◌, Bool, true, false, List, Option, Some, None, String}
 use Rattle.std.specs.Prelude.{⊤, option_map}
 use Rattle.std.specs.Prelude.{IfSome, slice_get, string_bytes}
 use Rattle.std.specs.Global.{Global}
@@ -8,7 +8,6 @@ use Rattle.rv_trace.specs.Columns.{IsFieldInRow}
 use Rattle.rv_trace.specs.Source.{text_records}
 use Rattle.rv_trace.specs.declared.column.FaultyField.{FaultyField}
 use Rattle.rv_trace.specs.declared.dialect.Dialect.{Dialect}
-use Rattle.rv_trace.specs.declared.dialect.Dialect.TheVariants.{Plain, Carriers}
 use Rattle.rv_report.specs.declared.outcome.Outcome.{Outcome}
 use Rattle.rv_report.specs.declared.outcome.Outcome.TheVariants as outcome
 use Rattle.rv_run.specs.declared.fault.RunFault.{RunFault}
@@ -22,9 +21,9 @@ use Rattle.rvmon.specs.declared.backing.Silence.TheVariants.{Unopened, Fault}
 use Rattle.rvmon.specs.declared.ending.Ending.{Ending}
 use Rattle.rvmon.specs.declared.ending.Ending.TheVariants.{Ran, Failed, Words, NotText, NotOpened}
 
--- the dialect of the rows that are asked for
+-- the dialect of the sources that are asked for
 abbrev pub dialect_asked : Asked → Dialect
-dialect_asked asked = if asked.carriers then Carriers else Plain
+dialect_asked asked = record { carriers = asked.carriers; end_record = asked.complete }
 
 -- what the sources have exercised is counted for an explanation, and for coverage
 abbrev pub covering_asked : Asked → Bool

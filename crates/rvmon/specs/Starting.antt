@@ -5,6 +5,7 @@ use Rattle.std.specs.Global.{Global}
 use Rattle.std.specs.List.{Contains}
 use Rattle.clap.specs.Words.{Text}
 use Rattle.rv_trace.specs.Source.{Stream, bytes_say}
+use Rattle.rv_run.specs.Completeness.{Lacks}
 use Rattle.rv_run.specs.Replays.{IsAllowed}
 use Rattle.rv_run.specs.Sources.{AreCovered, IsTrueOf, IsFaultAmong}
 use Rattle.rv_run.specs.declared.judging.Judged.{Judged}
@@ -58,13 +59,16 @@ streams_asked known asked = map (option_map (bytes_say (dialect_asked asked))) (
 abbrev pub nothing_known : Text → Option (List ℕ)
 nothing_known name = None
 
--- what a run of a request comes to: its outcome is true of the sources, and what they have exercised is
--- told just where it is asked for and they are allowed
+-- What a run of a request comes to: its outcome is true of the sources. Where they are allowed, it is
+-- told what they have exercised just where that is asked for, and what the run lacks where it is to
+-- be complete.
 pub record IsJudgedOf (asked : Asked) (streams : List (Option Stream)) (j : Judged) : Type 0 where
   pub outcome : IsTrueOf asked.model streams j.outcome
   pub covered : IfSome j.coverage (AreCovered asked.model streams)
   pub counted : IsTrue (covering_asked asked) → IsAllowed j.outcome → IsSome j.coverage
   pub only : IsSome j.coverage → IsTrue (covering_asked asked) × IsAllowed j.outcome
+  pub lacks : IsTrue asked.complete → IsAllowed j.outcome → Lacks streams j.missing
+  pub complete : IsSome j.missing → IsTrue asked.complete × IsAllowed j.outcome
 
 -- the ending of a request: a file does not open, the sources that it names have no outcome, or this
 -- is theirs; its numbers are never out of range

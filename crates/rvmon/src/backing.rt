@@ -42,14 +42,13 @@ pub struct Backing {
     pub field: Option<FaultyField>,
 }
 
-/// Which rows the sources may have that are asked for.
+/// Which records the sources may have that are asked for.
 pub fn dialect_of(asked: &Asked) -> Dialect
     ensures { result ≡ dialect_asked asked.now }
 {
-    if asked.carriers {
-        Dialect::Carriers
-    } else {
-        Dialect::Plain
+    Dialect {
+        carriers: asked.carriers,
+        end_record: asked.complete,
     }
 }
 

@@ -1,23 +1,25 @@
 //! How the program ends: what it prints, and with which status.
-ghost use Rattle.std.specs.Prelude.{◌≡◌, ◌⊎◌, IfOk, OnOk, string_bytes};
+ghost use Rattle.std.specs.Prelude.{◌≡◌, ◌⊎◌, IfOk, OnOk, option_map, string_bytes};
 ghost use Rattle.std.specs.Io.KnownBytes.{Appends};
 ghost use Rattle.rv_event.specs.Texts.{◌⋯◌};
 ghost use Rattle.rv_report.specs.Texts.{line_feed, report_text};
 ghost use Rattle.rv_explain.specs.RowTexts.{said_by};
 ghost use Rattle.rv_coverage_report.specs.declared.text.Extent.TheVariants as extent;
-ghost use Rattle.rvmon.specs.Endings.{IsJsonExplained, IsPrinted, IsPrintedPicture, IsSettled, IsToldBehind};
-ghost use Rattle.rvmon.specs.Endings.{IsPrintedBehind, covered_text, json_of, status_of, status_of_kind};
+ghost use Rattle.rv_run.specs.Completeness.{missing_text};
+ghost use Rattle.rvmon.specs.Endings.{IsJsonExplained, IsPrinted, IsPrintedBehind, IsPrintedPicture, IsSettled};
+ghost use Rattle.rvmon.specs.Endings.{IsToldBehind, beside_text, covered_text, incomplete_text, json_of};
+ghost use Rattle.rvmon.specs.Endings.{status_of, status_of_kind};
 
 use crate::backing::{Backing, Silence};
 use crate::form::Form;
 use clap::Error as ParseError;
 use rv_cli::WordsFault;
-use rv_coverage_report::{Extent, coverage_text, covered_json_line};
+use rv_coverage_report::{Extent, coverage_text, told_json_line};
 use rv_event::NoMemory;
 use rv_explain::{Sources, story};
 use rv_explain_json::explained_json_line;
 use rv_picture::picture;
-use rv_report::{Outcome, ReportFault, report, report_json_line, write_text};
+use rv_report::{Outcome, ReportFault, report, write_text};
 use rv_run::{Judged, RunFault};
 use rv_trace::{FaultKind, FaultyField, TraceFault};
 use std::alloc::Global;
@@ -48,6 +50,9 @@ const WRONG_INPUT: u8 = 2;
 
 /// Reading, writing or memory failed.
 const FAILED: u8 = 3;
+
+/// Allowed, but the run lacks something that was to be complete.
+const INCOMPLETE: u8 = 4;
 
 /// Writes the report or the help to `out`, or a line on what went wrong to `errors`, and gives the
 /// exit status.
@@ -137,6 +142,13 @@ fn tell_silence<E: Write>(errors: &mut E, form: &Form) {
     }
 }
 
+/// Writes what the run lacks where a picture, which does not tell it, is asked for.
+fn tell_unseen<E: Write>(errors: &mut E, judged: &Judged, form: &Form) {
+    if let (Form::Picture(_), Some(missing)) = (form, &judged.missing) {
+        let _ = writeln!(errors, "rvmon: incomplete: {missing}");
+    }
+}
+
 /// What is told of what the sources have exercised, if it was counted.
 fn coverage_told(alloc: Global, judged: &Judged, extent: Extent) -> Result<String, NoMemory>
     ensures { IfOk result (λ text. string_bytes text ≡ covered_text extent judged.now.coverage) }
@@ -147,7 +159,26 @@ fn coverage_told(alloc: Global, judged: &Judged, extent: Extent) -> Result<Strin
     }
 }
 
-/// What is told behind a report: why an event was refused, or what the sources have exercised.
+/// What is told of what the run lacks, if it lacks anything.
+fn incomplete_told(alloc: Global, judged: &Judged) -> Result<String, NoMemory>
+    ensures { IfOk result (λ text. string_bytes text ≡ incomplete_text judged.now.missing) }
+{
+    match &judged.missing {
+        Some(missing) => Ok(format!(in alloc; "incomplete: {missing}\n")?),
+        None => Ok(String::new(alloc)),
+    }
+}
+
+/// What is told beside a report: what the run lacks, and what the sources have exercised.
+fn told_beside(alloc: Global, judged: &Judged, extent: Extent) -> Result<String, NoMemory>
+    ensures { IfOk result (λ text. string_bytes text ≡ beside_text extent judged.now) }
+{
+    let incomplete = incomplete_told(alloc, judged)?;
+    let covered = coverage_told(alloc, judged, extent)?;
+    Ok(format!(in alloc; "{incomplete}{covered}")?)
+}
+
+/// What is told behind a report: why an event was refused, and what is told beside.
 fn told_behind(
     alloc: Global,
     judged: &Judged,
@@ -158,8 +189,8 @@ fn told_behind(
         sources.entry.names.now (said_by sources.entry.texts.now) extent judged.now (string_bytes text)) }
 {
     let explained = story(alloc, sources, &judged.outcome)?;
-    let covered = coverage_told(alloc, judged, extent)?;
-    Ok(format!(in alloc; "{explained}{covered}")?)
+    let beside = told_beside(alloc, judged, extent)?;
+    Ok(format!(in alloc; "{explained}{beside}")?)
 }
 
 /// Writes the report of an outcome, and a text behind it.
@@ -178,18 +209,26 @@ fn report_with<O: Write>(
     }
 }
 
-/// Writes the report of an outcome, and behind it what the sources have exercised, if it was
-/// counted.
-fn report_covered<O: Write>(alloc: Global, out: &mut O, judged: &Judged) -> Result<(), ReportFault>
+/// Writes the report of an outcome, and behind it what the run lacks, if it lacks anything.
+fn report_complete<O: Write>(alloc: Global, out: &mut O, judged: &Judged) -> Result<(), ReportFault>
     ensures { OnOk result (Appends (O.contents out.old) (O.contents out.new)
-        (report_text judged.now.outcome ⋯ covered_text extent.All judged.now.coverage)) }
+        (report_text judged.now.outcome ⋯ incomplete_text judged.now.missing)) }
 {
-    let told = coverage_told(alloc, judged, Extent::All)?;
+    let told = incomplete_told(alloc, judged)?;
     report_with(alloc, out, &judged.outcome, told.as_str())
 }
 
-/// Writes the report of an outcome, and behind it why an event was refused, or what the sources
-/// have exercised.
+/// Writes the report of an outcome, and behind it what is told beside.
+fn report_covered<O: Write>(alloc: Global, out: &mut O, judged: &Judged) -> Result<(), ReportFault>
+    ensures { OnOk result (Appends (O.contents out.old) (O.contents out.new)
+        (report_text judged.now.outcome ⋯ beside_text extent.All judged.now)) }
+{
+    let told = told_beside(alloc, judged, Extent::All)?;
+    report_with(alloc, out, &judged.outcome, told.as_str())
+}
+
+/// Writes the report of an outcome, and behind it why an event was refused, and what is told
+/// beside.
 fn report_explained<O: Write>(
     alloc: Global,
     out: &mut O,
@@ -205,19 +244,29 @@ fn report_explained<O: Write>(
     report_with(alloc, out, &judged.outcome, told.as_str())
 }
 
-/// Writes the report as a line of JSON, with what the sources have exercised, if it was counted.
-fn write_json<O: Write>(alloc: Global, out: &mut O, judged: &Judged) -> Result<(), ReportFault>
-    ensures { OnOk result (Appends (O.contents out.old) (O.contents out.new)
-        (json_of judged.now.outcome judged.now.coverage ⋯ line_feed)) }
+/// The words for what the run lacks, if it lacks anything.
+fn lack_of(alloc: Global, judged: &Judged) -> Result<Option<String>, NoMemory>
+    ensures { IfOk result (λ text.
+        option_map string_bytes text ≡ option_map missing_text judged.now.missing) }
 {
-    match &judged.coverage {
-        Some(coverage) => covered_json_line(alloc, out, &judged.outcome, coverage),
-        None => report_json_line(alloc, out, &judged.outcome),
+    match &judged.missing {
+        Some(missing) => Ok(Some(missing.to_string(alloc)?)),
+        None => Ok(None),
     }
 }
 
-/// Writes the report as a line of JSON, with why an event was refused, or what the sources have
-/// exercised, if it was counted.
+/// Writes the report as a line of JSON, with what is told beside.
+fn write_json<O: Write>(alloc: Global, out: &mut O, judged: &Judged) -> Result<(), ReportFault>
+    ensures { OnOk result (Appends (O.contents out.old) (O.contents out.new) (json_of judged.now ⋯ line_feed)) }
+{
+    let coverage = judged.coverage.as_ref();
+    match lack_of(alloc, judged)? {
+        Some(lack) => told_json_line(alloc, out, &judged.outcome, coverage, Some(lack.as_str())),
+        None => told_json_line(alloc, out, &judged.outcome, coverage, None),
+    }
+}
+
+/// Writes the report as a line of JSON, with why an event was refused, or what is told beside.
 fn write_json_explained<O: Write>(
     alloc: Global,
     out: &mut O,
@@ -225,12 +274,14 @@ fn write_json_explained<O: Write>(
     sources: Sources<'_>,
 ) -> Result<(), ReportFault>
     ensures { OnOk result
-        (IsJsonExplained sources.entry.names.now (said_by sources.entry.texts.now) judged.now.outcome
-        judged.now.coverage (O.contents out.old) (O.contents out.new)) }
+        (IsJsonExplained sources.entry.names.now (said_by sources.entry.texts.now) judged.now
+        judged.now.outcome (O.contents out.old) (O.contents out.new)) }
 {
-    match &judged.coverage {
-        Some(coverage) => covered_json_line(alloc, out, &judged.outcome, coverage),
-        None => explained_json_line(alloc, out, sources, &judged.outcome),
+    match &judged.outcome {
+        Outcome::Allowed { .. } => write_json(alloc, out, judged),
+        Outcome::Forbidden(_) | Outcome::Malformed(_) => {
+            explained_json_line(alloc, out, sources, &judged.outcome)
+        }
     }
 }
 
@@ -259,7 +310,7 @@ fn write_judged<O: Write>(
     ensures { OnOk result (IsPrinted form.now judged.now (O.contents out.old) (O.contents out.new)) }
 {
     match form {
-        Form::Text => report(alloc, out, &judged.outcome),
+        Form::Text => report_complete(alloc, out, judged),
         Form::Covered => report_covered(alloc, out, judged),
         Form::Json => write_json(alloc, out, judged),
         Form::JsonExplained(backing) => {
@@ -280,14 +331,15 @@ fn settle_judged<O: Write, E: Write>(
     judged: &Judged,
     form: &Form,
 ) -> u8
-    ensures { ((result ≡ status_of judged.now.outcome)
+    ensures { ((result ≡ status_of judged.now.outcome judged.now.missing)
         × IsPrinted form.now judged.now (O.contents out.old) (O.contents out.new))
         ⊎ (result ≡ FAILED) }
 {
     let written = write_judged(alloc, out, judged, form);
     tell_silence(errors, form);
+    tell_unseen(errors, judged, form);
     match written {
-        Ok(()) => status_of(&judged.outcome),
+        Ok(()) => status_of(judged),
         Err(fault) => {
             let _ = writeln!(errors, "rvmon: {fault}");
             FAILED
@@ -295,12 +347,18 @@ fn settle_judged<O: Write, E: Write>(
     }
 }
 
-/// The status of an outcome.
-fn status_of(outcome: &Outcome) -> u8
-    ensures { result ≡ status_of outcome.now }
+/// The status of what a run came to.
+fn status_of(judged: &Judged) -> u8
+    ensures { result ≡ status_of judged.now.outcome judged.now.missing }
 {
-    match outcome {
-        Outcome::Allowed { .. } => ALLOWED,
+    match &judged.outcome {
+        Outcome::Allowed { .. } => {
+            if judged.missing.is_some() {
+                INCOMPLETE
+            } else {
+                ALLOWED
+            }
+        }
         Outcome::Forbidden(_) => FORBIDDEN,
         Outcome::Malformed(_) => WRONG_INPUT,
     }

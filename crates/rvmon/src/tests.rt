@@ -57,6 +57,7 @@ fn end_of<RT: Threads + Wait + Sync + Abort>(rt: &RT, alloc: Global, trace: &str
         Ok(outcome) => Ending::Ran(Judged {
             outcome,
             coverage: None,
+            missing: None,
         }),
         Err(fault) => Ending::Failed(fault),
     }

@@ -5,6 +5,12 @@ use rv_trace::{Dialect, FaultKind, Trace, TraceFault};
 use std::alloc::Global;
 use std::test::Fail;
 
+/// The dialect that has carriers.
+const CARRIERS: Dialect = Dialect {
+    carriers: true,
+    end_record: false,
+};
+
 /// What a trace of one row gives in the dialect.
 fn first_in(
     alloc: Global,
@@ -21,7 +27,7 @@ fn first_in(
 
 /// The event of one row.
 fn event_of(alloc: Global, row: &str) -> Result<Event, Fail> {
-    match first_in(alloc, Dialect::Plain, row)? {
+    match first_in(alloc, Dialect::plain(), row)? {
         Ok(Some(event)) => Ok(event),
         _ => Err("no event")?,
     }
@@ -82,18 +88,18 @@ fn every_operation_is_known(rt: HostRuntime) -> Result<(), Fail> {
 
 #[test]
 fn a_carrier_is_known_where_the_dialect_has_it(rt: HostRuntime) -> Result<(), Fail> {
-    let Ok(Some(event)) = first_in(rt.alloc(), Dialect::Carriers, "0,9,I,,,,,d0 d8")? else {
+    let Ok(Some(event)) = first_in(rt.alloc(), CARRIERS, "0,9,I,,,,,d0 d8")? else {
         return Err("no carrier")?;
     };
     assert_eq!(rt; event.op, Op::Carrier);
     assert_eq!(rt; event.deps.as_slice().len(), 2);
     drop(event);
     for (dialect, row, kind) in [
-        (Dialect::Plain, "0,9,I,,,,,d0 d8", FaultKind::Op),
-        (Dialect::Carriers, "0,9,I,1,,,,d0", FaultKind::NotBlank),
-        (Dialect::Carriers, "0,9,I,,,,A,d0", FaultKind::Annotation),
-        (Dialect::Carriers, "0,9,I,,,,,a0", FaultKind::Dependency),
-        (Dialect::Carriers, "0,9,i,,,,,d0", FaultKind::Op),
+        (Dialect::plain(), "0,9,I,,,,,d0 d8", FaultKind::Op),
+        (CARRIERS, "0,9,I,1,,,,d0", FaultKind::NotBlank),
+        (CARRIERS, "0,9,I,,,,A,d0", FaultKind::Annotation),
+        (CARRIERS, "0,9,I,,,,,a0", FaultKind::Dependency),
+        (CARRIERS, "0,9,i,,,,,d0", FaultKind::Op),
     ] {
         match first_in(rt.alloc(), dialect, row)? {
             Err(fault) => assert_eq!(rt; fault, TraceFault { kind, row: 1 }, "at {row}"),

@@ -6,6 +6,7 @@ use Rattle.rv_run.specs.declared.fault.RunFault.{RunFault}
 use Rattle.rv_run.specs.declared.fault.RunFault.TheVariants as fault
 use Rattle.rv_run.specs.declared.running.Settings.{Settings}
 use Rattle.rv_trace.specs.Source.{Stream}
+use Rattle.rv_trace.specs.declared.dialect.Dialect.{Dialect}
 use Rattle.rvmon.specs.Backings.{dialect_asked}
 use Rattle.rvmon.specs.Starting.{IsJudgedOf, bytes_asked}
 use Rattle.rvmon.specs.declared.ending.Ending.TheVariants.{Failed}
@@ -32,6 +33,11 @@ returns-in-Ok-run_reading g c =
       covered = ran.covered;
       counted = λ asks. ran.asked (c.is_covering.ensures ∙ asks);
       only = λ some. (sym c.is_covering.ensures ∙ (ran.only some).0, (ran.only some).1);
+      lacks = λ asks. ran.lacks (ap (λ (d : Dialect). d.end_record) c.dialect_of.ensures ∙ asks);
+      complete = λ some. (
+        sym (ap (λ (d : Dialect). d.end_record) c.dialect_of.ensures) ∙ (ran.complete some).0,
+        (ran.complete some).1,
+      );
     })
 
 pub returns : goal.returns

@@ -11,6 +11,7 @@ returns c =
     let explain = c.explain_arg.ensures in
     let svg = c.svg_arg.ensures in
     let coverage = c.coverage_arg.ensures in
+    let complete = c.complete_arg.ensures in
     let places = c.where_arg.ensures in
     let files = c.files_arg.ensures in
     let one = c.in_ok-arg.ensures.shape workers.local ∙ ap₂ with_rule c.bare_command.ensures workers.rule in
@@ -21,9 +22,10 @@ returns c =
     let six = c.in_ok-arg-6.ensures.shape explain.local ∙ ap₂ with_rule five explain.rule in
     let seven = c.in_ok-arg-7.ensures.shape svg.local ∙ ap₂ with_rule six svg.rule in
     let eight = c.in_ok-arg-8.ensures.shape coverage.local ∙ ap₂ with_rule seven coverage.rule in
-    let nine = c.in_ok-arg-9.ensures.shape places.local ∙ ap₂ with_rule eight places.rule in
-    IfOk-weaker c.arg-10.result _ _ (λ r added. (
+    let nine = c.in_ok-arg-9.ensures.shape complete.local ∙ ap₂ with_rule eight complete.rule in
+    let ten = c.in_ok-arg-10.ensures.shape places.local ∙ ap₂ with_rule nine places.rule in
+    IfOk-weaker c.arg-11.result _ _ (λ r added. (
       model.rule.0,
       model.rule.1,
-      added.shape files.local ∙ ap₂ with_rule nine files.rule,
-    )) c.arg-10.ensures
+      added.shape files.local ∙ ap₂ with_rule ten files.rule,
+    )) c.arg-11.ensures

@@ -14,6 +14,7 @@ returns-clause-answer c =
       explain = c.flag_in-3.result;
       svg = c.flag_in-4.result;
       coverage = c.flag_in-5.result;
+      complete = c.flag_in-6.result;
       where_file = c.in_ok-where_file.where_file;
       files = c.in_ok-files.files;
     } in

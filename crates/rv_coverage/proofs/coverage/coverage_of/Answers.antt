@@ -21,5 +21,5 @@ returns c = record {
   reads_are = c.in_ok-read_counts.ensures;
   harts_are = c.count_harts.ensures ∙ ap harts_of c.log-log.ensures.value;
   pairs_are = c.in_ok-count_pairs.ensures ∙ ap (λ (l : List Entry). pairs_of (events l)) c.log-log.ensures.value;
-  waiting_are = c.in_ok-first_waits.ensures;
+  waiting_are = c.in_ok-first_waits.ensures.firsts;
 }

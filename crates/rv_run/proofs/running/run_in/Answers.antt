@@ -1,6 +1,10 @@
 use Rattle.rv_run.proofs.Common.{List, IfOk, IfErr, option_map, rules, subst, bytes_say, AgreesWith, IsFaultIn}
-use Rattle.rv_run.proofs.Common.{Fed, IfSome}
-use Rattle.rv_run.specs.Comparisons.{IsCoveredBy}
+use Rattle.rv_run.proofs.Common.{Fed, IfSome, IsAllowed}
+use Rattle.std.specs.Prelude.{IsTrue}
+use Rattle.std.proofs.lemmas.Result.{IfOk-weaker}
+use Rattle.rv_run.specs.Comparisons.{IsCoveredBy, LacksBy}
+use Rattle.rv_run.specs.Completeness.{Lacks}
+use Rattle.rv_run.proofs.Completeness.{readers-lack}
 use Rattle.rv_run.proofs.Outcomes.{IsAnswer, answer-true}
 use Rattle.rv_run.specs.Sources.{streams_in}
 use Rattle.rv_run.proofs.running.run_in.Goals as goal
@@ -18,13 +22,24 @@ returns g c =
     (λ j. IfSome j.coverage (IsCoveredBy c.args.settings.model fed)))
     c.as_slice-fed.ensures.value c.judge-judged.ensures.coverage)
     (subst (λ (fed : List Fed). IfErr c.judge-judged.result (IsFaultIn fed)) c.as_slice-fed.ensures.value
-    c.judge-judged.ensures.fault) in record {
+    c.judge-judged.ensures.fault) in
+    let lacks : IfOk c.judge-judged.result (λ j. IsTrue c.args.reading.dialect.end_record → IsAllowed j.outcome →
+    Lacks (streams_in c.args.reading.dialect g.R.Read.remaining c.args.readers.items) j.missing) =
+    IfOk-weaker c.judge-judged.result _ _ (λ j told asked allowed.
+    readers-lack (λ r. option_map (bytes_say c.args.reading.dialect) (g.R.Read.remaining r)) c.args.readers.items
+    c.in_ok-driven.driven.fed.items (search rules) c.in_ok-driven.ensures.fed.0 c.in_ok-driven.ensures.fed.1 j.missing
+    (told asked allowed))
+    (subst (λ (fed : List Fed). IfOk c.judge-judged.result
+    (λ j. IsTrue c.args.reading.dialect.end_record → IsAllowed j.outcome → LacksBy fed j.missing))
+    c.as_slice-fed.ensures.value c.judge-judged.ensures.lacks) in record {
       allowed = answer.allowed;
       forbidden = answer.forbidden;
       malformed = answer.malformed;
       covered = answer.covered;
       asked = search rules;
       only = search rules;
+      lacks = lacks;
+      complete = search rules;
       fault = answer.fault;
       settings = search rules;
     }
