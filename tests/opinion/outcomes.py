@@ -16,13 +16,29 @@ def allowed_line(log):
     return f"allowed: {len(log.events)} events, {len(operations)} operations, {len(waiting)} waiting loads"
 
 
-def possible_outcomes(sources, model, has_carriers):
-    """Each outcome that some order of arrival leads to, with the logs that are the evidence of each refusal.
+def lack_of(given, said, log):
+    """What a whole run lacks that would be complete, or None."""
+    for source, (events, number) in enumerate(zip(given, said)):
+        if number is None:
+            return f"source {source} has no end record"
+        if number != len(events):
+            return f"source {source} ends after {len(events)} rows, and says {number}"
+    if not log.events:
+        return "no events"
+    waiting = [e for e in log.events if e.is_load and e.read > 0 and log.writer(e.word, e.read) is None]
+    for load in sorted(waiting, key=lambda event: (event.hart, event.seq)):
+        return f"{load.name} waits for version {load.read} of word {load.word}"
+    return None
+
+
+def possible_outcomes(sources, model, has_carriers, is_complete=False):
+    """Each outcome that some order of arrival leads to, with the logs that are the evidence of each refusal, or with
+    the lines that follow where it is allowed.
 
     The events of a source arrive in their order, those of several sources in any. What has arrived is told by how many
     events each source gave, as the merges of these have the same faults and the same lawful orders.
     """
-    given, faults = zip(*(read_source(text, has_carriers) for text in sources))
+    given, faults, said = zip(*(read_source(text, has_carriers, is_complete) for text in sources))
     outcomes, ordered_before = {}, {}
     whole = tuple(len(events) for events in given)
     accepted = [(0,) * len(given)]
@@ -30,7 +46,8 @@ def possible_outcomes(sources, model, has_carriers):
         entries = [(s, event) for s, events in enumerate(given) for event in events[: arrived[s]]]
         log = Log(entries, model, ordered_before)
         if arrived == whole and not any(faults):
-            outcomes[allowed_line(log)] = []
+            lack = lack_of(given, said, log) if is_complete else None
+            outcomes[allowed_line(log)] = [f"incomplete: {lack}"] if lack else []
         for source, event in next_entries(given, arrived):
             refusal = refusal_line(log, source, event)
             following = tuple(count + (s == source) for s, count in enumerate(arrived))
@@ -75,12 +92,14 @@ REPORTS = {
 def text_of_json(output):
     """The text report that says the same as a JSON report. Raises an error where it is none."""
     report = json.loads(output)
-    if json.dumps(report, sort_keys=True, separators=(",", ":")) + "\n" != output:
+    lack = report.pop("incomplete", None) if report["outcome"] == "allowed" else None
+    if json.dumps(json.loads(output), sort_keys=True, separators=(",", ":")) + "\n" != output:
         raise ValueError("it is not written as it should be")
     form = REPORTS[report.pop("outcome")]
     lines = certificate_lines(report.pop("certificate")) if form == REPORTS["forbidden"] else []
     if set(report) != set(re.findall(r"{(\w+)}", form)):
         raise ValueError("the keys are not those of the outcome")
+    lines += [f"incomplete: {lack}"] if lack else []
     return "".join(line + "\n" for line in [form.format(**report), *lines])
 
 
@@ -98,11 +117,12 @@ def complaint_of(answer, text, outcomes):
     if lines.pop() != "" or not lines or lines[0] not in outcomes:
         return "the outcome is none of those possible"
     outcome = lines[0].split(":")[0]
-    if answer.returncode != {"allowed": 0, "forbidden": 1, "malformed": 2, "rvmon": 2}[outcome]:
+    behind = outcomes[lines[0]] if outcome == "allowed" else []
+    if answer.returncode != {"allowed": 4 if behind else 0, "forbidden": 1, "malformed": 2, "rvmon": 2}[outcome]:
         return "the status is not that of the outcome"
     if (outcome == "rvmon") != (answer.stdout == "") or (outcome != "rvmon") != (answer.stderr == ""):
         return "the outcome is on the wrong output"
     if outcome == "forbidden":
         good = any(certifies(log, lines[1:]) for log in outcomes[lines[0]])
         return None if good else "the certificate is none"
-    return "there are lines too many" if len(lines) > 1 else None
+    return "what follows is another" if lines[1:] != behind else None

@@ -58,19 +58,28 @@ def event_of(fields):
     return Event(int(hart), int(seq), operation, int(word or 0), int(read or 0), int(wrote or 0), annotation, parts)
 
 
-def read_source(text, has_carriers):
-    """The events that a source gives, and its fault as (row, number) or None. A faulty chunk of eight gives none."""
+def number_said(fields):
+    """The number of rows that an end record says, or None where the fields are none."""
+    if len(fields) != 2 or fields[0] != "end" or number_fault(fields[1]):
+        return None
+    return int(fields[1])
+
+
+def read_source(text, has_carriers, has_end=False):
+    """The events that a source gives, its fault as (row, number) or None, and what its end record says. A faulty chunk
+    of eight gives none."""
     lines = text.splitlines()
     if not lines or lines[0] != HEADER:
-        return [], (0, 1)
+        return [], (0, 1), None
+    rows = [line.split(",") for line in lines[1:]]
+    said = number_said(rows[-1]) if has_end and rows else None
     events = []
-    for row, line in enumerate(lines[1:], start=1):
-        fields = line.split(",")
+    for row, fields in enumerate(rows if said is None else rows[:-1], start=1):
         fault = row_fault(fields, has_carriers)
         if fault:
-            return events[: len(events) // 8 * 8], (row, fault)
+            return events[: len(events) // 8 * 8], (row, fault), None
         events.append(event_of(fields))
-    return events, None
+    return events, None, said
 
 
 # Random traces
@@ -106,13 +115,16 @@ CARRIER_SHAPES = [
 
 @dataclass
 class Trace:
-    """A random trace: the text of each source, and the words for the program."""
+    """A random trace: the text of each source, and the words for the program. Where it is to be complete, some of a
+    source may have been cut off, the end of its last line aside."""
 
     sources: list
     model: str
     words: list
     with_json: bool
     has_carriers: bool
+    is_complete: bool = False
+    was_cut: bool = False
 
 
 def chance(dice, probability):
@@ -309,4 +321,24 @@ def random_trace(seed):
     model = dice.choice(["rvwmo", "rvwmo", "tso"])
     words = ["--workers", str(dice.randint(1, 24)), "--slots", str(dice.randint(2, 16)), "--model", model]
     words += ["--carriers"] if has_carriers else []
-    return Trace(texts, model, words, chance(dice, 0.5), has_carriers)
+    trace = Trace(texts, model, words, chance(dice, 0.5), has_carriers)
+    if chance(dice, 0.25):
+        make_complete(dice, trace)
+    return trace
+
+
+def make_complete(dice, trace):
+    """Gives the sources end records, few of them a wrong one, and cuts one of the sources off at times."""
+    trace.is_complete = True
+    trace.words.append("--complete")
+    for source, text in enumerate(trace.sources):
+        rows = text.count("\n") - 1
+        end = f"end,{rows}\n"
+        odd = ["", f"end,{rows + 1}\n", end + end, "end\n", "end,x\n", end + text.split("\n")[-2] + "\n"]
+        trace.sources[source] += dice.choice(odd) if chance(dice, 0.1) else end
+    if chance(dice, 0.3):
+        source = dice.randrange(len(trace.sources))
+        text = trace.sources[source]
+        kept = dice.choice([dice.randrange(len(text)), len(text) - dice.randint(1, 9)])
+        trace.was_cut = kept < len(text.rstrip("\n"))
+        trace.sources[source] = text[: max(kept, 0)]
