@@ -130,7 +130,10 @@ fn place_file(rt: &HostRuntime, words: &Words) -> Result<Option<PlaceFile<BufWri
 fn write_rows(rt: &HostRuntime, words: &Words) -> Result<u64, Stop> {
     let out = BufWriter::new(rt.alloc(), io::writer(rt))?;
     let sink = TraceFile::new(out, place_file(rt, words)?)?;
-    let (_, left_out) = translate_log(rt, words, sink)?;
+    let (mut file, left_out) = translate_log(rt, words, sink)?;
+    if words.ends {
+        file.end()?;
+    }
     Ok(left_out)
 }
 

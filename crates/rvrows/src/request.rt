@@ -25,6 +25,8 @@ Usage: rvrows [WORD..] [LOG..]
   --range LO-HI     leaves out accesses below LO, and from HI on; both are hexadecimal
                     and multiples of 8
   --where FILE      rvrows: writes where each row comes from, as source,row,text
+  --end             rvrows: writes the record end,N behind the N rows of a whole log, for
+                    rvmon --complete
   --model rvwmo|tso rvmon: the memory model; rvwmo where it is not said
   --explain         rvmon: says behind the report why a row was refused, or what an
                     allowed log has exercised
@@ -104,6 +106,8 @@ pub(crate) struct Words {
     pub(crate) files: Vec<String>,
     /// The file that tells where rows come from, if there is one.
     pub(crate) places: Option<String>,
+    /// Whether an end record is written behind the rows of a whole log.
+    pub(crate) ends: bool,
     /// Whether help is asked for.
     pub(crate) help: bool,
 }
@@ -197,6 +201,7 @@ impl Words {
             },
             files: Vec::new(alloc),
             places: None,
+            ends: false,
             help: false,
         }
     }
@@ -224,6 +229,7 @@ impl Words {
             "--zero" => self.request.zero = true,
             "--complete" => self.request.complete = true,
             "--pending" => self.request.pending = true,
+            "--end" => self.ends = true,
             "--log" => self.judges = true,
             "--svg" => self.telling.form = Form::Picture,
             "--coverage" => self.telling.coverage = true,

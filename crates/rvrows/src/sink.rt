@@ -73,7 +73,9 @@ impl<F: Write + Drop> PlaceFile<F> {
 pub(crate) struct TraceFile<W: Write + Drop, F: Write + Drop> {
     out: W,
     places: Option<PlaceFile<F>>,
-    /// How many rows are not written yet.
+    /// How many rows there are.
+    rows: u64,
+    /// How many of them are not written yet.
     kept: u32,
 }
 
@@ -84,8 +86,16 @@ impl<W: Write + Drop, F: Write + Drop> TraceFile<W, F> {
         Ok(TraceFile {
             out,
             places,
+            rows: 0,
             kept: 0,
         })
+    }
+
+    /// Writes the end record.
+    pub(crate) fn end(&mut self) -> Result<(), Stop> {
+        let rows = self.rows;
+        writeln!(self.out, "end,{rows}")?;
+        self.pause()
     }
 }
 
@@ -102,6 +112,7 @@ impl<W: Write + Drop, F: Write + Drop> Sink for TraceFile<W, F> {
             file.take(&row)?;
         }
         writeln!(self.out, "{row}")?;
+        self.rows = self.rows.saturating_add(1);
         self.kept = self.kept.saturating_add(1);
         if self.kept < ROWS_KEPT {
             return Ok(());
