@@ -53,23 +53,24 @@ fn a_trace_may_end_without_one(rt: HostRuntime) {
 
 #[test]
 fn what_is_no_end_record_is_a_row(rt: HostRuntime) -> Result<(), Fail> {
-    for (rows, row) in [
-        ("end,0\nend,1\n", 1),
-        ("end,0\n0,0,S,0,,1,,\n", 1),
-        ("0,0,S,0,,1,,\nend,1\n0,1,S,0,,2,,\n", 2),
-        ("end\n", 1),
-        ("end,\n", 1),
-        ("end,x\n", 1),
-        ("end,-1\n", 1),
-        ("end,4294967296\n", 1),
-        ("end,1,\n", 1),
-        (" end,1\n", 1),
-        ("End,1\n", 1),
+    for (rows, given) in [
+        ("end,0\nend,1\n", 0),
+        ("end,0\n0,0,S,0,,1,,\n", 0),
+        ("0,0,S,0,,1,,\nend,1\n0,1,S,0,,2,,\n", 1),
+        ("end\n", 0),
+        ("end,\n", 0),
+        ("end,x\n", 0),
+        ("end,-1\n", 0),
+        ("end,4294967296\n", 0),
+        ("end,1,\n", 0),
+        (" end,1\n", 0),
+        ("End,1\n", 0),
     ] {
         let text = format!(in rt.alloc(); "{HEADER}{rows}")?;
         let mut trace = Trace::with_dialect(rt.alloc(), text.as_str().as_bytes(), 0, ENDED);
-        let wanted = fault(FaultKind::Fields, row);
-        assert_eq!(rt; outcome_of(&mut trace), (row - 1, wanted), "at {rows}");
+        let given: u32 = given;
+        let wanted = fault(FaultKind::Fields, given.saturating_add(1));
+        assert_eq!(rt; outcome_of(&mut trace), (given, wanted), "at {rows}");
         assert_eq!(rt; trace.said(), None, "at {rows}");
         drop(trace);
         drop(text);
