@@ -137,4 +137,4 @@ Exit status:
   1  forbidden
   2  malformed, a source that is not in the format, or wrong arguments
   3  a source or report that cannot be opened, read or written, or no memory
-  4  with --complete: allowed, but no whole run; a line incomplete: TEXT says why";
+  4  with --complete: allowed, but a line incomplete: TEXT says what is missing";

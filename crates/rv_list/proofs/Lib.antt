@@ -1,0 +1,2 @@
+pub mod Listed
+mod NoFloats
