@@ -1,4 +1,5 @@
 -- What a request says of the matches of its words.
+use Rattle.std.specs.Prelude.{◌<◌, ◌⊎◌, IsSome, IsTrue}
 use Rattle.std.specs.Prelude.{◌≡◌, ◌≤◌, ℕ, Bool, false, List, [], Option, Some, None, codes, map, option_map, unwrap_or}
 use Rattle.std.specs.Prelude.{bytes_eq, length, string_bytes}
 use Rattle.std.specs.Str.Parse.{digits_value, without_leading_plus}
@@ -37,10 +38,21 @@ pub record SaysAsked (rows : List Row) (asked : Asked) : Type 0 where
   pub coverage : asked.coverage ≡ is_true (first_of (codes "coverage") rows)
   pub complete : asked.complete ≡ is_true (first_of (codes "complete") rows)
   pub where_file : option_map string_bytes asked.where_file ≡ first_of (codes "where") rows
+  pub list_file : option_map string_bytes asked.list_file ≡ first_of (codes "list") rows
   pub files : map string_bytes asked.files.items ≡ files_in rows
 
 -- the numbers are in the ranges of the command, and there are few enough files
-pub record IsInRange (asked : Asked) : Type 0 where
+pub record AreInRange (asked : Asked) : Type 0 where
   pub workers : (1 ≤ asked.workers) × (asked.workers ≤ 24)
   pub slots : (2 ≤ asked.slots) × (asked.slots ≤ 16)
   pub files : length asked.files.items ≤ 8
+
+-- a file is named, or what is told of one trace alone is asked for
+abbrev pub IsForOneTrace : Asked → Type 0
+IsForOneTrace asked =
+    (0 < length asked.files.items) ⊎ (IsTrue asked.explain ⊎ (IsTrue asked.svg ⊎ IsSome asked.where_file))
+
+-- that, and a list stands alone
+pub record IsInRange (asked : Asked) : Type 0 where
+  pub numbers : AreInRange asked
+  pub alone : IsSome asked.list_file → IsForOneTrace asked → ⊥

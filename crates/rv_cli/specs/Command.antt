@@ -69,6 +69,9 @@ complete_rule = flag_rule (codes "complete")
 abbrev pub where_rule : Rule
 where_rule = record (new_rule (codes "where")) { long = Some (codes "where"); action = Some Set; value_names = 1 }
 
+abbrev pub list_rule : Rule
+list_rule = record (new_rule (codes "list")) { long = Some (codes "list"); action = Some Set; value_names = 1 }
+
 -- any number of texts, by their place
 abbrev pub files_rule : Rule
 files_rule = record (new_rule (codes "FILE")) { action = Some Append }
@@ -80,8 +83,8 @@ bare_app = let app = new_app (codes "rvmon") in record app { top = record app.to
 abbrev pub app_over : Names → App
 app_over names =
     with_rule (with_rule (with_rule (with_rule (with_rule (with_rule (with_rule (with_rule (with_rule (with_rule
-    (with_rule bare_app workers_rule) slots_rule) (model_rule names)) json_rule) carriers_rule) explain_rule)
-    svg_rule) coverage_rule) complete_rule) where_rule) files_rule
+    (with_rule (with_rule bare_app workers_rule) slots_rule) (model_rule names)) json_rule) carriers_rule)
+    explain_rule) svg_rule) coverage_rule) complete_rule) where_rule) list_rule) files_rule
 
 -- it is the command of the program
 abbrev pub IsCommand : App → Type 0

@@ -2,7 +2,7 @@
 ghost use Rattle.std.specs.Prelude.{◌≡◌, false, IfOk};
 ghost use Rattle.clap.specs.Words.{app_of, rule_of};
 ghost use Rattle.rv_cli.specs.Command.{IsCommand, ListsModels, bare_app, carriers_rule, complete_rule};
-ghost use Rattle.rv_cli.specs.Command.{coverage_rule, explain_rule, files_rule, json_rule, model_rule};
+ghost use Rattle.rv_cli.specs.Command.{coverage_rule, explain_rule, files_rule, json_rule, list_rule, model_rule};
 ghost use Rattle.rv_cli.specs.Command.{slots_rule, svg_rule, where_rule, workers_rule};
 
 use crate::help;
@@ -133,6 +133,18 @@ fn where_arg<'a>(alloc: Global) -> Arg<'a>
         .help(help::WHERE)
 }
 
+/// `--list`.
+fn list_arg<'a>(alloc: Global) -> Arg<'a>
+    ensures rule { rule_of result ≡ list_rule }
+    ensures local { result.global ≡ false }
+{
+    Arg::new(alloc, "list")
+        .long("list")
+        .action(ArgAction::Set)
+        .value_name("LIST")
+        .help(help::LIST)
+}
+
 /// `FILE`.
 fn files_arg<'a>(alloc: Global) -> Arg<'a>
     ensures rule { rule_of result ≡ files_rule }
@@ -168,5 +180,6 @@ pub(crate) fn command_of<'a>(alloc: Global) -> Result<Command<'a>, AllocError>
         .arg(coverage_arg(alloc))?
         .arg(complete_arg(alloc))?
         .arg(where_arg(alloc))?
+        .arg(list_arg(alloc))?
         .arg(files_arg(alloc))
 }

@@ -51,6 +51,12 @@ pub(crate) const WHERE: &str = "\
 Tell where rows come from, by the file ROWS:{n}\
 CSV with the header source,row,text";
 
+/// On `--list`.
+pub(crate) const LIST: &str = "\
+Judge one trace after another. LIST, or standard input
+for -, has a line of each: its files, with a tab between
+two. A line of JSON tells what each comes to";
+
 /// On the format of a trace, what is printed and the exit status.
 pub(crate) const FORMAT: &str = "\
 A trace is CSV: this header, and then a row for each event. The rows of a hart

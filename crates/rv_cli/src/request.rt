@@ -33,6 +33,9 @@ pub struct Asked {
     pub complete: bool,
     /// The name of a file that tells where rows come from, if one is named.
     pub where_file: Option<String>,
+    /// The name of a file that lists traces, a line each, if one is named. There are then no files,
+    /// and nothing is explained or drawn.
+    pub list_file: Option<String>,
     /// The names of the sources' files in the order of the words, at most 8. Standard input is the
     /// source where there is none.
     pub files: Vec<String>,
@@ -50,6 +53,9 @@ pub enum WordsFault {
     /// There are more than 8 files.
     #[error("at most 8 sources")]
     TooMany,
+    /// A list of traces is named beside a file, or beside what is told of one trace alone.
+    #[error("--list stands beside no FILE, --explain, --svg or --where")]
+    BesideList,
 }
 
 impl From<ParseError> for WordsFault {

@@ -1,10 +1,11 @@
 //! From words to a request.
-ghost use Rattle.std.specs.Prelude.{◌≡◌, ◌≤◌, IfErr, IfOk, codes, length, map, option_map, string_bytes};
+ghost use Rattle.std.specs.Prelude.{◌≡◌, ◌≤◌, IfErr, IfOk, codes, false, length, map, option_map, string_bytes, true};
 ghost use Rattle.clap.specs.Walk.{texts};
 ghost use Rattle.clap.specs.Words.{first_of, first_value, found_of, one_of, one_text, rows_of};
 ghost use Rattle.rv_cli.specs.Answers.{AnswersTo, IsFilesFault};
-ghost use Rattle.rv_cli.specs.Asked.{IsInRange, SaysModel, SaysNumber, files_in, is_true};
-ghost use Rattle.rv_cli.specs.Parsed.{HoldsModel, HoldsNumber, ParsesTo};
+ghost use Rattle.rv_cli.specs.Asked.{AreInRange, IsForOneTrace, IsInRange, SaysAsked, SaysModel, SaysNumber};
+ghost use Rattle.rv_cli.specs.Asked.{files_in, is_true};
+ghost use Rattle.rv_cli.specs.Parsed.{HoldsModel, HoldsNumber, HoldsValues, ParsesTo};
 
 use crate::command::command_of;
 use crate::request::{Asked, WordsFault};
@@ -107,29 +108,54 @@ fn files_in(alloc: Global, matches: &ArgMatches<'_>) -> Result<Vec<String>, Word
     }
 }
 
+/// Whether a request names a file, or asks for what is told of one trace alone.
+fn is_for_one_trace(asked: &Asked) -> bool
+    ensures yes { result ≡ true → IsForOneTrace asked.now }
+    ensures no { result ≡ false → IsForOneTrace asked.now → ⊥ }
+{
+    !asked.files.is_empty() || asked.explain || asked.svg || asked.where_file.is_some()
+}
+
+/// What the matches say.
+fn asked_in(alloc: Global, matches: &ArgMatches<'_>) -> Result<Asked, WordsFault>
+    requires { HoldsValues (found_of matches.now) }
+    ensures said { IfOk result (SaysAsked (rows_of (found_of matches.now))) }
+    ensures numbers { IfOk result AreInRange }
+    ensures fault { IfErr result (IsFilesFault (files_in (rows_of (found_of matches.now)))) }
+{
+    let files = files_in(alloc, matches)?;
+    let where_file = text_in(alloc, matches, "where")?;
+    let list_file = text_in(alloc, matches, "list")?;
+    Ok(Asked {
+        workers: workers_in(matches),
+        slots: slots_in(matches),
+        model: model_in(matches),
+        json: flag_in(matches, "json"),
+        carriers: flag_in(matches, "carriers"),
+        explain: flag_in(matches, "explain"),
+        svg: flag_in(matches, "svg"),
+        coverage: flag_in(matches, "coverage"),
+        complete: flag_in(matches, "complete"),
+        where_file,
+        list_file,
+        files,
+    })
+}
+
 /// What the words ask for. They come without the program's name.
 ///
 /// # Errors
 /// `Parse` where clap refuses the words, or finds a call for help among them. `TooMany` where clap
-/// takes the words, and finds more than 8 files. `NoMemory` where an allocation was refused.
+/// takes the words, and finds more than 8 files. `BesideList` where they name a list of traces, and
+/// a file, a file of texts, an explanation or a picture. `NoMemory` where an allocation was refused.
 pub fn asked(alloc: Global, words: &[&str]) -> Result<Asked, WordsFault>
     ensures answer { AnswersTo (texts words.now) result }
     ensures range { IfOk result IsInRange }
 {
     let matches = matches_in(alloc, words)?;
-    let files = files_in(alloc, &matches)?;
-    let where_file = text_in(alloc, &matches, "where")?;
-    Ok(Asked {
-        workers: workers_in(&matches),
-        slots: slots_in(&matches),
-        model: model_in(&matches),
-        json: flag_in(&matches, "json"),
-        carriers: flag_in(&matches, "carriers"),
-        explain: flag_in(&matches, "explain"),
-        svg: flag_in(&matches, "svg"),
-        coverage: flag_in(&matches, "coverage"),
-        complete: flag_in(&matches, "complete"),
-        where_file,
-        files,
-    })
+    let asked = asked_in(alloc, &matches)?;
+    if asked.list_file.is_some() && is_for_one_trace(&asked) {
+        return Err(WordsFault::BesideList);
+    }
+    Ok(asked)
 }

@@ -52,8 +52,8 @@ fn name_in(alloc: Global, part: &[u8]) -> Result<String, NamesFault>
 /// The names in a line of a list, without its line feed: its parts between tabs, at most 8.
 ///
 /// # Errors
-/// The first part from the left that is no name: `Empty`, or `NotText`; or `TooMany` at the ninth.
-/// `NoMemory` where a name could not be had.
+/// `Empty` or `NotText` where a part is no name, and `TooMany` where there are more than 8. A line
+/// with several of these has one of them. `NoMemory` where a name could not be had.
 pub fn names_in(alloc: Global, line: &[u8]) -> Result<Vec<String>, NamesFault>
     ensures names { IfOk result (λ names. AreNames line.now (map string_bytes names.items)) }
     ensures fault { IfErr result (IsNamesFault line.now) }

@@ -2,7 +2,7 @@
 use Rattle.std.proofs.lemmas.Grind.{common_steps}
 use Rattle.std.proofs.Common.{Global, String, ◌≡◌, ◌≢◌, ◌<◌, ℕ, List, [], ◌∷◌, Option, Ok, length, map}
 use Rattle.std.proofs.Common.{slice_index_or, string_bytes, sym, ◌∙◌, subst, ap, refl, arith, nat_eq, false}
-use Rattle.std.proofs.Common.{suc, option_map, take, ◌+◌, ◌++◌}
+use Rattle.std.proofs.Common.{None, inr, suc, option_map, take, ◌+◌, ◌++◌}
 use Rattle.std.proofs.lemmas.Bool.{false≢true}
 use Rattle.std.proofs.lemmas.List.{length-map, get_or-map, map-append, take_more}
 use Rattle.std.proofs.lemmas.Simd.{map-map}
@@ -14,11 +14,14 @@ use Rattle.rv_run.specs.declared.fault.RunFault.TheVariants as fault
 use Rattle.rv_run.specs.Ranges.{IsOutOfRange}
 use Rattle.rv_run.specs.declared.running.Settings.{Settings}
 use Rattle.rv_cli.specs.Answers.{AnswersTo}
-use Rattle.rv_cli.specs.Asked.{IsInRange}
+use Rattle.rv_cli.specs.Asked.{AreInRange}
 use Rattle.rv_cli.specs.declared.request.Asked.{Asked}
-use Rattle.rvmon.specs.Starting.{IsUnopened, IsUnopenedFile, EndsAsked, EndsBy, IsFormAsked, bytes_asked, streams_asked}
+use Rattle.rvmon.specs.Starting.{IsUnopened, IsUnopenedFile, IsWork, IsWorkBy, EndsAsked, EndsBy, IsFormAsked}
+use Rattle.rvmon.specs.Starting.{IsOfSources, bytes_asked, streams_asked}
 use Rattle.rvmon.specs.declared.ending.Ending.{Ending}
 use Rattle.rvmon.specs.declared.form.Form.{Form}
+use Rattle.rvmon.specs.declared.work.Work.{Work}
+use Rattle.rvmon.specs.declared.work.Work.TheVariants.{Ended, Many}
 use Rattle.rvmon.specs.declared.ending.Ending.TheVariants.{Ran, Failed, Words, NotText, NotOpened}
 
 -- a source for each file; standard input where there is none
@@ -28,7 +31,7 @@ sources_of (x ∷ xs) = suc (length xs)
 
 -- so the numbers of a request are those that a run takes
 pub in_range :
-    (asked : Asked) (sources : ℕ) (settings : Settings) → IsInRange asked → sources ≡ sources_of asked.files.items →
+    (asked : Asked) (sources : ℕ) (settings : Settings) → AreInRange asked → sources ≡ sources_of asked.files.items →
     settings.workers ≡ asked.workers → settings.slots ≡ asked.slots → IsOutOfRange sources settings → ⊥
 in_range asked sources settings r many workers slots out = grind (arith, common_steps)
 
@@ -47,13 +50,28 @@ ends_unopened known asked (NotOpened name) h = h
 
 -- an ending of what was asked is one of the words
 pub ends_asked : (known : Text → Option (List ℕ)) (texts : List Text) (asked : Asked) (e : Ending) →
-    (form : Form) → AnswersTo texts (Ok asked) → IsFormAsked known asked e form → EndsAsked known asked e →
-    EndsBy known texts e form
-ends_asked known texts asked (Ran j) form said is h = (asked, said, is, h)
-ends_asked known texts asked (Failed f) form said is h = (asked, said, is, h)
-ends_asked known texts asked (Words f) form said is h = absurd h
-ends_asked known texts asked NotText form said is h = absurd h
-ends_asked known texts asked (NotOpened name) form said is h = (asked, said, is, h)
+    (form : Form) → AnswersTo texts (Ok asked) → asked.list_file ≡ None → IsFormAsked known asked e form →
+    EndsAsked known asked e → EndsBy known texts e form
+ends_asked known texts asked (Ran j) form said alone is h = (asked, said, alone, is, h)
+ends_asked known texts asked (Failed f) form said alone is h = (asked, said, alone, is, h)
+ends_asked known texts asked (Words f) form said alone is h = absurd h
+ends_asked known texts asked NotText form said alone is h = absurd h
+ends_asked known texts asked (NotOpened name) form said alone is h = (asked, said, alone, is, h)
+
+-- what words have the program do, it does
+pub work_is : (known : Text → Option (List ℕ)) (texts : List Text) (w : Work) → IsWorkBy known texts w →
+    IsWork known w
+work_is known texts (Ended e form) h = inr (texts, h)
+work_is known texts (Many asked) h = (h.0, (texts, h.1))
+
+-- the ending of a request is one of sources
+pub of_sources : (known : Text → Option (List ℕ)) (asked : Asked) (e : Ending) → EndsAsked known asked e →
+    IsOfSources e
+of_sources known asked (Ran j) h = tt
+of_sources known asked (Failed f) h = tt
+of_sources known asked (Words f) h = absurd h
+of_sources known asked NotText h = absurd h
+of_sources known asked (NotOpened name) h = tt
 
 -- a file that does not open is one of the files
 pub unopened_among : (names : List (String Global)) (k : ℕ) (name : String Global) → k < length names →

@@ -124,6 +124,7 @@ IsSettled (Failed fault.NoMemory) form old new status = (status ≡ 3) × (new �
 IsSettled (Failed fault.Lost) form old new status = (status ≡ 3) × (new ≡ old)
 IsSettled (Failed fault.Settings) form old new status = (status ≡ 3) × (new ≡ old)
 IsSettled (Words words.TooMany) form old new status = (status ≡ 2) × (new ≡ old)
+IsSettled (Words words.BesideList) form old new status = (status ≡ 2) × (new ≡ old)
 IsSettled (Words words.NoMemory) form old new status = (status ≡ 3) × (new ≡ old)
 IsSettled (Words (words.Parse e)) form old new status =
     ((status ≡ 2) × (new ≡ old)) ⊎ ((status ≡ 0) ⊎ (status ≡ 3))

@@ -1,3 +1,4 @@
 pub mod Backings
 pub mod Endings
+pub mod Listing
 pub mod Starting

@@ -11,6 +11,7 @@ use Rattle.rv_run.specs.Sources.{AreCovered, IsTrueOf, IsFaultAmong}
 use Rattle.rv_run.specs.declared.judging.Judged.{Judged}
 use Rattle.rv_run.specs.declared.fault.RunFault.TheVariants as fault
 use Rattle.rv_cli.specs.Answers.{AnswersTo}
+use Rattle.rv_cli.specs.Asked.{IsInRange}
 use Rattle.rv_cli.specs.declared.request.Asked.{Asked}
 use Rattle.rv_cli.specs.declared.request.WordsFault.TheVariants as words
 use Rattle.rv_coverage_report.specs.declared.text.Extent.{Extent}
@@ -20,6 +21,8 @@ use Rattle.rvmon.specs.declared.ending.Ending.{Ending}
 use Rattle.rvmon.specs.declared.ending.Ending.TheVariants.{Ran, Failed, Words, NotText, NotOpened}
 use Rattle.rvmon.specs.declared.form.Form.{Form}
 use Rattle.rvmon.specs.declared.form.Form.TheVariants as form
+use Rattle.rvmon.specs.declared.work.Work.{Work}
+use Rattle.rvmon.specs.declared.work.Work.TheVariants.{Ended, Many}
 
 -- the words cannot be had: they are not UTF-8, or memory was refused
 abbrev pub IsWordless : Ending → Type 0
@@ -79,6 +82,14 @@ EndsAsked known asked (Words f) = ⊥
 EndsAsked known asked NotText = ⊥
 EndsAsked known asked (NotOpened name) = Contains (map string_bytes asked.files.items) (string_bytes name)
 
+-- an ending of sources: of neither words nor a program
+abbrev pub IsOfSources : Ending → Type 0
+IsOfSources (Ran j) = ⊤
+IsOfSources (Failed f) = ⊤
+IsOfSources (Words f) = ⊥
+IsOfSources NotText = ⊥
+IsOfSources (NotOpened name) = ⊤
+
 -- all is told that was counted where that is asked for
 abbrev pub extent_asked : Asked → Extent
 extent_asked asked = if asked.coverage then All else Met
@@ -101,7 +112,8 @@ IsFormAsked known asked e (form.Explained b extent) =
 -- the request of these words ends so, and is printed in this form
 abbrev pub EndsRequest : (Text → Option (List ℕ)) → List Text → Ending → Form → Type 0
 EndsRequest known texts e form =
-    (asked : Asked) × AnswersTo texts (Ok asked) × IsFormAsked known asked e form × EndsAsked known asked e
+    (asked : Asked) × AnswersTo texts (Ok asked) × (asked.list_file ≡ None) × IsFormAsked known asked e form
+    × EndsAsked known asked e
 
 -- the ending of a command line: the words are refused, or their request ends so
 abbrev pub EndsBy : (Text → Option (List ℕ)) → List Text → Ending → Form → Type 0
@@ -114,3 +126,17 @@ EndsBy known texts (NotOpened name) form = EndsRequest known texts (NotOpened na
 -- the ending of the program: its words cannot be had, or these end so
 abbrev pub IsEnd : (Text → Option (List ℕ)) → Ending → Form → Type 0
 IsEnd known e form = IsWordless e ⊎ ((texts : List Text) × EndsBy known texts e form)
+
+-- a request for a list of traces
+abbrev pub IsForList : Asked → Type 0
+IsForList asked = IsInRange asked × IsSome asked.list_file
+
+-- what these words have the program do: it ends so, or judges the traces of a list
+abbrev pub IsWorkBy : (Text → Option (List ℕ)) → List Text → Work → Type 0
+IsWorkBy known texts (Ended e form) = EndsBy known texts e form
+IsWorkBy known texts (Many asked) = IsForList asked × AnswersTo texts (Ok asked)
+
+-- what the program does
+abbrev pub IsWork : (Text → Option (List ℕ)) → Work → Type 0
+IsWork known (Ended e form) = IsEnd known e form
+IsWork known (Many asked) = IsForList asked × ((texts : List Text) × AnswersTo texts (Ok asked))

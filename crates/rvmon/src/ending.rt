@@ -1,9 +1,12 @@
 //! How the program ends: what it prints, and with which status.
-ghost use Rattle.std.specs.Prelude.{◌≡◌, ◌⊎◌, IfOk, OnOk, option_map, string_bytes};
+ghost use Rattle.std.specs.Prelude.{◌≡◌, ◌⊎◌, false, IfOk, OnOk, option_map, string_bytes};
 ghost use Rattle.std.specs.Io.KnownBytes.{Appends};
+ghost use Rattle.serde_json.specs.View.{view};
+ghost use Rattle.serde_json.specs.Written.{has_float};
 ghost use Rattle.rv_event.specs.Texts.{◌⋯◌};
 ghost use Rattle.rv_report.specs.Texts.{line_feed, report_text};
 ghost use Rattle.rv_explain.specs.RowTexts.{said_by};
+ghost use Rattle.rv_coverage_report.specs.JsonData.{told_data};
 ghost use Rattle.rv_coverage_report.specs.declared.text.Extent.TheVariants as extent;
 ghost use Rattle.rv_run.specs.Completeness.{missing_text};
 ghost use Rattle.rvmon.specs.Endings.{IsJsonExplained, IsPrinted, IsPrintedBehind, IsPrintedPicture, IsSettled};
@@ -14,7 +17,7 @@ use crate::backing::{Backing, Silence};
 use crate::form::Form;
 use clap::Error as ParseError;
 use rv_cli::WordsFault;
-use rv_coverage_report::{Extent, coverage_text, told_json_line};
+use rv_coverage_report::{Extent, coverage_text, told_json, told_json_line};
 use rv_event::NoMemory;
 use rv_explain::{Sources, story};
 use rv_explain_json::explained_json_line;
@@ -22,6 +25,7 @@ use rv_picture::picture;
 use rv_report::{Outcome, ReportFault, report, write_text};
 use rv_run::{Judged, RunFault};
 use rv_trace::{FaultKind, FaultyField, TraceFault};
+use serde_json::Value;
 use std::alloc::Global;
 use std::io::Write;
 
@@ -41,18 +45,18 @@ pub enum Ending {
 }
 
 /// The statuses with which the program ends.
-const ALLOWED: u8 = 0;
+pub const ALLOWED: u8 = 0;
 
-const FORBIDDEN: u8 = 1;
+pub const FORBIDDEN: u8 = 1;
 
 /// A malformed execution, a fault in the text of a source, or wrong words.
-const WRONG_INPUT: u8 = 2;
+pub const WRONG_INPUT: u8 = 2;
 
 /// Reading, writing or memory failed.
-const FAILED: u8 = 3;
+pub const FAILED: u8 = 3;
 
 /// Allowed, but the run lacks something that was to be complete.
-const INCOMPLETE: u8 = 4;
+pub const INCOMPLETE: u8 = 4;
 
 /// Writes the report or the help to `out`, or a line on what went wrong to `errors`, and gives the
 /// exit status.
@@ -76,6 +80,10 @@ pub fn settle<O: Write, E: Write>(
         Ending::Words(WordsFault::Parse(error)) => settle_parse(out, errors, error),
         Ending::Words(WordsFault::TooMany) => {
             let _ = writeln!(errors, "rvmon: at most 8 sources");
+            WRONG_INPUT
+        }
+        Ending::Words(WordsFault::BesideList) => {
+            let _ = writeln!(errors, "rvmon: {}", WordsFault::BesideList);
             WRONG_INPUT
         }
         Ending::NotText => {
@@ -255,6 +263,19 @@ fn lack_of(alloc: Global, judged: &Judged) -> Result<Option<String>, NoMemory>
     }
 }
 
+/// The report as JSON, with what is told beside.
+pub fn told_value(alloc: Global, judged: &Judged) -> Result<Value, NoMemory>
+    ensures data { IfOk result (λ v. view v ≡ told_data judged.now.outcome judged.now.coverage
+        (option_map missing_text judged.now.missing)) }
+    ensures no_float { IfOk result (λ v. has_float (view v) ≡ false) }
+{
+    let coverage = judged.coverage.as_ref();
+    match lack_of(alloc, judged)? {
+        Some(lack) => told_json(alloc, &judged.outcome, coverage, Some(lack.as_str())),
+        None => told_json(alloc, &judged.outcome, coverage, None),
+    }
+}
+
 /// Writes the report as a line of JSON, with what is told beside.
 fn write_json<O: Write>(alloc: Global, out: &mut O, judged: &Judged) -> Result<(), ReportFault>
     ensures { OnOk result (Appends (O.contents out.old) (O.contents out.new) (json_of judged.now ⋯ line_feed)) }
@@ -348,7 +369,7 @@ fn settle_judged<O: Write, E: Write>(
 }
 
 /// The status of what a run came to.
-fn status_of(judged: &Judged) -> u8
+pub fn status_of(judged: &Judged) -> u8
     ensures { result ≡ status_of judged.now.outcome judged.now.missing }
 {
     match &judged.outcome {
@@ -409,6 +430,16 @@ fn tell_field<E: Write>(errors: &mut E, field: &FaultyField) {
     }
 }
 
+/// The status of a source's fault.
+pub fn status_of_kind(kind: FaultKind) -> u8
+    ensures { result ≡ status_of_kind kind }
+{
+    match kind {
+        FaultKind::Read | FaultKind::NoMemory => FAILED,
+        _ => WRONG_INPUT,
+    }
+}
+
 /// Writes the line of a source's fault, and a second one in words where an explanation is asked
 /// for.
 fn settle_trace<E: Write>(errors: &mut E, form: &Form, source: u8, fault: TraceFault) -> u8
@@ -429,8 +460,5 @@ fn settle_trace<E: Write>(errors: &mut E, form: &Form, source: u8, fault: TraceF
         }
         let _ = writeln!(errors);
     }
-    match fault.kind {
-        FaultKind::Read | FaultKind::NoMemory => FAILED,
-        _ => WRONG_INPUT,
-    }
+    status_of_kind(kind)
 }

@@ -6,6 +6,7 @@ use crate::answer_words;
 use crate::ending::Ending;
 use crate::opening::{Opener, Unopened};
 use crate::tests::assert_printed;
+use crate::work::Work;
 use rv_report::Outcome;
 use rv_run::Judged;
 use std::alloc::Global;
@@ -81,7 +82,9 @@ fn a_request_is_judged_by_the_files_that_it_names(rt: HostRuntime) -> Result<(),
     ];
     for (words, text, line, status) in cases {
         let opener = MemoryFiles { files: &files };
-        let (ending, form) = answer_words(&rt, &rt, &opener, words.as_slice());
+        let Work::Ended(ending, form) = answer_words(&rt, &rt, &opener, words.as_slice()) else {
+            panic!(rt; "a list");
+        };
         assert_printed(&rt, rt.alloc(), &ending, &form, (text, line, status));
     }
     Ok(())
@@ -91,7 +94,9 @@ fn a_request_is_judged_by_the_files_that_it_names(rt: HostRuntime) -> Result<(),
 fn two_files_are_judged_together(rt: HostRuntime) -> Result<(), Fail> {
     let files = files_of(rt.alloc())?;
     let opener = MemoryFiles { files: &files };
-    let (ending, _) = answer_words(&rt, &rt, &opener, &["one.csv", "other.csv"]);
+    let Work::Ended(ending, _) = answer_words(&rt, &rt, &opener, &["one.csv", "other.csv"]) else {
+        panic!(rt; "a list");
+    };
     assert!(rt;
         matches!(
             &ending,

@@ -13,6 +13,7 @@ returns c =
     let coverage = c.coverage_arg.ensures in
     let complete = c.complete_arg.ensures in
     let places = c.where_arg.ensures in
+    let list = c.list_arg.ensures in
     let files = c.files_arg.ensures in
     let one = c.in_ok-arg.ensures.shape workers.local ∙ ap₂ with_rule c.bare_command.ensures workers.rule in
     let two = c.in_ok-arg-2.ensures.shape slots.local ∙ ap₂ with_rule one slots.rule in
@@ -24,8 +25,9 @@ returns c =
     let eight = c.in_ok-arg-8.ensures.shape coverage.local ∙ ap₂ with_rule seven coverage.rule in
     let nine = c.in_ok-arg-9.ensures.shape complete.local ∙ ap₂ with_rule eight complete.rule in
     let ten = c.in_ok-arg-10.ensures.shape places.local ∙ ap₂ with_rule nine places.rule in
-    IfOk-weaker c.arg-11.result _ _ (λ r added. (
+    let eleven = c.in_ok-arg-11.ensures.shape list.local ∙ ap₂ with_rule ten list.rule in
+    IfOk-weaker c.arg-12.result _ _ (λ r added. (
       model.rule.0,
       model.rule.1,
-      added.shape files.local ∙ ap₂ with_rule ten files.rule,
-    )) c.arg-11.ensures
+      added.shape files.local ∙ ap₂ with_rule eleven files.rule,
+    )) c.arg-12.ensures

@@ -1,23 +1,21 @@
-use Rattle.rv_cli.proofs.Common.{arith, common_steps, List, subst, Row, rows_of, SaysAsked, Asked}
+use Rattle.rv_cli.proofs.Common.{List, rules, subst, Row, rows_of, SaysAsked}
+use Rattle.std.specs.Prelude.{IsSome}
 use Rattle.clap.specs.Words.{found_of}
+use Rattle.rv_cli.specs.Answers.{IsBesideList}
 use Rattle.rv_cli.proofs.words.asked.Goals as goal
+
+pub returns-then-is_for_one_trace-clause-answer : goal.returns-then-is_for_one_trace-clause-answer
+returns-then-is_for_one_trace-clause-answer c =
+    let parsed = c.in_ok-matches.ensures in
+    let named : IsSome c.in_ok-asked.asked.list_file = search rules in
+    let beside : IsBesideList (rows_of (found_of c.in_ok-matches.matches)) =
+    (c.in_ok-asked.asked, c.in_ok-asked.ensures.said, named,
+    c.is_for_one_trace.ensures.yes c.if-is_for_one_trace.true) in
+    (parsed.0, parsed.1, (parsed.2.0, subst IsBesideList parsed.2.1 beside))
 
 pub returns-clause-answer : goal.returns-clause-answer
 returns-clause-answer c =
     let parsed = c.in_ok-matches.ensures in
-    let asked : Asked = record {
-      workers = c.workers_in.result;
-      slots = c.slots_in.result;
-      model = c.model_in.result;
-      json = c.flag_in.result;
-      carriers = c.flag_in-2.result;
-      explain = c.flag_in-3.result;
-      svg = c.flag_in-4.result;
-      coverage = c.flag_in-5.result;
-      complete = c.flag_in-6.result;
-      where_file = c.in_ok-where_file.where_file;
-      files = c.in_ok-files.files;
-    } in
-    let says : SaysAsked (rows_of (found_of c.in_ok-matches.matches)) asked =
-    grind (arith, common_steps) in
-    (parsed.0, parsed.1, (parsed.2.0, subst (λ (rows : List Row). SaysAsked rows asked) parsed.2.1 says))
+    let asked = c.in_ok-asked.asked in
+    (parsed.0, parsed.1, (parsed.2.0, subst (λ (rows : List Row). SaysAsked rows asked) parsed.2.1
+    c.in_ok-asked.ensures.said))
