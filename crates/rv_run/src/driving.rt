@@ -1,4 +1,4 @@
-//! A thread for each source and for each worker.
+//! A thread for each source and for each worker; the last worker is the thread that calls.
 ghost use Rattle.std.specs.Prelude.{◌≡◌, ℕ, ◌<◌, ◌≤◌, ◌+◌, IfOk, OnOk, All, vec_len, slice_index_or, option_map};
 ghost use Rattle.rv_trace.specs.Source.{bytes_say};
 ghost use Rattle.rv_trace.specs.Dialects.{plain};
@@ -187,6 +187,8 @@ impl<'s, RT: Threads + Wait + Sync, C: Carrier + Sync + 's, G: Gate + Sync + 's>
         ensures each { IfOk result (λ v. (i : ℕ) (h : _) → i < workers
             → ((slice_index_or v.items i h).promise.0.value ≡ self.now.carrier.now)
             × ((slice_index_or v.items i h).promise.1.value ≡ self.now.cell.now)) }
+        ensures seats { OnOk result (vec_len seats.new + workers ≡ vec_len seats.old) }
+        ensures fits { All (λ s. C.fits self.now.carrier.now s) seats.new.items }
     {
         let mut children = Vec::new(self.alloc);
         for _worker in 0..workers {
@@ -197,7 +199,25 @@ impl<'s, RT: Threads + Wait + Sync, C: Carrier + Sync + 's, G: Gate + Sync + 's>
         Ok(children)
     }
 
-    /// Starts all threads and joins them.
+    /// Serves as a worker in the thread that calls.
+    fn serve_here(&self, seat: C::Seat) -> Served<C::Seat>
+        requires { C.fits self.now.carrier.now seat }
+        ensures seat { C.fits self.now.carrier.now result.seat }
+        ensures note { result.note.cell ≡ self.now.cell.now }
+    {
+        let note = self.cell.note();
+        serve(
+            self.rt,
+            self.alloc,
+            self.carrier,
+            seat,
+            self.gate,
+            self.cell,
+            note,
+        )
+    }
+
+    /// Starts all threads but for the last worker, which this thread is, and joins them.
     fn start_and_join<E, R: Read + Send + Drop + 's>(
         &self,
         scope: &Scope<'s, E>,
@@ -206,6 +226,7 @@ impl<'s, RT: Threads + Wait + Sync, C: Carrier + Sync + 's, G: Gate + Sync + 's>
         mut seats: Vec<C::Seat>,
     ) -> Result<Driven<C::Seat>, AllocError>
         requires sources { vec_len readers ≤ 8 }
+        requires workers { 0 < workers }
         requires seats { vec_len readers + workers ≤ vec_len seats }
         requires fits { All (λ s. C.fits self.now.carrier.now s) seats.items }
         ensures fed { IfOk result
@@ -214,9 +235,12 @@ impl<'s, RT: Threads + Wait + Sync, C: Carrier + Sync + 's, G: Gate + Sync + 's>
             (λ d. AreServed (C.fits self.now.carrier.now) self.now.cell.now workers d.served.items) }
     {
         let feeders = self.start_feeders(scope, readers, &mut seats)?;
-        let servers = self.start_workers(scope, workers, &mut seats)?;
+        let servers = self.start_workers(scope, workers - 1, &mut seats)?;
+        let seat = take_seat(self.carrier, &mut seats);
+        let last = self.serve_here(seat);
         let fed = thread::join_promised(self.rt, feeders)?;
-        let served = thread::join_promised(self.rt, servers)?;
+        let mut served = thread::join_promised(self.rt, servers)?;
+        served.push(last)?;
         Ok(Driven { fed, served })
     }
 
@@ -230,6 +254,7 @@ impl<'s, RT: Threads + Wait + Sync, C: Carrier + Sync + 's, G: Gate + Sync + 's>
         seats: Vec<C::Seat>,
     ) -> Result<Driven<C::Seat>, AllocError>
         requires sources { vec_len readers ≤ 8 }
+        requires workers { 0 < workers }
         requires seats { vec_len readers + workers ≤ vec_len seats }
         requires fits { All (λ s. C.fits self.now.carrier.now s) seats.items }
         ensures fed { IfOk result
@@ -313,6 +338,7 @@ pub(crate) fn drive_shared<
         rt,
         move |scope| -> Result<Driven<C::Seat>, AllocError>
             requires sources { vec_len readers ≤ 8 }
+            requires workers { 0 < workers }
             requires seats { vec_len readers + workers ≤ vec_len seats }
             requires fits { All (λ s. C.fits carrier.now s) seats.items }
             ensures fed { IfOk result

@@ -1,6 +1,6 @@
 -- What is told of the traces of a list: a line of JSON for each, one after another.
 use Rattle.std.specs.Prelude.{◌≡◌, ◌⊎◌, ◌==◌, ◌&&◌, ℕ, Bool, false, List, [], Option, None, Some, All, codes}
-use Rattle.std.specs.Prelude.{IfSome, String, bytes_eq, if◌then◌else◌, length, map, nat_lt, option_map, string_bytes, ⊤}
+use Rattle.std.specs.Prelude.{IfSome, String, bytes_eq, if◌then◌else◌, length, map, nat_lt, option_map, string_bytes}
 use Rattle.std.specs.Global.{Global}
 use Rattle.std.specs.Io.KnownBytes.{Appends}
 use Rattle.std.specs.List.{concat, fold}

@@ -30,6 +30,13 @@ impl<'a> Opener for MemoryFiles<'a> {
             None => Err(Unopened),
         }
     }
+
+    fn size(&self, name: &String) -> u64 {
+        match self.files.get(name.as_str()) {
+            Some(file) => file.len() as u64,
+            None => 0,
+        }
+    }
 }
 
 /// The files of the tests: a name, and the bytes.

@@ -25,8 +25,8 @@ Usage: rvrows [WORD..] [LOG..]
   --range LO-HI     leaves out accesses below LO, and from HI on; both are hexadecimal
                     and multiples of 8
   --where FILE      rvrows: writes where each row comes from, as source,row,text
-  --end             rvrows: writes the record end,N behind the N rows of a whole log, for
-                    rvmon --complete
+  --end             rvrows: --complete, and the record end,N is written behind the N rows,
+                    for rvmon --complete
   --model rvwmo|tso rvmon: the memory model; rvwmo where it is not said
   --explain         rvmon: says behind the report why a row was refused, or what an
                     allowed log has exercised
@@ -229,7 +229,11 @@ impl Words {
             "--zero" => self.request.zero = true,
             "--complete" => self.request.complete = true,
             "--pending" => self.request.pending = true,
-            "--end" => self.ends = true,
+            "--end" => {
+                // The record says that the rows are those of a whole log.
+                self.ends = true;
+                self.request.complete = true;
+            }
             "--log" => self.judges = true,
             "--svg" => self.telling.form = Form::Picture,
             "--coverage" => self.telling.coverage = true,

@@ -1,4 +1,3 @@
-use Rattle.clap.specs.Walk.{texts}
 use Rattle.rvmon.specs.Starting.{nothing_known}
 use Rattle.rvmon.proofs.Ends.{work_is}
 use Rattle.rvmon.proofs.work_of.Goals as goal

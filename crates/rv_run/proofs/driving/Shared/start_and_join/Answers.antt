@@ -1,4 +1,4 @@
-use Rattle.rv_run.proofs.Common.{get_or, option_map, arith, ap, ◌∙◌, subst, bytes_say, IsFedOf}
+use Rattle.rv_run.proofs.Common.{◌≡◌, ◌+◌, vec_len, get_or, option_map, arith, ap, ◌∙◌, below_more, rules, subst, sym, bytes_say, IsFedOf}
 use Rattle.rv_run.proofs.driving.Shared.start_and_join.Goals as goal
 
 -- What a joined thread gave keeps the promise of its handle, which was made of its reader, or of
@@ -19,13 +19,32 @@ returns-clause-fed g c = (
 )
 
 pub returns-clause-served : goal.returns-clause-served
-returns-clause-served g c = (
-  omega (arith, c.in_ok-served.ensures.len, c.in_ok-servers.ensures.len, c.in_ok-served.served.ok.0),
-  λ i s below.
-      let one = (c.in_ok-served.ensures.each i s (omega (arith, below, c.in_ok-servers.ensures.len))).1 in
-      let is = c.in_ok-servers.ensures.each i one.handle below in (
-        subst (λ x. g.C.Carrier.fits x (get_or c.in_ok-served.served.items i s).seat)
-            (ap (λ h. h.promise.0.value) one.handle_is ∙ is.0) one.kept.0,
-        one.kept.1 ∙ (ap (λ h. h.promise.1.value) one.handle_is ∙ is.1),
-      ),
-)
+returns-clause-served g c =
+    let carrier = c.args.self.now.carrier.now in
+    let cell = c.args.self.now.cell.now in
+    let all = c.push.new.self.items in
+    let before = c.in_ok-served.served.items in
+    let done = vec_len c.in_ok-served.served in
+    let places = c.push.ensures.by_index in
+    let grown : vec_len c.push.new.self ≡ done + 1 = search rules in
+    let some = c.requires.workers in
+    let joined : done + 1 ≡ c.args.workers =
+    omega (arith, some, c.in_ok-served.ensures.len, c.in_ok-servers.ensures.len) in (
+      omega (arith, grown, joined, c.push.new.self.ok.0),
+      λ i s below. below_more (λ k. g.C.Carrier.fits carrier (get_or all k s).seat × ((get_or all k s).note.cell ≡ cell))
+          done
+          (λ k low.
+              let same = places.0 k s low in
+              let one = (c.in_ok-served.ensures.each k s (omega (arith, low, c.in_ok-served.ensures.len))).1 in
+              let is = c.in_ok-servers.ensures.each k one.handle (omega (arith, low, joined, some)) in (
+                subst (λ x. g.C.Carrier.fits carrier x.seat) (sym same)
+                    (subst (λ x. g.C.Carrier.fits x (get_or before k s).seat)
+                    (ap (λ h. h.promise.0.value) one.handle_is ∙ is.0) one.kept.0),
+                ap (λ x. x.note.cell) same ∙ one.kept.1 ∙ (ap (λ h. h.promise.1.value) one.handle_is ∙ is.1),
+              ))
+          (let same = places.1 s (search rules) in (
+            subst (λ x. g.C.Carrier.fits carrier x.seat) (sym same) c.serve_here-last.ensures.seat,
+            ap (λ x. x.note.cell) same ∙ c.serve_here-last.ensures.note,
+          ))
+          i (omega (arith, below, joined)),
+    )
