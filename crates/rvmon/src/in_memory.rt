@@ -4,6 +4,7 @@ ghost use Rattle.std.specs.HashMap.{get_by_text};
 
 use crate::answer_words;
 use crate::ending::Ending;
+use crate::listing::Judge;
 use crate::opening::{Opener, Unopened};
 use crate::tests::assert_printed;
 use crate::work::Work;
@@ -11,7 +12,10 @@ use rv_report::Outcome;
 use rv_run::Judged;
 use std::alloc::Global;
 use std::collections::HashMap;
+use std::process::Abort;
+use std::sync::Wait;
 use std::test::Fail;
+use std::thread::Threads;
 
 /// Files in memory, by their names.
 #[derive(Drop)]
@@ -113,5 +117,59 @@ fn two_files_are_judged_together(rt: HostRuntime) -> Result<(), Fail> {
             })
         )
     );
+    Ok(())
+}
+
+/// What is told of the traces of this list, the errors, and the status.
+fn list_told<RT: Threads + Wait + Sync + Copy + Send + Abort + 'static>(
+    rt: &HostRuntime,
+    threads: &RT,
+    list: &str,
+    word: &str,
+) -> Result<(Vec<u8>, Vec<u8>, u8), Fail> {
+    let mut files = files_of(rt.alloc())?;
+    let bytes = list.as_bytes().to_vec(rt.alloc())?;
+    files.insert(String::from_str(rt.alloc(), "list")?, bytes)?;
+    let opener = MemoryFiles { files: &files };
+    let Work::Many(asked) = answer_words(rt, threads, &opener, &["--list", "list", word]) else {
+        panic!(threads; "no list");
+    };
+    let judge = Judge {
+        rt: *rt,
+        threads,
+        opener: &opener,
+        asked: &asked,
+    };
+    let (mut out, mut errors) = (Vec::new(rt.alloc()), Vec::new(rt.alloc()));
+    let status = judge.judge_list(&mut out, &mut errors, false);
+    Ok((out, errors, status))
+}
+
+#[test]
+fn each_line_of_a_list_is_told(rt: HostRuntime) -> Result<(), Fail> {
+    let list = "one.csv\tunfenced.csv\r\n\nheadless.csv\nnone.csv\nstale.csv";
+    let told = "{\"report\":{\"events\":5,\"operations\":4,\"outcome\":\"allowed\",\"waiting\":0},\
+                \"status\":0,\"trace\":[\"one.csv\",\"unfenced.csv\"]}\n\
+                {\"fault\":{\"text\":\"line 2: a name is empty\"},\"status\":2,\"trace\":[]}\n\
+                {\"fault\":{\"fault\":1,\"row\":0,\"source\":0,\
+                \"text\":\"the header is not hart,seq,op,word,read,wrote,ann,deps\"},\
+                \"status\":2,\"trace\":[\"headless.csv\"]}\n\
+                {\"fault\":{\"text\":\"cannot open none.csv\"},\"status\":3,\"trace\":[\"none.csv\"]}\n\
+                {\"report\":{\"after\":1,\"certificate\":{\"stale\":{\"load\":\"h0:1\",\"store\":\"h0:0\"}},\
+                \"event\":\"h0:1\",\"outcome\":\"forbidden\"},\"status\":1,\"trace\":[\"stale.csv\"]}\n";
+    let (out, errors, status) = list_told(&rt, &rt, list, "--json")?;
+    assert!(rt; out.as_slice() == told.as_bytes(), "what is told");
+    assert!(rt; errors.is_empty());
+    assert_eq!(rt; status, 3);
+    Ok(())
+}
+
+#[test]
+fn a_list_without_a_trace_is_not_complete(rt: HostRuntime) -> Result<(), Fail> {
+    let (out, errors, status) = list_told(&rt, &rt, "", "--complete")?;
+    assert!(rt; out.is_empty() && errors.as_slice() == b"rvmon: incomplete: no traces\n".as_slice());
+    assert_eq!(rt; status, 4);
+    let (_, _, status) = list_told(&rt, &rt, "", "--json")?;
+    assert_eq!(rt; status, 0);
     Ok(())
 }
