@@ -1,4 +1,5 @@
-use Rattle.rv_run.proofs.Common.{◌≡◌, ◌+◌, vec_len, get_or, option_map, arith, ap, ◌∙◌, below_more, rules, subst, sym, bytes_say, IsFedOf}
+use Rattle.rv_run.proofs.Common.{◌≡◌, ◌+◌, vec_len, get_or, option_map, arith, ap, ◌∙◌, below_more, rules, subst, sym}
+use Rattle.rv_run.proofs.Common.{bytes_say, IsFedOf}
 use Rattle.rv_run.proofs.driving.Shared.start_and_join.Goals as goal
 
 -- What a joined thread gave keeps the promise of its handle, which was made of its reader, or of
@@ -31,8 +32,8 @@ returns-clause-served g c =
     let joined : done + 1 ≡ c.args.workers =
     omega (arith, some, c.in_ok-served.ensures.len, c.in_ok-servers.ensures.len) in (
       omega (arith, grown, joined, c.push.new.self.ok.0),
-      λ i s below. below_more (λ k. g.C.Carrier.fits carrier (get_or all k s).seat × ((get_or all k s).note.cell ≡ cell))
-          done
+      λ i s below. below_more
+          (λ k. g.C.Carrier.fits carrier (get_or all k s).seat × ((get_or all k s).note.cell ≡ cell)) done
           (λ k low.
               let same = places.0 k s low in
               let one = (c.in_ok-served.ensures.each k s (omega (arith, low, c.in_ok-served.ensures.len))).1 in

@@ -16,8 +16,9 @@ lines-preserved g c =
     let known = g.O.Opener.known c.args.self.now.opener.now in
     let asked = c.args.self.now.asked.now in
     let status = c.in_ok-status.status in
-    let written = subst (λ (line : List ℕ). Writes (g.W.Write.contents c.lines.out) (g.W.Write.contents c.tell_line.new.out)
-    (λ text. IsLineTold known asked line text status)) c.as_slice.ensures.value c.in_ok-status.ensures in
+    let written = subst (λ (line : List ℕ). Writes (g.W.Write.contents c.lines.out)
+    (g.W.Write.contents c.tell_line.new.out) (λ text. IsLineTold known asked line text status))
+    c.as_slice.ensures.value c.in_ok-status.ensures in
     subst (λ (n : ℕ). IsBefore known asked (g.R.Read.remaining c.args.reader.now) (g.W.Write.contents c.args.out.now)
     (g.R.Read.remaining c.next_line.new.reader) (g.W.Write.contents c.flush.new.self) (c.lines.number + 1) n)
     (sym c.graver-gravest.ensures)
