@@ -60,6 +60,25 @@ fn every_option_is_read(rt: HostRuntime) -> Result<(), Fail> {
 }
 
 #[test]
+fn a_list_has_the_settings_of_each_trace(rt: HostRuntime) -> Result<(), Fail> {
+    let asked = asked(rt.alloc(), &["--list", "-", "--coverage"])?;
+    let Some(name) = &asked.list_file else {
+        return Err("no list")?;
+    };
+    assert_eq!(rt; name.as_str(), "-");
+    assert!(rt; asked.coverage && asked.files.is_empty());
+    Ok(())
+}
+
+#[test]
+fn what_is_told_of_one_trace_stands_beside_no_list(rt: HostRuntime) {
+    for word in ["a.csv", "--explain", "--svg", "--where=rows.csv"] {
+        let result = asked(rt.alloc(), &["--list=l", word]);
+        assert!(rt; matches!(result, Err(WordsFault::BesideList)));
+    }
+}
+
+#[test]
 fn options_stand_before_several_files(rt: HostRuntime) -> Result<(), Fail> {
     let words = ["--slots", "2", "--json", "a", "b"];
     let asked = asked(rt.alloc(), words.as_slice())?;

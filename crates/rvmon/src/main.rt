@@ -143,8 +143,9 @@ fn main(rt: HostRuntime) -> ExitCode {
                 opener: &SystemFiles::new(rt),
                 asked: &asked,
             };
-            let is_terminal = errors.is_terminal();
-            judge.judge_list(&mut out, &mut errors, is_terminal)
+            // Where the lines stand in the terminal too, they tell how far it is.
+            let is_told = errors.is_terminal() && !rt.stdout().is_terminal();
+            judge.judge_list(&mut out, &mut errors, is_told)
         }
     };
     ExitCode::from(status)
