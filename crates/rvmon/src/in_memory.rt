@@ -167,7 +167,9 @@ fn each_line_of_a_list_is_told(rt: HostRuntime) -> Result<(), Fail> {
 #[test]
 fn a_list_without_a_trace_is_not_complete(rt: HostRuntime) -> Result<(), Fail> {
     let (out, errors, status) = list_told(&rt, &rt, "", "--complete")?;
-    assert!(rt; out.is_empty() && errors.as_slice() == b"rvmon: incomplete: no traces\n".as_slice());
+    assert!(rt;
+        out.is_empty() && errors.as_slice() == b"rvmon: incomplete: no traces\n".as_slice()
+    );
     assert_eq!(rt; status, 4);
     let (_, _, status) = list_told(&rt, &rt, "", "--json")?;
     assert_eq!(rt; status, 0);

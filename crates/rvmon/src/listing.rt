@@ -10,8 +10,10 @@ ghost use Rattle.rvmon.specs.Starting.{IsForList, IsOfSources};
 ghost use Rattle.rvmon.specs.declared.listing.ListFault.TheVariants as list_fault;
 
 use crate::answer;
-use crate::ending::{ALLOWED, Ending, FAILED, FORBIDDEN, INCOMPLETE, WRONG_INPUT};
-use crate::ending::{status_of, status_of_kind, told_value};
+use crate::ending::{
+    ALLOWED, Ending, FAILED, FORBIDDEN, INCOMPLETE, WRONG_INPUT, status_of, status_of_kind,
+    told_value,
+};
 use crate::opening::{Opener, Unopened};
 use crate::progress::Progress;
 use either::Either;
@@ -272,20 +274,11 @@ impl<'a, RT: Threads + Wait + Sync + Copy + Send + 'static, O: Opener> Judge<'a,
         for name in files {
             bytes = bytes.saturating_add(self.opener.size(name));
         }
-        if bytes < SMALL {
-            1
-        } else {
-            self.asked.workers
-        }
+        if bytes < SMALL { 1 } else { self.asked.workers }
     }
 
     /// Judges the trace that a line names, and writes its line.
-    fn tell_line<W: Write>(
-        &self,
-        out: &mut W,
-        line: &[u8],
-        number: u32,
-    ) -> Result<u8, ReportFault>
+    fn tell_line<W: Write>(&self, out: &mut W, line: &[u8], number: u32) -> Result<u8, ReportFault>
         requires { AreInRange self.now.asked.now }
         ensures { IfOk result (λ status. Writes (W.contents out.old) (W.contents out.new)
             (λ text. IsLineTold (O.known self.now.opener.now) self.now.asked.now line.now text status)) }
@@ -373,12 +366,7 @@ impl<'a, RT: Threads + Wait + Sync + Copy + Send + 'static, O: Opener> Judge<'a,
     /// Judges the traces of the list that is asked for, and gives the exit status. How far it is is
     /// told to `errors` where that is asked for. Where the list cannot be read or a line not be
     /// written, that is told there too, and the lines before it stand.
-    pub fn judge_list<W: Write, E: Write>(
-        &self,
-        out: &mut W,
-        errors: &mut E,
-        is_told: bool,
-    ) -> u8
+    pub fn judge_list<W: Write, E: Write>(&self, out: &mut W, errors: &mut E, is_told: bool) -> u8
         requires { IsForList self.now.asked.now }
         ensures { IsListTold (O.known self.now.opener.now) self.now.asked.now
             (W.contents out.old) (W.contents out.new) result ⊎ (result ≡ FAILED) }

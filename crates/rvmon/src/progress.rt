@@ -21,11 +21,7 @@ pub struct Progress {
 impl Progress {
     /// Nothing was judged yet. It is told only where that is asked for, and there is a clock.
     pub fn new(rt: &HostRuntime, is_told: bool) -> Progress {
-        let began = if is_told {
-            Instant::now(rt).ok()
-        } else {
-            None
-        };
+        let began = if is_told { Instant::now(rt).ok() } else { None };
         Progress {
             began,
             told: Duration::ZERO,

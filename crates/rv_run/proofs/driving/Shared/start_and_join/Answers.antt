@@ -35,14 +35,14 @@ returns-clause-served g c =
       λ i s below. below_more
           (λ k. g.C.Carrier.fits carrier (get_or all k s).seat × ((get_or all k s).note.cell ≡ cell)) done
           (λ k low.
-              let same = places.0 k s low in
-              let one = (c.in_ok-served.ensures.each k s (omega (arith, low, c.in_ok-served.ensures.len))).1 in
-              let is = c.in_ok-servers.ensures.each k one.handle (omega (arith, low, joined, some)) in (
-                subst (λ x. g.C.Carrier.fits carrier x.seat) (sym same)
-                    (subst (λ x. g.C.Carrier.fits x (get_or before k s).seat)
-                    (ap (λ h. h.promise.0.value) one.handle_is ∙ is.0) one.kept.0),
-                ap (λ x. x.note.cell) same ∙ one.kept.1 ∙ (ap (λ h. h.promise.1.value) one.handle_is ∙ is.1),
-              ))
+          let same = places.0 k s low in
+          let one = (c.in_ok-served.ensures.each k s (omega (arith, low, c.in_ok-served.ensures.len))).1 in
+          let is = c.in_ok-servers.ensures.each k one.handle (omega (arith, low, joined, some)) in (
+            subst (λ x. g.C.Carrier.fits carrier x.seat) (sym same)
+                (subst (λ x. g.C.Carrier.fits x (get_or before k s).seat)
+                (ap (λ h. h.promise.0.value) one.handle_is ∙ is.0) one.kept.0),
+            ap (λ x. x.note.cell) same ∙ one.kept.1 ∙ (ap (λ h. h.promise.1.value) one.handle_is ∙ is.1),
+          ))
           (let same = places.1 s (search rules) in (
             subst (λ x. g.C.Carrier.fits carrier x.seat) (sym same) c.serve_here-last.ensures.seat,
             ap (λ x. x.note.cell) same ∙ c.serve_here-last.ensures.note,
