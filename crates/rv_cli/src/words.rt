@@ -147,7 +147,8 @@ fn asked_in(alloc: Global, matches: &ArgMatches<'_>) -> Result<Asked, WordsFault
 /// # Errors
 /// `Parse` where clap refuses the words, or finds a call for help among them. `TooMany` where clap
 /// takes the words, and finds more than 8 files. `BesideList` where they name a list of traces, and
-/// a file, a file of texts, an explanation or a picture. `NoMemory` where an allocation was refused.
+/// a file, a file of texts, an explanation or a picture. `NoMemory` where an allocation was
+/// refused.
 pub fn asked(alloc: Global, words: &[&str]) -> Result<Asked, WordsFault>
     ensures answer { AnswersTo (texts words.now) result }
     ensures range { IfOk result IsInRange }

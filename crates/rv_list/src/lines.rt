@@ -5,8 +5,8 @@ ghost use Rattle.rv_list.specs.ListLines.{NoLine, TakesLine};
 use std::io;
 use std::io::BufRead;
 
-/// Reads the next line of a list into `line`, in place of what that held: without its line feed, and
-/// without a carriage return before that. `false` where no line is left.
+/// Reads the next line of a list into `line`, in place of what that held: without its line feed,
+/// and without a carriage return before that. `false` where no line is left.
 ///
 /// # Errors
 /// Those of the reader, and of memory. What was read of the line is lost.
