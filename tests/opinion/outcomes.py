@@ -1,5 +1,6 @@
 """What a report may say of a trace, and what is wrong with a report."""
 
+import dataclasses
 import json
 import re
 
@@ -31,7 +32,26 @@ def lack_of(given, said, log):
     return None
 
 
-def possible_outcomes(sources, model, has_carriers, is_complete=False):
+def strength_of(log):
+    """How many loads could not have returned the next older version of their word that a store wrote, or the initial
+    one, and how many there are that returned a later one. Each is put back by itself, and the log judged again."""
+    loads = [event for event in log.events if event.is_load and event.read > 0]
+    refused = 0
+    for load in loads:
+        older = max((store.wrote for store in log.stores_of(load.word) if store.wrote < load.read), default=0)
+        changed = dataclasses.replace(load, read=older)
+        entries = [(source, changed if event is load else event) for source, event in log.entries]
+        refused += not has_lawful_order(Log(entries, log.model))
+    return refused, len(loads)
+
+
+def strength_line(log):
+    """What is said of that. At most 200 loads are put back, and no trace here has more."""
+    refused, tried = strength_of(log)
+    return f"strength: {refused} of {tried} older reads would be refused"
+
+
+def possible_outcomes(sources, model, has_carriers, is_complete=False, tells_strength=False):
     """Each outcome that some order of arrival leads to, with the logs that are the evidence of each refusal, or with
     the lines that follow where it is allowed.
 
@@ -47,7 +67,8 @@ def possible_outcomes(sources, model, has_carriers, is_complete=False):
         log = Log(entries, model, ordered_before)
         if arrived == whole and not any(faults):
             lack = lack_of(given, said, log) if is_complete else None
-            outcomes[allowed_line(log)] = [f"incomplete: {lack}"] if lack else []
+            behind = [f"incomplete: {lack}"] if lack else []
+            outcomes[allowed_line(log)] = behind + ([strength_line(log)] if tells_strength else [])
         for source, event in next_entries(given, arrived):
             refusal = refusal_line(log, source, event)
             following = tuple(count + (s == source) for s, count in enumerate(arrived))
@@ -92,7 +113,9 @@ REPORTS = {
 def text_of_json(output):
     """The text report that says the same as a JSON report. Raises an error where it is none."""
     report = json.loads(output)
-    lack = report.pop("incomplete", None) if report["outcome"] == "allowed" else None
+    is_allowed = report["outcome"] == "allowed"
+    lack = report.pop("incomplete", None) if is_allowed else None
+    strength = report.pop("strength", None) if is_allowed else None
     if json.dumps(json.loads(output), sort_keys=True, separators=(",", ":")) + "\n" != output:
         raise ValueError("it is not written as it should be")
     form = REPORTS[report.pop("outcome")]
@@ -100,6 +123,7 @@ def text_of_json(output):
     if set(report) != set(re.findall(r"{(\w+)}", form)):
         raise ValueError("the keys are not those of the outcome")
     lines += [f"incomplete: {lack}"] if lack else []
+    lines += ["strength: {refused} of {tried} older reads would be refused".format(**strength)] if strength else []
     return "".join(line + "\n" for line in [form.format(**report), *lines])
 
 
@@ -118,7 +142,8 @@ def complaint_of(answer, text, outcomes):
         return "the outcome is none of those possible"
     outcome = lines[0].split(":")[0]
     behind = outcomes[lines[0]] if outcome == "allowed" else []
-    if answer.returncode != {"allowed": 4 if behind else 0, "forbidden": 1, "malformed": 2, "rvmon": 2}[outcome]:
+    lacks = any(line.startswith("incomplete: ") for line in behind)
+    if answer.returncode != {"allowed": 4 if lacks else 0, "forbidden": 1, "malformed": 2, "rvmon": 2}[outcome]:
         return "the status is not that of the outcome"
     if (outcome == "rvmon") != (answer.stdout == "") or (outcome != "rvmon") != (answer.stderr == ""):
         return "the outcome is on the wrong output"

@@ -125,6 +125,7 @@ class Trace:
     has_carriers: bool
     is_complete: bool = False
     was_cut: bool = False
+    tells_strength: bool = False
 
 
 def chance(dice, probability):
@@ -324,6 +325,9 @@ def random_trace(seed):
     trace = Trace(texts, model, words, chance(dice, 0.5), has_carriers)
     if chance(dice, 0.25):
         make_complete(dice, trace)
+    if chance(dice, 0.25):
+        trace.tells_strength = True
+        trace.words.append("--strength")
     return trace
 
 
@@ -331,14 +335,16 @@ def make_complete(dice, trace):
     """Gives the sources end records, few of them a wrong one, and cuts one of the sources off at times."""
     trace.is_complete = True
     trace.words.append("--complete")
+    whole = []
     for source, text in enumerate(trace.sources):
         rows = text.count("\n") - 1
         end = f"end,{rows}\n"
+        whole.append(len(text + end) - 1)
         odd = ["", f"end,{rows + 1}\n", end + end, "end\n", "end,x\n", end + text.split("\n")[-2] + "\n"]
         trace.sources[source] += dice.choice(odd) if chance(dice, 0.1) else end
     if chance(dice, 0.3):
         source = dice.randrange(len(trace.sources))
         text = trace.sources[source]
         kept = dice.choice([dice.randrange(len(text)), len(text) - dice.randint(1, 9)])
-        trace.was_cut = kept < len(text.rstrip("\n"))
+        trace.was_cut = kept < whole[source]
         trace.sources[source] = text[: max(kept, 0)]

@@ -37,6 +37,7 @@ pub record SaysAsked (rows : List Row) (asked : Asked) : Type 0 where
   pub svg : asked.svg ≡ is_true (first_of (codes "svg") rows)
   pub coverage : asked.coverage ≡ is_true (first_of (codes "coverage") rows)
   pub complete : asked.complete ≡ is_true (first_of (codes "complete") rows)
+  pub strength : asked.strength ≡ is_true (first_of (codes "strength") rows)
   pub where_file : option_map string_bytes asked.where_file ≡ first_of (codes "where") rows
   pub list_file : option_map string_bytes asked.list_file ≡ first_of (codes "list") rows
   pub files : map string_bytes asked.files.items ≡ files_in rows

@@ -65,6 +65,9 @@ coverage_rule = flag_rule (codes "coverage")
 abbrev pub complete_rule : Rule
 complete_rule = flag_rule (codes "complete")
 
+abbrev pub strength_rule : Rule
+strength_rule = flag_rule (codes "strength")
+
 -- a text, if one is given
 abbrev pub where_rule : Rule
 where_rule = record (new_rule (codes "where")) { long = Some (codes "where"); action = Some Set; value_names = 1 }
@@ -83,8 +86,8 @@ bare_app = let app = new_app (codes "rvmon") in record app { top = record app.to
 abbrev pub app_over : Names → App
 app_over names =
     with_rule (with_rule (with_rule (with_rule (with_rule (with_rule (with_rule (with_rule (with_rule (with_rule
-    (with_rule (with_rule bare_app workers_rule) slots_rule) (model_rule names)) json_rule) carriers_rule)
-    explain_rule) svg_rule) coverage_rule) complete_rule) where_rule) list_rule) files_rule
+    (with_rule (with_rule (with_rule bare_app workers_rule) slots_rule) (model_rule names)) json_rule) carriers_rule)
+    explain_rule) svg_rule) coverage_rule) complete_rule) strength_rule) where_rule) list_rule) files_rule
 
 -- it is the command of the program
 abbrev pub IsCommand : App → Type 0

@@ -3,7 +3,7 @@ ghost use Rattle.std.specs.Prelude.{◌≡◌, false, IfOk};
 ghost use Rattle.clap.specs.Words.{app_of, rule_of};
 ghost use Rattle.rv_cli.specs.Command.{IsCommand, ListsModels, bare_app, carriers_rule, complete_rule};
 ghost use Rattle.rv_cli.specs.Command.{coverage_rule, explain_rule, files_rule, json_rule, list_rule, model_rule};
-ghost use Rattle.rv_cli.specs.Command.{slots_rule, svg_rule, where_rule, workers_rule};
+ghost use Rattle.rv_cli.specs.Command.{slots_rule, strength_rule, svg_rule, where_rule, workers_rule};
 
 use crate::help;
 use clap::{Arg, ArgAction, Command, value_parser};
@@ -121,6 +121,17 @@ fn complete_arg<'a>(alloc: Global) -> Arg<'a>
         .help(help::COMPLETE)
 }
 
+/// `--strength`.
+fn strength_arg<'a>(alloc: Global) -> Arg<'a>
+    ensures rule { rule_of result ≡ strength_rule }
+    ensures local { result.global ≡ false }
+{
+    Arg::new(alloc, "strength")
+        .long("strength")
+        .action(ArgAction::SetTrue)
+        .help(help::STRENGTH)
+}
+
 /// `--where`.
 fn where_arg<'a>(alloc: Global) -> Arg<'a>
     ensures rule { rule_of result ≡ where_rule }
@@ -179,6 +190,7 @@ pub(crate) fn command_of<'a>(alloc: Global) -> Result<Command<'a>, AllocError>
         .arg(svg_arg(alloc))?
         .arg(coverage_arg(alloc))?
         .arg(complete_arg(alloc))?
+        .arg(strength_arg(alloc))?
         .arg(where_arg(alloc))?
         .arg(list_arg(alloc))?
         .arg(files_arg(alloc))

@@ -46,6 +46,11 @@ pub(crate) const COMPLETE: &str = "\
 Allow only whole traces: each ends with a record end,N
 that counts its rows, and no load waits";
 
+/// On `--strength`.
+pub(crate) const STRENGTH: &str = "\
+Tell behind an allowed report how many loads could not
+have returned an older version";
+
 /// On `--where`.
 pub(crate) const WHERE: &str = "\
 Tell where rows come from, by the file ROWS:{n}\

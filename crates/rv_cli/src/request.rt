@@ -31,6 +31,8 @@ pub struct Asked {
     /// Whether the run is to be complete: each source ends with an end record that counts its rows,
     /// and no load waits.
     pub complete: bool,
+    /// Whether it is told how many older reads would be refused, where the sources are allowed.
+    pub strength: bool,
     /// The name of a file that tells where rows come from, if one is named.
     pub where_file: Option<String>,
     /// The name of a file that lists traces, a line each, if one is named. There are then no files,

@@ -136,6 +136,7 @@ fn asked_in(alloc: Global, matches: &ArgMatches<'_>) -> Result<Asked, WordsFault
         svg: flag_in(matches, "svg"),
         coverage: flag_in(matches, "coverage"),
         complete: flag_in(matches, "complete"),
+        strength: flag_in(matches, "strength"),
         where_file,
         list_file,
         files,

@@ -5,9 +5,11 @@ use Rattle.serde_json.specs.Written.{has_float, members_have_float}
 use Rattle.rv_coverage.specs.declared.coverage.Coverage.{Coverage}
 use Rattle.rv_coverage.specs.declared.feature.Count.{Count}
 use Rattle.rv_coverage.specs.declared.waiting.Wait.{Wait}
+use Rattle.rv_replay.specs.declared.strength.Strength.{Strength}
 use Rattle.rv_report.proofs.Floats.{items-none, put-none}
 use Rattle.rv_report.specs.declared.outcome.Outcome.TheVariants as outcome
-use Rattle.rv_coverage_report.specs.JsonData.{and_told, counted, counts_data, coverage_data, told_data, wait_data}
+use Rattle.rv_coverage_report.specs.JsonData.{and_told, counted, counts_data, coverage_data, strength_data}
+use Rattle.rv_coverage_report.specs.JsonData.{told_data, wait_data}
 
 counted-none : (counts : List Count) (ms : Members) → members_have_float ms ≡ false →
     members_have_float (counted counts ms) ≡ false
@@ -43,8 +45,13 @@ text : (t : Option (List ℕ)) → IfSome (option_map string t) (λ x. has_float
 text None = tt
 text (Some t) = refl
 
+tested : (s : Option Strength) → IfSome (option_map strength_data s) (λ x. has_float x ≡ false)
+tested None = tt
+tested (Some s) = refl
+
 -- what is told beside a report
 pub told_none : (events operations waiting : ℕ) (c : Option Coverage) (incomplete : Option (List ℕ)) →
-    has_float (told_data (outcome.Allowed events operations waiting) c incomplete) ≡ false
-told_none events operations waiting c incomplete =
-    told_more _ _ _ (text incomplete) (told_more _ _ _ (covered c) refl)
+    (s : Option Strength) →
+    has_float (told_data (outcome.Allowed events operations waiting) c incomplete s) ≡ false
+told_none events operations waiting c incomplete s =
+    told_more _ _ _ (tested s) (told_more _ _ _ (text incomplete) (told_more _ _ _ (covered c) refl))

@@ -7,6 +7,7 @@ use Rattle.rv_coverage.specs.Features.{feature_text}
 use Rattle.rv_coverage.specs.declared.coverage.Coverage.{Coverage}
 use Rattle.rv_coverage.specs.declared.feature.Count.{Count}
 use Rattle.rv_coverage.specs.declared.waiting.Wait.{Wait}
+use Rattle.rv_replay.specs.declared.strength.Strength.{Strength}
 use Rattle.rv_report.specs.JsonData.{id_data, report_data, whole_number}
 use Rattle.rv_report.specs.declared.outcome.Outcome.{Outcome}
 use Rattle.rv_report.specs.declared.outcome.Outcome.TheVariants as outcome
@@ -34,6 +35,11 @@ coverage_data c =
     (member (codes "reads") (counts_data c.reads.items)
     (member (codes "waiting") (array (items_of (map wait_data c.waiting.items))) no_members))))))
 
+abbrev pub strength_data : Strength → Data
+strength_data s =
+    object (member (codes "refused") (whole_number s.refused)
+    (member (codes "tried") (whole_number s.tried) no_members))
+
 -- the members of the report of accepted events
 abbrev pub allowed_members : ℕ → ℕ → ℕ → Members
 allowed_members events operations waiting =
@@ -47,15 +53,16 @@ abbrev pub and_told : List ℕ → Option Data → Members → Members
 and_told name None ms = ms
 and_told name (Some d) ms = put name d ms
 
--- The report of accepted events, with what they have exercised and what their run lacks, where
--- these are told. That of another outcome has nothing more.
-abbrev pub told_data : Outcome → Option Coverage → Option (List ℕ) → Data
-told_data (outcome.Allowed events operations waiting) c incomplete =
-    object (and_told (codes "incomplete") (option_map string incomplete)
-    (and_told (codes "coverage") (option_map coverage_data c) (allowed_members events operations waiting)))
-told_data (outcome.Forbidden f) c incomplete = report_data (outcome.Forbidden f)
-told_data (outcome.Malformed m) c incomplete = report_data (outcome.Malformed m)
+-- The report of accepted events, with what they have exercised, what their run lacks, and how much
+-- their loads test, where these are told. That of another outcome has nothing more.
+abbrev pub told_data : Outcome → Option Coverage → Option (List ℕ) → Option Strength → Data
+told_data (outcome.Allowed events operations waiting) c incomplete s =
+    object (and_told (codes "strength") (option_map strength_data s)
+    (and_told (codes "incomplete") (option_map string incomplete)
+    (and_told (codes "coverage") (option_map coverage_data c) (allowed_members events operations waiting))))
+told_data (outcome.Forbidden f) c incomplete s = report_data (outcome.Forbidden f)
+told_data (outcome.Malformed m) c incomplete s = report_data (outcome.Malformed m)
 
 -- its compact text
-abbrev pub told_json_text : Outcome → Option Coverage → Option (List ℕ) → List ℕ
-told_json_text o c incomplete = compact_text (told_data o c incomplete)
+abbrev pub told_json_text : Outcome → Option Coverage → Option (List ℕ) → Option Strength → List ℕ
+told_json_text o c incomplete s = compact_text (told_data o c incomplete s)

@@ -2,7 +2,7 @@
 ghost use Rattle.std.specs.Prelude.{◌≡◌, false, Err, IfOk, OnOk, codes, map, option_map, string_bytes};
 ghost use Rattle.std.specs.Option.{option_copied};
 ghost use Rattle.std.specs.Io.KnownBytes.{Appends};
-ghost use Rattle.serde_json.specs.Data.{string};
+ghost use Rattle.serde_json.specs.Data.{object, string};
 ghost use Rattle.serde_json.specs.View.{members_view, view};
 ghost use Rattle.serde_json.specs.Written.{has_float};
 ghost use Rattle.rv_event.specs.Texts.{◌⋯◌};
@@ -11,10 +11,11 @@ ghost use Rattle.rv_report.specs.Writing.{IsCutShort};
 ghost use Rattle.rv_report.specs.declared.fault.ReportFault.TheVariants as fault;
 ghost use Rattle.rv_report.specs.declared.outcome.Outcome.TheVariants as outcome;
 ghost use Rattle.rv_coverage_report.specs.JsonData.{allowed_members, and_told, counts_data, coverage_data};
-ghost use Rattle.rv_coverage_report.specs.JsonData.{told_data, told_json_text, wait_data};
+ghost use Rattle.rv_coverage_report.specs.JsonData.{strength_data, told_data, told_json_text, wait_data};
 
 use rv_coverage::{Count, Coverage, Wait};
 use rv_event::NoMemory;
+use rv_replay::Strength;
 use rv_report::{Outcome, ReportFault, report_json, write_text};
 use serde_json::{Map, Value, json, put};
 use std::alloc::{AllocError, Global};
@@ -76,6 +77,14 @@ fn coverage_value(alloc: Global, coverage: &Coverage) -> Result<Value, AllocErro
     })
 }
 
+/// How much the loads of a log test.
+fn strength_value(alloc: Global, strength: Strength) -> Result<Value, AllocError>
+    ensures { IfOk result (λ v. view v ≡ strength_data strength) }
+{
+    let Strength { tried, refused } = strength;
+    json!(in alloc; {"refused": refused, "tried": tried})
+}
+
 /// The members of the report of accepted events.
 fn allowed_members(
     alloc: Global,
@@ -133,27 +142,48 @@ fn put_incomplete(
     Ok(())
 }
 
-/// The report of accepted events, with what is told beside.
-fn allowed_value(
+/// Adds how much their loads test, if that was found out.
+fn put_strength(
+    members: &mut Map<String, Value>,
     alloc: Global,
-    events: usize,
-    operations: usize,
-    waiting: usize,
+    strength: Option<Strength>,
+) -> Result<(), AllocError>
+    ensures { OnOk result (members_view members.new.entries
+        ≡ and_told (codes "strength") (option_map strength_data strength)
+        (members_view members.old.entries)) }
+{
+    if let Some(strength) = strength {
+        let strength = strength_value(alloc, strength)?;
+        put(members, alloc, "strength", strength)?;
+    }
+    Ok(())
+}
+
+/// The report of accepted events with these members, and what is told beside.
+fn beside_value(
+    alloc: Global,
+    members: Map<String, Value>,
     coverage: Option<&Coverage>,
     incomplete: Option<&str>,
+    strength: Option<Strength>,
 ) -> Result<Value, AllocError>
-    ensures { IfOk result (λ v. view v ≡ told_data (outcome.Allowed events operations waiting)
-        (option_copied coverage.entry) (option_copied incomplete.entry)) }
+    ensures { IfOk result (λ v. view v ≡ object
+        (and_told (codes "strength") (option_map strength_data strength)
+        (and_told (codes "incomplete") (option_map string (option_copied incomplete.entry))
+        (and_told (codes "coverage") (option_map coverage_data (option_copied coverage.entry))
+        (members_view members.entries))))) }
 {
-    let mut members = allowed_members(alloc, events, operations, waiting)?;
+    let mut members = members;
     put_coverage(&mut members, alloc, coverage)?;
     put_incomplete(&mut members, alloc, incomplete)?;
+    put_strength(&mut members, alloc, strength)?;
     Ok(Value::Object(members))
 }
 
 /// The JSON report of an outcome, as a value: one object, its keys in ascending order and its
-/// numbers whole. Of accepted events `coverage` says what they have exercised, and `incomplete`
-/// what their run lacks that would be complete, where these are given.
+/// numbers whole. Of accepted events `coverage` says what they have exercised, `incomplete` what
+/// their run lacks that would be complete, and `strength` how many older reads would be refused,
+/// where these are given.
 ///
 /// # Errors
 /// `NoMemory` where a part of it could not be had.
@@ -163,9 +193,10 @@ pub fn told_json(
     outcome: &Outcome,
     coverage: Option<&Coverage>,
     incomplete: Option<&str>,
+    strength: Option<Strength>,
 ) -> Result<Value, NoMemory>
-    ensures data { IfOk result (λ v.
-        view v ≡ told_data outcome.now (option_copied coverage.entry) (option_copied incomplete.entry)) }
+    ensures data { IfOk result (λ v. view v
+        ≡ told_data outcome.now (option_copied coverage.entry) (option_copied incomplete.entry) strength) }
     ensures no_float { IfOk result (λ v. has_float (view v) ≡ false) }
 {
     match outcome {
@@ -174,8 +205,8 @@ pub fn told_json(
             operations,
             waiting,
         } => {
-            let (events, operations, waiting) = (*events, *operations, *waiting);
-            Ok(allowed_value(alloc, events, operations, waiting, coverage, incomplete)?)
+            let members = allowed_members(alloc, *events, *operations, *waiting)?;
+            Ok(beside_value(alloc, members, coverage, incomplete, strength)?)
         }
         Outcome::Forbidden(_) | Outcome::Malformed(_) => report_json(alloc, outcome),
     }
@@ -187,11 +218,13 @@ fn line_of(
     outcome: &Outcome,
     coverage: Option<&Coverage>,
     incomplete: Option<&str>,
+    strength: Option<Strength>,
 ) -> Result<String, NoMemory>
     ensures { IfOk result (λ line. string_bytes line
-        ≡ told_json_text outcome.now (option_copied coverage.entry) (option_copied incomplete.entry) ⋯ line_feed) }
+        ≡ told_json_text outcome.now (option_copied coverage.entry) (option_copied incomplete.entry) strength
+        ⋯ line_feed) }
 {
-    let value = told_json(alloc, outcome, coverage, incomplete)?;
+    let value = told_json(alloc, outcome, coverage, incomplete, strength)?;
     let mut line = value.to_string(alloc)?;
     line.push('\n')?;
     Ok(line)
@@ -209,13 +242,16 @@ pub fn told_json_line<W: Write>(
     outcome: &Outcome,
     coverage: Option<&Coverage>,
     incomplete: Option<&str>,
+    strength: Option<Strength>,
 ) -> Result<(), ReportFault>
     ensures written { OnOk result (Appends (W.contents writer.old) (W.contents writer.new)
-        (told_json_text outcome.now (option_copied coverage.entry) (option_copied incomplete.entry) ⋯ line_feed)) }
+        (told_json_text outcome.now (option_copied coverage.entry) (option_copied incomplete.entry) strength
+        ⋯ line_feed)) }
     ensures cut { result ≡ Err fault.Write → IsCutShort (W.contents writer.old) (W.contents writer.new)
-        (told_json_text outcome.now (option_copied coverage.entry) (option_copied incomplete.entry) ⋯ line_feed) }
+        (told_json_text outcome.now (option_copied coverage.entry) (option_copied incomplete.entry) strength
+        ⋯ line_feed) }
     ensures untouched { result ≡ Err fault.NoMemory → writer.new ≡ writer.old }
 {
-    let line = line_of(alloc, outcome, coverage, incomplete)?;
+    let line = line_of(alloc, outcome, coverage, incomplete, strength)?;
     write_text(writer, line.as_str())
 }

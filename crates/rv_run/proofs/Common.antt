@@ -24,7 +24,7 @@ pub use Rattle.rv_run.specs.Comparisons.{AgreesWith, IsBegun, IsBegunIn, IsFault
 pub use Rattle.rv_run.specs.Desks.{IsComplete}
 pub use Rattle.rv_run.specs.Feeds.{IsEndOf, IsFedOf, IsFeeding}
 pub use Rattle.rv_run.specs.Outcomes.{IfAllowed, IfForbidden, IfMalformed}
-pub use Rattle.rv_run.specs.Replays.{IsAllowed, IsConsistent, IsReplayed, Reaches}
+pub use Rattle.rv_replay.specs.Replays.{IsAllowed, IsConsistent, IsReplayed, Reaches}
 pub use Rattle.rv_run.specs.Sources.{AreAllowed, AreEventsOf, AreForbidden, AreMalformed, AreWellFormed, EndsIn}
 pub use Rattle.rv_run.specs.Sources.{EndsWhole, HasRead, IsFaultAmong, IsPartOf, IsRefused, IsTrueOf}
 pub use Rattle.rv_run.specs.declared.fault.RunFault.{RunFault}

@@ -16,7 +16,7 @@ use Rattle.rv_coverage.specs.declared.coverage.Coverage.{Coverage}
 use Rattle.rv_run.specs.Comparisons.{IsCoveredBy, IsWhole}
 use Rattle.rv_run.specs.Sources.{AreCovered}
 use Rattle.rv_run.specs.declared.judging.Judged.{Judged}
-use Rattle.rv_run.proofs.InconsistentRefusals.{continued, exactly_allowed}
+use Rattle.rv_replay.proofs.InconsistentRefusals.{continued, exactly_allowed}
 use Rattle.rv_run.proofs.Merges.{goes-on, low-together, merge-of, together}
 use Rattle.rv_run.proofs.MergeCounts.{length-merge, operations-merge, waiting-merge}
 use Rattle.rv_run.specs.declared.fault.RunFault.TheVariants as fault

@@ -13,7 +13,9 @@ use Rattle.rv_trace.specs.declared.fault.TraceFault.{TraceFault}
 use Rattle.rv_report.specs.declared.outcome.Outcome.{Outcome}
 use Rattle.rv_report.specs.declared.outcome.Outcome.TheVariants.{Allowed, Forbidden, Malformed}
 use Rattle.rv_run.specs.Completeness.{IsFirstWait}
-use Rattle.rv_run.specs.Replays.{IsConsistent}
+use Rattle.rv_replay.specs.Replays.{IsConsistent}
+use Rattle.rv_replay.specs.Strengths.{IsStrength}
+use Rattle.rv_replay.specs.declared.strength.Strength.{Strength}
 use Rattle.rv_run.specs.declared.fault.RunFault.{RunFault}
 use Rattle.rv_run.specs.declared.fault.RunFault.TheVariants.{Trace, NoMemory, Lost, Settings}
 use Rattle.rv_run.specs.declared.feeding.Fed.{Fed}
@@ -53,6 +55,10 @@ AgreesWith model fed (Malformed m) = (m.model ≡ model) × IsBegun m.evidence f
 -- this is what a log of all that was read has exercised
 abbrev pub IsCoveredBy : MemoryModel → List Fed → Coverage → Type 0
 IsCoveredBy model fed c = (log : List Entry) × IsWhole log fed × IsCoverage model log c
+
+-- and so much do its loads test
+abbrev pub IsTestedBy : MemoryModel → List Fed → Strength → Type 0
+IsTestedBy model fed s = (log : List Entry) × IsWhole log fed × IsStrength model log s
 
 -- ---- completeness
 -- the end record of a source counts the events that were read, or this is what it lacks

@@ -6,6 +6,6 @@ pub mod Feeds
 pub mod Gates
 pub mod Outcomes
 pub mod Ranges
-pub mod Replays
 pub mod Sources
+pub mod Strengths
 pub mod Turns

@@ -19,7 +19,7 @@ use Rattle.rv_trace.specs.declared.fault.TraceFault.{TraceFault}
 use Rattle.rv_report.specs.declared.outcome.Outcome.{Outcome}
 use Rattle.rv_report.specs.declared.outcome.Outcome.TheVariants.{Allowed, Forbidden, Malformed}
 use Rattle.rv_run.specs.Outcomes.{IfAllowed, IfForbidden, IfMalformed}
-use Rattle.rv_run.specs.Replays.{IsConsistent, IsReplayed, IsAllowed}
+use Rattle.rv_replay.specs.Replays.{IsConsistent, IsReplayed, IsAllowed}
 use Rattle.rv_run.specs.declared.fault.RunFault.{RunFault}
 use Rattle.rv_run.specs.declared.fault.RunFault.TheVariants.{Trace, NoMemory, Lost, Settings}
 

@@ -1,8 +1,10 @@
 //! What the answers of the threads come to.
 ghost use Rattle.std.specs.Prelude.{◌≡◌, ◌≤◌, ◌<◌, IfOk, IfErr, IfSome, IsSome, IsTrue, length};
 ghost use Rattle.rv_coverage.specs.Coverages.{IsCoverage};
-ghost use Rattle.rv_run.specs.Comparisons.{AgreesWith, IsCoveredBy, IsFaultIn, IsLacking, LacksBy};
-ghost use Rattle.rv_run.specs.Replays.{IsAllowed};
+ghost use Rattle.rv_replay.specs.Strengths.{IsStrength};
+ghost use Rattle.rv_run.specs.Comparisons.{AgreesWith, IsCoveredBy, IsFaultIn, IsLacking, IsTestedBy, LacksBy};
+ghost use Rattle.rv_run.specs.Strengths.{IsToldWhere};
+ghost use Rattle.rv_replay.specs.Replays.{IsAllowed};
 
 use crate::comparing::{is_begun, is_whole};
 use crate::fault::RunFault;
@@ -13,6 +15,7 @@ use rv_book::Book;
 use rv_cert::Verdict;
 use rv_coverage::{Coverage, coverage_of};
 use rv_event::{MemoryModel, NoMemory};
+use rv_replay::{Strength, strength_of};
 use rv_report::Outcome;
 use rv_verdict::VerdictCell;
 use std::alloc::Global;
@@ -26,6 +29,8 @@ pub struct Judged {
     pub coverage: Option<Coverage>,
     /// The first thing that the run lacks, where it was to be complete and the sources are allowed.
     pub missing: Option<Missing>,
+    /// How many older reads would be refused, where that was asked for and the sources are allowed.
+    pub strength: Option<Strength>,
 }
 
 impl Judged {
@@ -52,6 +57,8 @@ pub(crate) struct Question {
     pub covering: bool,
     /// Whether they are to be complete.
     pub complete: bool,
+    /// Whether it is found how many older reads would be refused.
+    pub testing: bool,
 }
 
 /// Whether the model is the one asked for.
@@ -139,6 +146,23 @@ fn missing_asked(
     }
 }
 
+/// How much the loads of the book's log test, where that is asked for.
+fn strength_asked(
+    alloc: Global,
+    question: Question,
+    book: &Book,
+) -> Result<Option<Strength>, NoMemory>
+    ensures strength { IfOk result (λ s. IfSome s (IsStrength book.now.model book.now.log)) }
+    ensures asked { IfOk result (λ s. IsTrue question.testing → IsSome s) }
+    ensures only { IfOk result (λ s. IsSome s → IsTrue question.testing) }
+{
+    if question.testing {
+        Ok(Some(strength_of(alloc, book)?))
+    } else {
+        Ok(None)
+    }
+}
+
 /// What a book comes to that was never stopped, if it is of the model asked for, each source was
 /// read to its end, and its log has all of their events and no others.
 fn allowance_of(
@@ -155,6 +179,9 @@ fn allowance_of(
     ensures only { IfOk result (λ j. IsSome j.coverage → IsTrue question.covering) }
     ensures lacks { IfOk result (λ j. IsTrue question.complete → LacksBy fed.now j.missing) }
     ensures complete { IfOk result (λ j. IsSome j.missing → IsTrue question.complete) }
+    ensures strength { IfOk result (λ j. IfSome j.strength (IsTestedBy question.model fed.now)) }
+    ensures tested { IfOk result (λ j. IsTrue question.testing → IsSome j.strength) }
+    ensures untested { IfOk result (λ j. IsSome j.strength → IsTrue question.testing) }
     ensures fault { IfErr result (IsFaultIn fed.now) }
 {
     if !is_asked(book.model(), question.model) || !is_whole(book.log(), fed) {
@@ -162,6 +189,7 @@ fn allowance_of(
     }
     let coverage = coverage_asked(alloc, question, book)?;
     let missing = missing_asked(alloc, question, fed, book)?;
+    let strength = strength_asked(alloc, question, book)?;
     let outcome = Outcome::Allowed {
         events: book.accepted(),
         operations: book.operations(),
@@ -171,6 +199,7 @@ fn allowance_of(
         outcome,
         coverage,
         missing,
+        strength,
     })
 }
 
@@ -193,6 +222,8 @@ pub(crate) fn judge<S>(
     ensures only { IfOk result (λ j. IsSome j.coverage → IsTrue question.covering × IsAllowed j.outcome) }
     ensures lacks { IfOk result (λ j. IsTrue question.complete → IsAllowed j.outcome → LacksBy fed.now j.missing) }
     ensures complete { IfOk result (λ j. IsSome j.missing → IsTrue question.complete × IsAllowed j.outcome) }
+    ensures strength { IfOk result (λ j. IfSome j.strength (IsTestedBy question.model fed.now)) }
+    ensures tested { IfOk result (λ j. IsToldWhere question.testing j.outcome j.strength) }
     ensures fault { IfErr result (IsFaultIn fed.now) }
 {
     let mut note = cell.note();
@@ -202,6 +233,7 @@ pub(crate) fn judge<S>(
             outcome,
             coverage: None,
             missing: None,
+            strength: None,
         });
     }
     if let Some(fault) = first_fault(fed) {

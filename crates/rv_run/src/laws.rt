@@ -1,12 +1,5 @@
 //! Laws over the definitions alone. Each function does nothing: its contract is the law.
-ghost use Rattle.rv_run.specs.Replays.{AllowedWhereConsistent};
 ghost use Rattle.rv_run.specs.Sources.{PassesAgree, RunsAgree};
-
-/// A pass over entries answers allowed exactly where they are a well formed log that has a lawful
-/// order.
-pub fn allowed_where_consistent()
-    ensures { AllowedWhereConsistent }
-{}
 
 /// What is true of sources whose bytes are known agrees: no run over them is allowed where another
 /// run over them, or a pass over their entries in whatever merge, is refused, as forbidden or as

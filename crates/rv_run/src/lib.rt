@@ -1,9 +1,8 @@
-//! Runs: what a whole list of entries, and what whole sources come to.
+//! Runs: what whole sources come to.
 //!
-//! [`replay`] offers entries one by one to a book of its own, in one thread, and answers the
-//! outcome: allowed, with its counts, or the first entry that is refused, with its verdict. [`run`]
-//! does it over sources while they are read: a thread for each source puts its events into slots,
+//! [`run`] judges sources while they are read: a thread for each source puts its events into slots,
 //! in chunks, and workers offer the chunks to one book under a lock; the first verdict stops all.
+//! Beside it stands [`replay`], the pass over a list in one thread.
 //!
 //! - [`gate`], `desk`: the book under its lock, and how far each source is.
 //! - [`feeding`]: one source's thread. [`serving`]: one worker's thread.
@@ -12,16 +11,14 @@
 //!   they come to rest.
 //! - [`running`]: a run's parts, and its settings; `judging`, `comparing`: what the threads'
 //!   answers come to; [`missing`]: what a run lacks that would be complete.
-//! - [`replaying`]: the pass in one thread; [`fault`]: why a run has no outcome; [`laws`]: that
-//!   outcomes agree.
+//! - [`fault`]: why a run has no outcome; [`laws`]: that outcomes agree.
 //! - `specs/`: what each thread tells of its source, and an outcome of all.
 //!
 //! It stands on `rv_event`, `rv_chunk` and `rv_cert`, on `rv_trace` for sources, on `rv_slots`,
 //! `rv_book` and `rv_verdict` for the threads' shared parts, on `rv_coverage` for what sources have
-//! exercised, on `rv_pipe` for the bell by which
+//! exercised, on `rv_replay` for how much their loads test, on `rv_pipe` for the bell by which
 //! readers are told that a run is over, on `rv_report` for outcomes, and on the kit's `thiserror`.
-//! Its one contract to the others: an outcome is true of the entries, or of the sources' bytes
-//! where they are known.
+//! Its one contract to the others: an outcome is true of the sources' bytes where they are known.
 #![tactic(auto)]
 
 mod comparing;
@@ -33,7 +30,6 @@ mod gate;
 mod judging;
 mod laws;
 mod missing;
-mod replaying;
 mod running;
 mod serving;
 mod step;
@@ -44,10 +40,10 @@ pub use fault::RunFault;
 pub use feeding::{Fed, FeedEnd, feed};
 pub use gate::{Awaited, BookGate, Gate};
 pub use judging::Judged;
-pub use laws::{allowed_where_consistent, outcomes_agree};
+pub use laws::outcomes_agree;
 pub use missing::Missing;
-pub use replaying::replay;
 pub use running::{Reading, Settings, run, run_over, run_reading, run_with_bell};
+pub use rv_replay::{allowed_where_consistent, replay};
 pub use rv_report::Outcome;
 pub use serving::{ServeEnd, Served, serve};
 pub use step::InStep;

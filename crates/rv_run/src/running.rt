@@ -4,9 +4,10 @@ ghost use Rattle.std.specs.Prelude.{false, All, vec_len};
 ghost use Rattle.rv_run.specs.Completeness.{Lacks};
 ghost use Rattle.rv_run.specs.Outcomes.{IfAllowed, IfForbidden, IfMalformed};
 ghost use Rattle.rv_run.specs.Ranges.{IsOutOfRange};
-ghost use Rattle.rv_run.specs.Replays.{IsAllowed};
+ghost use Rattle.rv_replay.specs.Replays.{IsAllowed};
 ghost use Rattle.rv_run.specs.Sources.{AreAllowed, AreCovered, AreForbidden, AreMalformed, IsFaultAmong};
 ghost use Rattle.rv_run.specs.Sources.{streams_in, streams_of};
+ghost use Rattle.rv_run.specs.Strengths.{AreTested, IsToldWhere};
 ghost use Rattle.rv_run.specs.declared.fault.RunFault.TheVariants as fault;
 
 use crate::driving::{Shared, drive_shared};
@@ -59,6 +60,8 @@ pub struct Reading<'b> {
     pub bell: &'b Bell,
     /// Whether it is counted what of the model they have exercised, where they are allowed.
     pub covering: bool,
+    /// Whether it is found how many older reads would be refused, where they are allowed.
+    pub testing: bool,
 }
 
 /// As [`run_over`], where the sources are read so.
@@ -91,6 +94,9 @@ fn run_in<RT: Threads + Wait + Sync, R: Read + Send + Drop, C: Carrier + Sync + 
         → Lacks (streams_in reading.entry.dialect R.remaining readers.items) j.missing) }
     ensures complete { IfOk result (λ j.
         IsSome j.missing → IsTrue reading.entry.dialect.end_record × IsAllowed j.outcome) }
+    ensures strength { IfOk result (λ j. IfSome j.strength
+        (AreTested settings.model (streams_in reading.entry.dialect R.remaining readers.items))) }
+    ensures tested { IfOk result (λ j. IsToldWhere reading.entry.testing j.outcome j.strength) }
     ensures fault { IfErr result
         (IsFaultAmong (streams_in reading.entry.dialect R.remaining readers.items)) }
     ensures settings { result ≢ Err fault.Settings }
@@ -115,6 +121,7 @@ fn run_in<RT: Threads + Wait + Sync, R: Read + Send + Drop, C: Carrier + Sync + 
         model: settings.model,
         covering: reading.covering,
         complete: reading.dialect.end_record,
+        testing: reading.testing,
     };
     let judged = judge(alloc, question, fed, served, &cell, &book);
     // By a call: where the scope ends, the proof would take the book apart, field by field.
@@ -155,6 +162,7 @@ pub fn run_over<RT: Threads + Wait + Sync, R: Read + Send + Drop, C: Carrier + S
         dialect: Dialect::plain(),
         bell: &Bell::new(),
         covering: false,
+        testing: false,
     };
     let judged = run_in(rt, alloc, readers, settings, carrier, seats, reading)?;
     Ok(judged.into_outcome())
@@ -223,13 +231,14 @@ pub fn run_with_bell<RT: Threads + Wait + Sync, R: Read + Send + Drop>(
         dialect: Dialect::plain(),
         bell,
         covering: false,
+        testing: false,
     };
     let judged = run_reading(rt, alloc, readers, settings, reading)?;
     Ok(judged.into_outcome())
 }
 
 /// The same as [`run_with_bell`], where the sources' records are of the dialect that is read.
-/// Where the sources are allowed, two things more may be told of them.
+/// Where the sources are allowed, three things more may be told of them.
 ///
 /// What of the model they have exercised is counted where that is asked for. The counts are those
 /// of a merge of all of the sources' events: which merge depends on the threads, and with it the
@@ -238,6 +247,10 @@ pub fn run_with_bell<RT: Threads + Wait + Sync, R: Read + Send + Drop>(
 /// Where the dialect has end records, the first thing is told that the run lacks which would be
 /// complete: the end record of a source, or its right number; an event; or the store of the first
 /// load that waits, by the loads' names. It lacks nothing where none is told.
+///
+/// Where it is asked for, at most 200 loads, evenly chosen, are put back to an older version, each
+/// by itself, and it is told how many of the logs are refused so. Which loads are chosen depends on
+/// the merge.
 ///
 /// # Errors
 /// As [`run_with_bell`].
@@ -264,6 +277,9 @@ pub fn run_reading<RT: Threads + Wait + Sync, R: Read + Send + Drop>(
         → Lacks (streams_in reading.entry.dialect R.remaining readers.items) j.missing) }
     ensures complete { IfOk result (λ j.
         IsSome j.missing → IsTrue reading.entry.dialect.end_record × IsAllowed j.outcome) }
+    ensures strength { IfOk result (λ j. IfSome j.strength
+        (AreTested settings.model (streams_in reading.entry.dialect R.remaining readers.items))) }
+    ensures tested { IfOk result (λ j. IsToldWhere reading.entry.testing j.outcome j.strength) }
     ensures fault { IfErr result
         (IsFaultAmong (streams_in reading.entry.dialect R.remaining readers.items)) }
     ensures settings { (result ≡ Err fault.Settings) ↔ IsOutOfRange (vec_len readers) settings }

@@ -28,7 +28,8 @@ fn no_words_ask_for_the_defaults(rt: HostRuntime) -> Result<(), Fail> {
     let asked = asked(rt.alloc(), &[])?;
     assert_eq!(rt; (asked.workers, asked.slots), (4, 8));
     assert_eq!(rt; asked.model, MemoryModel::Rvwmo);
-    assert!(rt; !asked.json && !asked.complete && asked.files.is_empty());
+    assert!(rt; !asked.json && !asked.complete && !asked.strength);
+    assert!(rt; asked.files.is_empty());
     Ok(())
 }
 
@@ -43,6 +44,7 @@ fn every_option_is_read(rt: HostRuntime) -> Result<(), Fail> {
         "tso",
         "--json",
         "--complete",
+        "--strength",
         "--where",
         "rows.csv",
         "a.csv",
@@ -50,7 +52,7 @@ fn every_option_is_read(rt: HostRuntime) -> Result<(), Fail> {
     let asked = asked(rt.alloc(), words.as_slice())?;
     assert_eq!(rt; (asked.workers, asked.slots), (3, 5));
     assert_eq!(rt; asked.model, MemoryModel::Ztso);
-    assert!(rt; asked.json && asked.complete);
+    assert!(rt; asked.json && asked.complete && asked.strength);
     let Some(name) = &asked.where_file else {
         return Err("no file tells where rows come from")?;
     };

@@ -15,6 +15,8 @@ use Rattle.rv_picture.specs.Pictures.{IsPicture}
 use Rattle.rv_report.specs.Texts.{report_text, line_feed}
 use Rattle.rv_report.specs.declared.outcome.Outcome.{Outcome}
 use Rattle.rv_report.specs.declared.outcome.Outcome.TheVariants as outcome
+use Rattle.rv_replay.specs.Strengths.{strength_text}
+use Rattle.rv_replay.specs.declared.strength.Strength.{Strength}
 use Rattle.rv_run.specs.Completeness.{missing_text}
 use Rattle.rv_run.specs.declared.fault.RunFault.TheVariants as fault
 use Rattle.rv_run.specs.declared.judging.Judged.{Judged}
@@ -63,15 +65,24 @@ abbrev pub incomplete_text : Option Missing → List ℕ
 incomplete_text None = []
 incomplete_text (Some m) = codes "incomplete: " ⋯ missing_text m ⋯ line_feed
 
--- both of them
+-- what is told of how much their loads test, if that was found out
+abbrev pub tested_text : Option Strength → List ℕ
+tested_text None = []
+tested_text (Some s) = codes "strength: " ⋯ strength_text s ⋯ line_feed
+
+-- the lines right behind a report
+abbrev pub lines_text : Judged → List ℕ
+lines_text j = incomplete_text j.missing ⋯ tested_text j.strength
+
+-- all that is told beside it
 abbrev pub beside_text : Extent → Judged → List ℕ
-beside_text extent j = incomplete_text j.missing ⋯ covered_text extent j.coverage
+beside_text extent j = lines_text j ⋯ covered_text extent j.coverage
 
--- the report as JSON, with both
+-- the report as JSON, with all of that
 abbrev pub json_of : Judged → List ℕ
-json_of j = told_json_text j.outcome j.coverage (option_map missing_text j.missing)
+json_of j = told_json_text j.outcome j.coverage (option_map missing_text j.missing) j.strength
 
--- why an event was refused, and both
+-- why an event was refused, and what is told beside
 pub record IsToldBehind (names : List (String Global)) (texts : Said) (extent : Extent) (j : Judged)
     (text : List ℕ) : Type 0 where
   pub told : List ℕ
@@ -85,7 +96,8 @@ pub record IsPrintedBehind (names : List (String Global)) (texts : Said) (extent
   pub is_told : IsToldBehind names texts extent j behind
   pub appends : Appends old new (report_text j.outcome ⋯ behind)
 
--- the report as JSON, with why an event was refused, or, where the sources are allowed, with both
+-- the report as JSON, with why an event was refused, or, where the sources are allowed, with what is
+-- told beside
 abbrev pub IsJsonExplained : List (String Global) → Said → Judged → Outcome →
     Option (List ℕ) → Option (List ℕ) → Type 0
 IsJsonExplained names texts j (outcome.Allowed events operations waiting) old new =
@@ -104,7 +116,7 @@ pub record IsPrintedPicture (names : List (String Global)) (texts : Said) (o : O
 
 -- what a run came to was printed in this form
 abbrev pub IsPrinted : Form → Judged → Option (List ℕ) → Option (List ℕ) → Type 0
-IsPrinted Text j old new = Appends old new (report_text j.outcome ⋯ incomplete_text j.missing)
+IsPrinted Text j old new = Appends old new (report_text j.outcome ⋯ lines_text j)
 IsPrinted Covered j old new = Appends old new (report_text j.outcome ⋯ beside_text extent.All j)
 IsPrinted Json j old new = Appends old new (json_of j ⋯ line_feed)
 IsPrinted (JsonExplained b) j old new =

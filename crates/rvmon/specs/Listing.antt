@@ -33,12 +33,14 @@ pub record IsRequestOf (whole : Asked) (names : List Text) (asked : Asked) : Typ
   pub carriers : asked.carriers ≡ whole.carriers
   pub coverage : asked.coverage ≡ whole.coverage
   pub complete : asked.complete ≡ whole.complete
+  pub strength : asked.strength ≡ whole.strength
   pub explain : asked.explain ≡ false
 
 -- the line and the status of one that was judged
 pub record IsJudgedTold (names : List Text) (j : Judged) (text : List ℕ) (status : ℕ) : Type 0 where
   pub status_is : status ≡ status_of j.outcome j.missing
-  pub text_is : text ≡ judged_text names status (told_data j.outcome j.coverage (option_map missing_text j.missing))
+  pub text_is : text ≡ judged_text names status
+      (told_data j.outcome j.coverage (option_map missing_text j.missing) j.strength)
 
 -- of one whose source has a fault: which, and words for it
 pub record IsFaultTold (names : List Text) (source : ℕ) (f : TraceFault) (text : List ℕ) (status : ℕ) : Type 0 where

@@ -6,8 +6,9 @@ use Rattle.std.specs.List.{Contains}
 use Rattle.clap.specs.Words.{Text}
 use Rattle.rv_trace.specs.Source.{Stream, bytes_say}
 use Rattle.rv_run.specs.Completeness.{Lacks}
-use Rattle.rv_run.specs.Replays.{IsAllowed}
+use Rattle.rv_replay.specs.Replays.{IsAllowed}
 use Rattle.rv_run.specs.Sources.{AreCovered, IsTrueOf, IsFaultAmong}
+use Rattle.rv_run.specs.Strengths.{AreTested, IsToldWhere}
 use Rattle.rv_run.specs.declared.judging.Judged.{Judged}
 use Rattle.rv_run.specs.declared.fault.RunFault.TheVariants as fault
 use Rattle.rv_cli.specs.Answers.{AnswersTo}
@@ -63,8 +64,8 @@ abbrev pub nothing_known : Text → Option (List ℕ)
 nothing_known name = None
 
 -- What a run of a request comes to: its outcome is true of the sources. Where they are allowed, it is
--- told what they have exercised just where that is asked for, and what the run lacks where it is to
--- be complete.
+-- told what they have exercised and how much their loads test just where that is asked for, and what
+-- the run lacks where it is to be complete.
 pub record IsJudgedOf (asked : Asked) (streams : List (Option Stream)) (j : Judged) : Type 0 where
   pub outcome : IsTrueOf asked.model streams j.outcome
   pub covered : IfSome j.coverage (AreCovered asked.model streams)
@@ -72,6 +73,8 @@ pub record IsJudgedOf (asked : Asked) (streams : List (Option Stream)) (j : Judg
   pub only : IsSome j.coverage → IsTrue (covering_asked asked) × IsAllowed j.outcome
   pub lacks : IsTrue asked.complete → IsAllowed j.outcome → Lacks streams j.missing
   pub complete : IsSome j.missing → IsTrue asked.complete × IsAllowed j.outcome
+  pub strength : IfSome j.strength (AreTested asked.model streams)
+  pub tested : IsToldWhere asked.strength j.outcome j.strength
 
 -- the ending of a request: a file does not open, the sources that it names have no outcome, or this
 -- is theirs; its numbers are never out of range

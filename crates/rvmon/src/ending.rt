@@ -11,6 +11,7 @@ ghost use Rattle.rv_coverage_report.specs.declared.text.Extent.TheVariants as ex
 ghost use Rattle.rv_run.specs.Completeness.{missing_text};
 ghost use Rattle.rvmon.specs.Endings.{IsJsonExplained, IsPrinted, IsPrintedBehind, IsPrintedPicture, IsSettled};
 ghost use Rattle.rvmon.specs.Endings.{IsToldBehind, beside_text, covered_text, incomplete_text, json_of};
+ghost use Rattle.rvmon.specs.Endings.{lines_text, tested_text};
 ghost use Rattle.rvmon.specs.Endings.{status_of, status_of_kind};
 
 use crate::backing::{Backing, Silence};
@@ -150,10 +151,13 @@ fn tell_silence<E: Write>(errors: &mut E, form: &Form) {
     }
 }
 
-/// Writes what the run lacks where a picture, which does not tell it, is asked for.
+/// Writes what stands right behind a report where a picture, which has none, is asked for.
 fn tell_unseen<E: Write>(errors: &mut E, judged: &Judged, form: &Form) {
     if let (Form::Picture(_), Some(missing)) = (form, &judged.missing) {
         let _ = writeln!(errors, "rvmon: incomplete: {missing}");
+    }
+    if let (Form::Picture(_), Some(strength)) = (form, &judged.strength) {
+        let _ = writeln!(errors, "rvmon: strength: {strength}");
     }
 }
 
@@ -177,13 +181,32 @@ fn incomplete_told(alloc: Global, judged: &Judged) -> Result<String, NoMemory>
     }
 }
 
-/// What is told beside a report: what the run lacks, and what the sources have exercised.
+/// What is told of how much the sources' loads test, if that was found out.
+fn strength_told(alloc: Global, judged: &Judged) -> Result<String, NoMemory>
+    ensures { IfOk result (λ text. string_bytes text ≡ tested_text judged.now.strength) }
+{
+    match &judged.strength {
+        Some(strength) => Ok(format!(in alloc; "strength: {strength}\n")?),
+        None => Ok(String::new(alloc)),
+    }
+}
+
+/// The lines right behind a report: what the run lacks, and how much the sources' loads test.
+fn lines_told(alloc: Global, judged: &Judged) -> Result<String, NoMemory>
+    ensures { IfOk result (λ text. string_bytes text ≡ lines_text judged.now) }
+{
+    let incomplete = incomplete_told(alloc, judged)?;
+    let strength = strength_told(alloc, judged)?;
+    Ok(format!(in alloc; "{incomplete}{strength}")?)
+}
+
+/// What is told beside a report: these lines, and what the sources have exercised.
 fn told_beside(alloc: Global, judged: &Judged, extent: Extent) -> Result<String, NoMemory>
     ensures { IfOk result (λ text. string_bytes text ≡ beside_text extent judged.now) }
 {
-    let incomplete = incomplete_told(alloc, judged)?;
+    let lines = lines_told(alloc, judged)?;
     let covered = coverage_told(alloc, judged, extent)?;
-    Ok(format!(in alloc; "{incomplete}{covered}")?)
+    Ok(format!(in alloc; "{lines}{covered}")?)
 }
 
 /// What is told behind a report: why an event was refused, and what is told beside.
@@ -217,12 +240,12 @@ fn report_with<O: Write>(
     }
 }
 
-/// Writes the report of an outcome, and behind it what the run lacks, if it lacks anything.
+/// Writes the report of an outcome, and the lines right behind it.
 fn report_complete<O: Write>(alloc: Global, out: &mut O, judged: &Judged) -> Result<(), ReportFault>
     ensures { OnOk result (Appends (O.contents out.old) (O.contents out.new)
-        (report_text judged.now.outcome ⋯ incomplete_text judged.now.missing)) }
+        (report_text judged.now.outcome ⋯ lines_text judged.now)) }
 {
-    let told = incomplete_told(alloc, judged)?;
+    let told = lines_told(alloc, judged)?;
     report_with(alloc, out, &judged.outcome, told.as_str())
 }
 
@@ -266,13 +289,20 @@ fn lack_of(alloc: Global, judged: &Judged) -> Result<Option<String>, NoMemory>
 /// The report as JSON, with what is told beside.
 pub fn told_value(alloc: Global, judged: &Judged) -> Result<Value, NoMemory>
     ensures data { IfOk result (λ v. view v ≡ told_data judged.now.outcome judged.now.coverage
-        (option_map missing_text judged.now.missing)) }
+        (option_map missing_text judged.now.missing) judged.now.strength) }
     ensures no_float { IfOk result (λ v. has_float (view v) ≡ false) }
 {
     let coverage = judged.coverage.as_ref();
+    let strength = judged.strength;
     match lack_of(alloc, judged)? {
-        Some(lack) => told_json(alloc, &judged.outcome, coverage, Some(lack.as_str())),
-        None => told_json(alloc, &judged.outcome, coverage, None),
+        Some(lack) => told_json(
+            alloc,
+            &judged.outcome,
+            coverage,
+            Some(lack.as_str()),
+            strength,
+        ),
+        None => told_json(alloc, &judged.outcome, coverage, None, strength),
     }
 }
 
@@ -281,9 +311,13 @@ fn write_json<O: Write>(alloc: Global, out: &mut O, judged: &Judged) -> Result<(
     ensures { OnOk result (Appends (O.contents out.old) (O.contents out.new) (json_of judged.now ⋯ line_feed)) }
 {
     let coverage = judged.coverage.as_ref();
+    let strength = judged.strength;
     match lack_of(alloc, judged)? {
-        Some(lack) => told_json_line(alloc, out, &judged.outcome, coverage, Some(lack.as_str())),
-        None => told_json_line(alloc, out, &judged.outcome, coverage, None),
+        Some(lack) => {
+            let lack = Some(lack.as_str());
+            told_json_line(alloc, out, &judged.outcome, coverage, lack, strength)
+        }
+        None => told_json_line(alloc, out, &judged.outcome, coverage, None, strength),
     }
 }
 

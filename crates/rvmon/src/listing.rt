@@ -77,6 +77,7 @@ fn request_of(whole: &Asked, workers: u8, files: Vec<String>) -> Asked
         svg: false,
         coverage: whole.coverage,
         complete: whole.complete,
+        strength: whole.strength,
         where_file: None,
         list_file: None,
         files,

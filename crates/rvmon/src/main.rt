@@ -13,8 +13,8 @@
 //! - `specs/`: which ending comes of what, what each ending prints, and what is told of a list.
 //!
 //! It stands on `rv_cli` for its words, on `rv_pipe` for sources that may be silent, on `rv_run`
-//! for the judgement, on `rv_report` for the reports, on `rv_explain` and `rv_coverage_report` for
-//! what is said behind them, on `rv_where` for what a file says of rows, on `rv_picture` for
+//! for the judgement, on `rv_report` for the reports, on `rv_explain`, `rv_coverage_report` and
+//! `rv_replay` for what is said behind them, on `rv_where` for what a file says of rows, on `rv_picture` for
 //! pictures, on `rv_list` for lists of traces, on the crates whose types these name, and on the
 //! kit's `clap` and `either`. Its one contract: each ending is of the step that it names, a report
 //! is that of an outcome of the sources, and each line of a list is told so.
@@ -82,6 +82,7 @@ fn answer<RT: Threads + Wait + Sync + Copy + Send + 'static, O: Opener>(
         dialect: dialect_of(asked),
         bell: &bell,
         covering: is_covering(asked),
+        testing: asked.strength,
     };
     match run_reading(threads, rt.alloc(), inputs, settings, reading) {
         Ok(judged) => Ending::Ran(judged),

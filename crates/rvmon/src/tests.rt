@@ -58,6 +58,7 @@ fn end_of<RT: Threads + Wait + Sync + Abort>(rt: &RT, alloc: Global, trace: &str
             outcome,
             coverage: None,
             missing: None,
+            strength: None,
         }),
         Err(fault) => Ending::Failed(fault),
     }

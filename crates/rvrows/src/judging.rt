@@ -10,6 +10,7 @@ use rv_coverage_report::{Extent, coverage_text};
 use rv_event::{Entry, Event, Id, MemoryModel, NoMemory};
 use rv_explain::{RowTexts, Sources, story};
 use rv_picture::picture;
+use rv_replay::{Strength, strength_of};
 use rv_report::{Outcome, report, write_text};
 use std::alloc::{AllocError, Global};
 use std::io::Write;
@@ -32,6 +33,8 @@ pub(crate) struct Telling {
     pub(crate) form: Form,
     /// Whether all is counted behind the report that an allowed log has exercised.
     pub(crate) coverage: bool,
+    /// Whether it is told behind the report how many older reads would be refused.
+    pub(crate) strength: bool,
 }
 
 impl Telling {
@@ -43,6 +46,11 @@ impl Telling {
             Form::Explained => Some(Extent::Met),
             Form::Text => None,
         }
+    }
+
+    /// Whether it is told how many older reads would be refused.
+    fn tells_strength(self) -> bool {
+        self.strength && self.form != Form::Picture
     }
 }
 
@@ -64,6 +72,8 @@ pub(crate) struct Judgement {
     texts: RowTexts,
     /// What of the model they have exercised, where that is told and they are allowed.
     coverage: Option<Coverage>,
+    /// How many older reads would be refused, where that is told and they are allowed.
+    strength: Option<Strength>,
 }
 
 /// A judge of rows.
@@ -103,7 +113,19 @@ impl Judge {
             told: Vec::new(self.alloc),
             texts: RowTexts::new(self.alloc),
             coverage: self.coverage()?,
+            strength: self.strength()?,
         })
+    }
+
+    /// How many older reads would be refused, where that is told.
+    fn strength(&self) -> Result<Option<Strength>, Stop> {
+        if !self.telling.tells_strength() {
+            return Ok(None);
+        }
+        match strength_of(self.alloc, &self.book) {
+            Ok(strength) => Ok(Some(strength)),
+            Err(NoMemory) => Err(Stop::NoMemory),
+        }
     }
 
     /// What of the model the rows have exercised, where that is told.
@@ -165,6 +187,7 @@ impl Judge {
             told,
             texts,
             coverage: None,
+            strength: None,
         })
     }
 
@@ -178,6 +201,7 @@ impl Judge {
             told,
             texts,
             coverage: None,
+            strength: None,
         })
     }
 }
@@ -245,6 +269,9 @@ pub(crate) fn write_judgement<W: Write>(
     write_report(alloc, out, judgement)?;
     if telling.form == Form::Explained {
         write_made(out, story(alloc, sources, outcome))?;
+    }
+    if let Some(strength) = judgement.strength {
+        writeln!(out, "strength: {strength}")?;
     }
     match (&judgement.coverage, telling.extent()) {
         (Some(coverage), Some(extent)) => write_made(out, coverage_text(alloc, coverage, extent)),

@@ -14,10 +14,11 @@
 //! - `translating`: the rows, record by record.
 //!
 //! It stands on `rv_logrows` for the rows, on `rv_book` and `rv_report` for the judgement, on
-//! `rv_explain` and `rv_picture` for what is said of a refusal, on `rv_coverage` and
-//! `rv_coverage_report` for what an allowed log has exercised, on the crates whose types these
-//! name, and on the kit's `csv` and `thiserror`. The rows are those that `rv_logrows` gives, and
-//! the judgement is the book's; no promise stands on how the program reads and writes.
+//! `rv_explain` and `rv_picture` for what is said of a refusal, on `rv_coverage`,
+//! `rv_coverage_report` and `rv_replay` for what an allowed log has exercised and tests, on the
+//! crates whose types these name, and on the kit's `csv` and `thiserror`. The rows are those that
+//! `rv_logrows` gives, and the judgement is the book's; no promise stands on how the program reads
+//! and writes.
 #![tactic(auto)]
 
 mod fault;

@@ -33,6 +33,8 @@ Usage: rvrows [WORD..] [LOG..]
   --svg             rvmon: prints a picture of the refusal in place of the report
   --coverage        rvmon: counts behind an allowed report what of the model the log has
                     exercised
+  --strength        rvmon: tells behind an allowed report how many loads could not have
+                    returned an older version
 
 A log is CSV: this header, and then a record for each instruction and store.
 
@@ -198,6 +200,7 @@ impl Words {
             telling: Telling {
                 form: Form::Text,
                 coverage: false,
+                strength: false,
             },
             files: Vec::new(alloc),
             places: None,
@@ -237,6 +240,7 @@ impl Words {
             "--log" => self.judges = true,
             "--svg" => self.telling.form = Form::Picture,
             "--coverage" => self.telling.coverage = true,
+            "--strength" => self.telling.strength = true,
             "--explain" => {
                 if self.telling.form == Form::Text {
                     self.telling.form = Form::Explained;

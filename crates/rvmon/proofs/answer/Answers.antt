@@ -38,6 +38,8 @@ returns-in-Ok-run_reading g c =
         sym (ap (λ (d : Dialect). d.end_record) c.dialect_of.ensures) ∙ (ran.complete some).0,
         (ran.complete some).1,
       );
+      strength = ran.strength;
+      tested = ran.tested;
     })
 
 pub returns : goal.returns

@@ -12,6 +12,7 @@ returns c =
     let svg = c.svg_arg.ensures in
     let coverage = c.coverage_arg.ensures in
     let complete = c.complete_arg.ensures in
+    let strength = c.strength_arg.ensures in
     let places = c.where_arg.ensures in
     let list = c.list_arg.ensures in
     let files = c.files_arg.ensures in
@@ -24,10 +25,11 @@ returns c =
     let seven = c.in_ok-arg-7.ensures.shape svg.local ∙ ap₂ with_rule six svg.rule in
     let eight = c.in_ok-arg-8.ensures.shape coverage.local ∙ ap₂ with_rule seven coverage.rule in
     let nine = c.in_ok-arg-9.ensures.shape complete.local ∙ ap₂ with_rule eight complete.rule in
-    let ten = c.in_ok-arg-10.ensures.shape places.local ∙ ap₂ with_rule nine places.rule in
-    let eleven = c.in_ok-arg-11.ensures.shape list.local ∙ ap₂ with_rule ten list.rule in
-    IfOk-weaker c.arg-12.result _ _ (λ r added. (
+    let ten = c.in_ok-arg-10.ensures.shape strength.local ∙ ap₂ with_rule nine strength.rule in
+    let eleven = c.in_ok-arg-11.ensures.shape places.local ∙ ap₂ with_rule ten places.rule in
+    let twelve = c.in_ok-arg-12.ensures.shape list.local ∙ ap₂ with_rule eleven list.rule in
+    IfOk-weaker c.arg-13.result _ _ (λ r added. (
       model.rule.0,
       model.rule.1,
-      added.shape files.local ∙ ap₂ with_rule eleven files.rule,
-    )) c.arg-12.ensures
+      added.shape files.local ∙ ap₂ with_rule twelve files.rule,
+    )) c.arg-13.ensures

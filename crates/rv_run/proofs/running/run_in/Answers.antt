@@ -2,10 +2,12 @@ use Rattle.rv_run.proofs.Common.{List, IfOk, IfErr, option_map, rules, subst, by
 use Rattle.rv_run.proofs.Common.{Fed, IfSome, IsAllowed}
 use Rattle.std.specs.Prelude.{IsTrue}
 use Rattle.std.proofs.lemmas.Result.{IfOk-weaker}
-use Rattle.rv_run.specs.Comparisons.{IsCoveredBy, LacksBy}
+use Rattle.rv_run.specs.Comparisons.{IsCoveredBy, IsTestedBy, LacksBy}
 use Rattle.rv_run.specs.Completeness.{Lacks}
 use Rattle.rv_run.proofs.Completeness.{readers-lack}
 use Rattle.rv_run.proofs.Outcomes.{IsAnswer, answer-true}
+use Rattle.rv_run.proofs.Strengths.{readers-tested}
+use Rattle.rv_run.specs.Strengths.{AreTested}
 use Rattle.rv_run.specs.Sources.{streams_in}
 use Rattle.rv_run.proofs.running.run_in.Goals as goal
 
@@ -31,7 +33,16 @@ returns g c =
     (told asked allowed))
     (subst (λ (fed : List Fed). IfOk c.judge-judged.result
     (λ j. IsTrue c.args.reading.dialect.end_record → IsAllowed j.outcome → LacksBy fed j.missing))
-    c.as_slice-fed.ensures.value c.judge-judged.ensures.lacks) in record {
+    c.as_slice-fed.ensures.value c.judge-judged.ensures.lacks) in
+    let strength : IfOk c.judge-judged.result (λ j. IfSome j.strength
+    (AreTested c.args.settings.model (streams_in c.args.reading.dialect g.R.Read.remaining c.args.readers.items))) =
+    IfOk-weaker c.judge-judged.result _ _ (λ j told.
+    readers-tested (λ r. option_map (bytes_say c.args.reading.dialect) (g.R.Read.remaining r)) c.args.readers.items
+    c.in_ok-driven.driven.fed.items (search rules) c.in_ok-driven.ensures.fed.0 c.in_ok-driven.ensures.fed.1
+    c.args.settings.model j.strength told)
+    (subst (λ (fed : List Fed). IfOk c.judge-judged.result
+    (λ j. IfSome j.strength (IsTestedBy c.args.settings.model fed)))
+    c.as_slice-fed.ensures.value c.judge-judged.ensures.strength) in record {
       allowed = answer.allowed;
       forbidden = answer.forbidden;
       malformed = answer.malformed;
@@ -40,6 +51,8 @@ returns g c =
       only = search rules;
       lacks = lacks;
       complete = search rules;
+      strength = strength;
+      tested = search rules;
       fault = answer.fault;
       settings = search rules;
     }

@@ -1,8 +1,8 @@
 -- What a pass refuses is not consistent.
-use Rattle.rv_run.proofs.Common.{arith, common_steps, ◌≡◌, ◌==◌, ◌↔◌, List, [], ◌∷◌, ◌++◌, sym, ◌∙◌, subst}
-use Rattle.rv_run.proofs.Common.{none-some, filter-append, events, Continues, Entry, MemoryModel}
-use Rattle.rv_run.proofs.Common.{no_longer_log, Outcome, Allowed, Forbidden, Malformed}
-use Rattle.rv_run.proofs.Common.{IsConsistent, IsReplayed, IsAllowed}
+use Rattle.rv_replay.proofs.Common.{arith, common_steps, ◌≡◌, ◌==◌, ◌↔◌, List, [], ◌∷◌, ◌++◌, sym, ◌∙◌, subst}
+use Rattle.rv_replay.proofs.Common.{none-some, filter-append, events, Continues, Entry, MemoryModel}
+use Rattle.rv_replay.proofs.Common.{no_longer_log, Outcome, Allowed, Forbidden, Malformed}
+use Rattle.rv_replay.proofs.Common.{IsConsistent, IsReplayed, IsAllowed}
 use Rattle.rv_event.specs.WellFormed.{entries_of}
 
 -- a list continues its beginning

@@ -1,6 +1,6 @@
 //! One pass over a list of entries.
 ghost use Rattle.std.specs.Prelude.{◌≡◌, [], IfOk, IsFalse};
-ghost use Rattle.rv_run.specs.Replays.{IsReplayed};
+ghost use Rattle.rv_replay.specs.Replays.{IsReplayed};
 
 use rv_book::{Book, Offer};
 use rv_event::{Entry, MemoryModel, NoMemory};

@@ -1,10 +1,10 @@
 -- A book that has taken the first entries of a list.
-use Rattle.rv_run.proofs.Common.{common_steps, rules, ◌≡◌, ℕ, ◌≤◌, ◌<◌, ◌+◌, List, [], ◌∷◌, ◌++◌, length, take}
-use Rattle.rv_run.proofs.Common.{drop, suc, get_or, IsFalse, inl, inr, sym, ap, ◌∙◌, subst, arith}
-use Rattle.rv_run.proofs.Common.{take-append-drop, drop-cons, take-length, length-take-le, take_all, cases_lt}
-use Rattle.rv_run.proofs.Common.{events, Lawful, WellFormed, Entry, MemoryModel, WellFormed-nil, WellFormed-push}
-use Rattle.rv_run.proofs.Common.{FaultyLog, Refusal, Booked, IsForbiddenOn, IsMalformedOn, IsTaken, IsConsistent}
-use Rattle.rv_run.proofs.Common.{Reaches, IsReplayed}
+use Rattle.rv_replay.proofs.Common.{common_steps, rules, ◌≡◌, ℕ, ◌≤◌, ◌<◌, ◌+◌, List, [], ◌∷◌, ◌++◌, length, take}
+use Rattle.rv_replay.proofs.Common.{drop, suc, get_or, IsFalse, inl, inr, sym, ap, ◌∙◌, subst, arith}
+use Rattle.rv_replay.proofs.Common.{take-append-drop, drop-cons, take-length, length-take-le, take_all, cases_lt}
+use Rattle.rv_replay.proofs.Common.{events, Lawful, WellFormed, Entry, MemoryModel, WellFormed-nil, WellFormed-push}
+use Rattle.rv_replay.proofs.Common.{FaultyLog, Refusal, Booked, IsForbiddenOn, IsMalformedOn, IsTaken, IsConsistent}
+use Rattle.rv_replay.proofs.Common.{Reaches, IsReplayed}
 use Rattle.rv_report.specs.declared.outcome.Outcome.TheVariants as outcome
 
 -- the book goes on, its log is the first entries, and each shorter beginning is consistent

@@ -1,8 +1,8 @@
-use Rattle.rv_run.proofs.Common.{common_steps, rules, List, length, ap, ◌∙◌, arith, Entry, operations_of}
-use Rattle.rv_run.proofs.Common.{waiting_of}
-use Rattle.rv_run.proofs.Passes.{replaying-begin, replaying-turn, replaying-malformed, replaying-forbidden}
-use Rattle.rv_run.proofs.Passes.{replaying-end}
-use Rattle.rv_run.proofs.replaying.pass.Goals as goal
+use Rattle.rv_replay.proofs.Common.{common_steps, rules, List, length, ap, ◌∙◌, arith, Entry, operations_of}
+use Rattle.rv_replay.proofs.Common.{waiting_of}
+use Rattle.rv_replay.proofs.Passes.{replaying-begin, replaying-turn, replaying-malformed, replaying-forbidden}
+use Rattle.rv_replay.proofs.Passes.{replaying-end}
+use Rattle.rv_replay.proofs.replaying.pass.Goals as goal
 
 pub loop-entry-init : goal.loop-entry-init
 loop-entry-init c = search (replaying-begin, rules)

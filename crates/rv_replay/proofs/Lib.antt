@@ -1,0 +1,4 @@
+pub mod Common
+pub mod Passes
+pub mod InconsistentRefusals
+pub mod Strengths

@@ -1,5 +1,0 @@
-use Rattle.rv_run.proofs.InconsistentRefusals.{exactly_allowed}
-use Rattle.rv_run.proofs.laws.allowed_where_consistent.Goals as goal
-
-pub returns : goal.returns
-returns c model entries outcome told = exactly_allowed model entries outcome told
