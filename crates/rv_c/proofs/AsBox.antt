@@ -1,0 +1,26 @@
+-- A slot with a value and its parts own what a box at the same types owns.
+use mir.Syntax.{impl, tnil, dnil}
+use mathlib.Core.List.{[]}
+use denote.Signature.{Slot, plain}
+use Rattle.std.proofs.BoxSteps.Form.{Bx}
+use Rattle.std.specs.contracts.alloc.Global as Heap
+use Rattle.std.specs.contracts.impls.GlobalAllocator.TheImpl.{ghosts, dict}
+use Rattle.std.proofs.alloc.Global.TheLaws as heap
+use Rattle.rv_monitor.specs.contracts.monitor.Monitor as Monitor
+use Rattle.rv_monitor.proofs.monitor.Monitor.TheLaws as monitor
+use Rattle.rv_c.specs.contracts.parts.Parts as Parts
+use Rattle.rv_c.specs.contracts.slot.Slot as Place
+
+abbrev pub E : Bx
+E = record {
+  row = Monitor.the_row;
+  laws = monitor.the_row_laws;
+  al = record
+      { row = Heap.the_row; laws = heap.the_row_laws; g = ghosts; d = dict; drops = impl [] tnil dnil };
+}
+
+abbrev pub FromParts : Slot 0
+FromParts = plain (λ _. Parts.the_row Monitor.the_row Heap.the_row ghosts)
+
+abbrev pub FromSlot : Slot 0
+FromSlot = plain (λ _. Place.the_row)
