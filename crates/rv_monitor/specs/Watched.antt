@@ -1,5 +1,5 @@
 -- A book that keeps its refusal, and what it tells of events that are offered one by one.
-use Rattle.std.specs.Prelude.{ℕ, ◌≡◌, List, [], Option, Some, None, IsTrue, length, true}
+use Rattle.std.specs.Prelude.{ℕ, ◌≡◌, List, [], Option, Some, None, IsFalse, IsTrue, length, true}
 use Rattle.rv_event.specs.declared.event.Entry.{Entry}
 use Rattle.rv_cert.specs.Refusals.{FaultyLog, Refusal}
 use Rattle.rv_book.specs.Booked.{Booked, IsForbiddenOn, IsMalformedOn, IsTaken}
@@ -22,15 +22,18 @@ pub record Watched : Type 0 where
 abbrev pub stopped_by : Watched → Outcome → Watched
 stopped_by w o = record { book = record w.book { stopped = true }; refusal = Some o }
 
--- what an answer tells of an event and of the monitor before and after
+-- what an answer tells of an event and of the monitor before and after; that it has stopped is told
+-- just where it had
 abbrev pub IsAnswered : Watched → Watched → Entry → Answer → Type 0
-IsAnswered old new x Accepted = IsTaken old.book new.book x × (new.refusal ≡ None)
+IsAnswered old new x Accepted = IsFalse old.book.stopped × IsTaken old.book new.book x × (new.refusal ≡ None)
 IsAnswered old new x Malformed =
-    (m : FaultyLog) × IsMalformedOn old.book.model old.book.log x m × (new ≡ stopped_by old (outcome.Malformed m))
+    IsFalse old.book.stopped × (m : FaultyLog) × IsMalformedOn old.book.model old.book.log x m
+    × (new ≡ stopped_by old (outcome.Malformed m))
 IsAnswered old new x Forbidden =
-    (f : Refusal) × IsForbiddenOn old.book.model old.book.log x f × (new ≡ stopped_by old (outcome.Forbidden f))
+    IsFalse old.book.stopped × (f : Refusal) × IsForbiddenOn old.book.model old.book.log x f
+    × (new ≡ stopped_by old (outcome.Forbidden f))
 IsAnswered old new x Stopped = IsTrue old.book.stopped × (new ≡ old)
-IsAnswered old new x NoMemory = new ≡ old
+IsAnswered old new x NoMemory = IsFalse old.book.stopped × (new ≡ old)
 
 -- what events come to: the refusal, or that all were accepted
 abbrev pub outcome_by : Booked → Option Outcome → Outcome
