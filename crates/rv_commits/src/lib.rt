@@ -25,8 +25,6 @@ mod made;
 mod owns;
 mod pending;
 mod queue;
-#[cfg(test)]
-mod tests;
 
 pub use awaited::{Awaited, Versions, awaited_by, versions_of};
 pub use hart::{HartRows, NewRows};

@@ -23,8 +23,6 @@ mod carriers;
 mod flow;
 mod laws;
 mod step;
-#[cfg(test)]
-mod tests;
 mod trace;
 mod unlisted;
 

@@ -39,8 +39,6 @@ mod mnemonics;
 mod operands;
 mod operation;
 mod roles;
-#[cfg(test)]
-mod tests;
 mod undecoded;
 mod unit;
 mod usage;

@@ -26,8 +26,6 @@ mod access;
 mod fault;
 mod number;
 mod record;
-#[cfg(test)]
-mod tests;
 
 pub use access::{Access, AccessKind, access_of};
 pub use fault::{Field, RecordFault};

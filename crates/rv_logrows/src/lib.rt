@@ -17,8 +17,6 @@ mod harts;
 mod laws;
 mod log;
 mod stored;
-#[cfg(test)]
-mod tests;
 
 pub use fault::LogFault;
 pub use harts::Harts;

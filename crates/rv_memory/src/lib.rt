@@ -15,8 +15,6 @@
 mod laws;
 mod reads;
 mod stores;
-#[cfg(test)]
-mod tests;
 mod words;
 
 pub use laws::loads_return_one_version;

@@ -3,6 +3,7 @@
 //! It has tests alone, and they call public functions alone. A crate with tests is proved twice, so
 //! they stand here in place of the crates that they test.
 //!
+//! - `rows`: sets, rows and the steps of a sweep, of `rv_rows`.
 //! - `event`: printed texts and copies of `rv_event`, chunk texts and refusals to pack of
 //!   `rv_chunk`.
 //! - `rank`: placements by the order keeper of `rv_rank`, some of them beside brute force.
@@ -18,5 +19,7 @@ mod event;
 mod hart;
 #[cfg(test)]
 mod rank;
+#[cfg(test)]
+mod rows;
 #[cfg(test)]
 mod versions;

@@ -19,8 +19,6 @@
 mod laws;
 mod row;
 mod rows;
-#[cfg(test)]
-mod tests;
 mod thinning;
 
 pub use laws::sweeps_thin;

@@ -18,8 +18,6 @@ mod held;
 mod index;
 mod issues;
 mod memory;
-#[cfg(test)]
-mod tests;
 
 pub use held::{Fit, Held};
 pub use index::{Found, Index};

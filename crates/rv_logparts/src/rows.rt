@@ -1,8 +1,7 @@
 //! Tests of what instructions make.
 ghost use Rattle.rv_commits.specs.Queues.{HasNumbers};
 
-use crate::hart::carrier_row;
-use crate::{
+use rv_commits::{
     Awaited, HartRows, Made, NewRows, Owns, Pending, Stage, ValueFault, Versions, Waiting,
     WaitingHart, awaited_by, made_by, versions_of, waiting_by,
 };
@@ -159,9 +158,8 @@ fn a_branch_on_nine_loads_has_two_rows(rt: HostRuntime) {
     let store = add_one(&rt, &mut hart, 0x00553023);
     assert!(rt; store.id.seq == 12 && store.deps.as_slice().len() == 2);
     let carrier = hart.trace.carriers().first().expect(&rt, "a carrier");
-    let row = carrier_row(rt.alloc(), 0, carrier).expect(&rt, "memory");
-    assert!(rt; row.id.seq == 11 && row.op == Op::Carrier);
-    assert!(rt; row.deps.as_slice().len() == 8 && has_dep(&row, DepKind::DataOf, 0));
+    assert!(rt; carrier.number == 11);
+    assert!(rt; carrier.list.parts.len() == 8 && carrier.list.parts.as_slice().contains(&0));
 }
 
 #[test]

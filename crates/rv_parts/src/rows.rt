@@ -2,7 +2,7 @@
 ghost use Rattle.std.specs.Prelude.{ℕ, ◌≡◌, ◌==◌};
 ghost use Rattle.rv_rows.specs.Bits.{has_bit};
 
-use super::*;
+use rv_rows::{Row, Rows, take_highest};
 use std::process::Abort;
 
 /// The row of the number 0, which nothing is below.

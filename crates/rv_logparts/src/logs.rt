@@ -1,11 +1,11 @@
 //! Tests of logs.
 ghost use Rattle.rv_logrows.specs.Harts.{AreHarts};
 
-use crate::{LogFault, LogRows, StoreId};
 use rv_commits::Stage;
 use rv_event::{Event, Op};
 use rv_insn::{Width, decode};
 use rv_log::{Performed, Retired, access_of};
+use rv_logrows::{LogFault, LogRows, StoreId};
 use rv_memory::{StoreFault, Word};
 use rv_values::{Index, Mismatch};
 use std::alloc::Global;

@@ -1,5 +1,5 @@
 //! Words that GNU binutils 2.40 disassembles so.
-use crate::{Insn, Operation, Undecoded, Width, decode};
+use rv_insn::{Insn, Operation, Undecoded, Width, decode};
 use std::process::Abort;
 
 /// The word at this width is the operation with these registers (rd, rs1, rs2) and this immediate.

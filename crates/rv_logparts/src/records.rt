@@ -1,9 +1,9 @@
 //! Records of a log, and what each says.
-use crate::{
-    Access, AccessKind, Before, Field, Performed, Record, RecordFault, Retired, record_of,
-};
 use csv::{ByteRecord, ReaderBuilder};
 use rv_insn::{Operation, Undecoded, Width};
+use rv_log::{
+    Access, AccessKind, Before, Field, Performed, Record, RecordFault, Retired, record_of,
+};
 use std::alloc::Global;
 use std::test::Fail;
 

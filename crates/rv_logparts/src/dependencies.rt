@@ -1,6 +1,6 @@
 //! Instructions in a row, and the events from which registers were computed. Their dependencies are
 //! those that the manual's section 14.1 ("Syntactic Dependencies") names in its prose.
-use crate::{Carrier, Flow, HartTrace, Step, Unlisted};
+use rv_flow::{Carrier, Flow, HartTrace, Step, Unlisted};
 use rv_insn::{Insn, Unit, Width, decode};
 use rv_rows::Row;
 use std::alloc::Global;
