@@ -1,0 +1,5 @@
+pub mod Bars
+pub mod Cuts
+pub mod Forward
+pub mod Joined
+pub mod Stays

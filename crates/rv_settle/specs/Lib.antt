@@ -1,0 +1,4 @@
+pub mod Bars
+pub mod Cuts
+pub mod Laws
+pub mod Settled

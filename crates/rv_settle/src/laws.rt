@@ -1,0 +1,26 @@
+//! Laws over the definitions alone. Each function does nothing: its contract is the law.
+ghost use Rattle.rv_settle.specs.Laws.{CutStays, NothingComesBeforeSettled, OrdersJoin, SettledStays};
+
+/// No lawful order has a new event of an active hart before a settled operation, under either
+/// model: where an edge leads from the one to the other, no order is lawful.
+pub fn nothing_comes_before_settled()
+    ensures { NothingComesBeforeSettled }
+{}
+
+/// A settled operation stays settled in every well formed log with one event more, under either
+/// model.
+pub fn settled_stays()
+    ensures { SettledStays }
+{}
+
+/// A cut stays one with one event more of an active hart, as long as some order is lawful, under
+/// either model.
+pub fn cut_stays()
+    ensures { CutStays }
+{}
+
+/// Where no pair of a well formed log is stale, any order of the past of a cut and any order of the
+/// rest, in which edges go forward, make a lawful order together, under either model.
+pub fn orders_join()
+    ensures { OrdersJoin }
+{}
