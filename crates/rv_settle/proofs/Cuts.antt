@@ -29,7 +29,7 @@ module _ (model : MemoryModel) (log : List Event) (e : Event) (known : Indexed l
       same_Some a p (sym here ∙ ap (named (log ++ e ∷ [])) same ∙ there)
 
   -- no old event has the new one's id
-  new-id : (p : Event) → Contains log p → p.id ≡ e.id → ⊥
+  pub new-id : (p : Event) → Contains log p → p.id ≡ e.id → ⊥
   new-id p c same =
       let earlier = earlier-new model log e known sound p c (ap (λ (i : Id). i.hart) same) in
       let low = earlier.seq in

@@ -1,5 +1,5 @@
 -- What the definitions say of events to come.
-use Rattle.std.specs.Prelude.{◌++◌, ◌∷◌, [], Bool, Contains, List, ℕ}
+use Rattle.std.specs.Prelude.{◌++◌, ◌∷◌, ◌↔◌, [], Bool, Contains, IsTrue, List, ℕ}
 use Rattle.rv_event.specs.Edges.{IsEdge}
 use Rattle.rv_event.specs.Log.{events}
 use Rattle.rv_event.specs.Orders.{Lawful}
@@ -11,7 +11,8 @@ use Rattle.rv_event.specs.declared.memory_model.MemoryModel.{MemoryModel}
 use Rattle.rv_event.specs.declared.reason.Reason.{Reason}
 use Rattle.rv_cert.specs.Laws.{NoneStale}
 use Rattle.rv_settle.specs.Cuts.{GoesForward, IsCut, IsParted}
-use Rattle.rv_settle.specs.Settled.{IsSettled}
+use Rattle.rv_settle.specs.Past.{ComesBeforePast}
+use Rattle.rv_settle.specs.Settled.{AnyEdge, IsSettled}
 
 -- where an edge leads from a new event of an active hart to a settled one, no order is lawful
 abbrev pub NothingComesBeforeSettled : Type 0
@@ -46,3 +47,11 @@ OrdersJoin =
     IsParted (events log) past first rest →
     GoesForward model (events log) first → GoesForward model (events log) rest →
     Lawful model (events log) (first ++ rest)
+
+-- an edge leads from a new event into the past exactly where the versions tell so
+abbrev pub PastIsSeen : Type 0
+PastIsSeen =
+    (model : MemoryModel) (log : List Entry) (x : Entry) (active : List ℕ) (past : Event → Bool) →
+    WellFormed (log ++ x ∷ []) → IsCut model (events log) active past →
+    ((p : Event) × IsTrue (past p) × AnyEdge model (events (log ++ x ∷ [])) x.event.id p.id)
+    ↔ ComesBeforePast (events (log ++ x ∷ [])) past x.event

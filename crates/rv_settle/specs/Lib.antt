@@ -1,4 +1,5 @@
 pub mod Bars
 pub mod Cuts
 pub mod Laws
+pub mod Past
 pub mod Settled

@@ -1,5 +1,5 @@
 //! Laws over the definitions alone. Each function does nothing: its contract is the law.
-ghost use Rattle.rv_settle.specs.Laws.{CutStays, NothingComesBeforeSettled, OrdersJoin, SettledStays};
+ghost use Rattle.rv_settle.specs.Laws.{CutStays, NothingComesBeforeSettled, OrdersJoin, PastIsSeen, SettledStays};
 
 /// No lawful order has a new event of an active hart before a settled operation, under either
 /// model: where an edge leads from the one to the other, no order is lawful.
@@ -23,4 +23,10 @@ pub fn cut_stays()
 /// rest, in which edges go forward, make a lawful order together, under either model.
 pub fn orders_join()
     ensures { OrdersJoin }
+{}
+
+/// An edge leads from a new event into the past of a cut exactly where the versions of the past
+/// tell so, under either model.
+pub fn past_is_seen()
+    ensures { PastIsSeen }
 {}

@@ -7,11 +7,11 @@
 //!
 //! - `laws`: what the definitions say.
 //! - `specs/`: operations that stand before what comes (`Bars`), settled operations (`Settled`),
-//!   what may be forgotten (`Cuts`), the laws (`Laws`).
+//!   what may be forgotten (`Cuts`), how an event can come before it (`Past`), the laws (`Laws`).
 //!
 //! It stands on `rv_event`, `rv_cert` and `rv_cover`, and has no code but the laws.
 #![tactic(auto)]
 
 mod laws;
 
-pub use laws::{cut_stays, nothing_comes_before_settled, orders_join, settled_stays};
+pub use laws::{cut_stays, nothing_comes_before_settled, orders_join, past_is_seen, settled_stays};
