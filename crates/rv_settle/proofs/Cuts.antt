@@ -36,9 +36,17 @@ module _ (model : MemoryModel) (log : List Event) (e : Event) (known : Indexed l
       let equal = ap (λ (i : Id). i.seq) same in
       omega (arith, low, equal)
 
-  module _ (active : List ℕ) (past : Event → Bool) (order : List Id)
-      (is_active : Contains active e.id.hart) (cut : IsCut model log active past)
-      (lawful : Lawful model (log ++ e ∷ []) order) where
+  module _ (active : List ℕ) (past : Event → Bool) (cut : IsCut model log active past) where
+    -- while some order is lawful, no edge leads from a new event of an active hart into the past
+    pub none-back : (order : List Id) → Contains active e.id.hart → Lawful model (log ++ e ∷ []) order →
+        (p : Event) (reason : Reason) → IsTrue (past p) → IsEdge model (log ++ e ∷ []) e.id reason p.id → ⊥
+    none-back order is_active lawful p reason gone edge =
+        let there : named (log ++ e ∷ []) p.id ≡ Some p =
+        (indexed-push log e known sound).own p (Contains-append_left log (e ∷ []) p (cut.of_log p gone)) in
+        let memory : IsMemory p =
+        subst IsMemory (same_Some edge.b p (sym edge.to_named ∙ there)) edge.to_memory in
+        no_way_back model log e known sound order lawful p reason (cut.settled p gone memory e.id.hart is_active) edge
+
     -- what is earlier than the past is past: the new event is not
     begins : (a p : Event) → Contains log a ⊎ (e ≡ a) → IsTrue (past p) → Earlier a p → IsTrue (past a)
     begins a p (inl c) gone earlier = cut.begins a p c gone earlier
@@ -47,30 +55,27 @@ module _ (model : MemoryModel) (log : List Event) (e : Event) (known : Indexed l
         let to_new = earlier-new model log e known sound p (cut.of_log p gone) (sym from_new.hart) in
         absurd (omega (arith, from_new.seq, to_new.seq))
 
-    -- an edge into the past is an old one
-    closed : (a p : Event) (reason : Reason) → Contains (log ++ e ∷ []) a → IsTrue (past p) →
-        IsEdge model (log ++ e ∷ []) a.id reason p.id →
-        IsEdge model log a.id reason p.id ⊎ ((a.id ≡ e.id) ⊎ (p.id ≡ e.id)) → IsTrue (past a)
-    closed a p reason c gone edge (inl old) =
-        let from = named-is log a.id old.a old.from_named in
-        let is : a ≡ old.a = same-old a old.a c from.0 from.1 in
-        cut.closed a p (subst (Contains log) (sym is) from.0) gone (reason, old)
-    closed a p reason c gone edge (inr (inl same)) =
-        let there = cut.of_log p gone in
-        let memory : IsMemory p = subst IsMemory (same_Some edge.b p (sym edge.to_named ∙
-        (indexed-push log e known sound).own p (Contains-append_left log (e ∷ []) p there))) edge.to_memory in
-        absurd (no_way_back model log e known sound order lawful p reason
-        (cut.settled p gone memory e.id.hart is_active)
-        (subst (λ (i : Id). IsEdge model (log ++ e ∷ []) i reason p.id) same edge))
-    closed a p reason c gone edge (inr (inr same)) = absurd (new-id p (cut.of_log p gone) same)
+    module _ (none : (p : Event) (reason : Reason) → IsTrue (past p) →
+        IsEdge model (log ++ e ∷ []) e.id reason p.id → ⊥) where
+      -- an edge into the past is an old one
+      closed : (a p : Event) (reason : Reason) → Contains (log ++ e ∷ []) a → IsTrue (past p) →
+          IsEdge model (log ++ e ∷ []) a.id reason p.id →
+          IsEdge model log a.id reason p.id ⊎ ((a.id ≡ e.id) ⊎ (p.id ≡ e.id)) → IsTrue (past a)
+      closed a p reason c gone edge (inl old) =
+          let from = named-is log a.id old.a old.from_named in
+          let is : a ≡ old.a = same-old a old.a c from.0 from.1 in
+          cut.closed a p (subst (Contains log) (sym is) from.0) gone (reason, old)
+      closed a p reason c gone edge (inr (inl same)) =
+          absurd (none p reason gone (subst (λ (i : Id). IsEdge model (log ++ e ∷ []) i reason p.id) same edge))
+      closed a p reason c gone edge (inr (inr same)) = absurd (new-id p (cut.of_log p gone) same)
 
-    -- a cut of the log is one of the longer log
-    pub cut-stays : IsCut model (log ++ e ∷ []) active past
-    cut-stays = record {
-      of_log = λ p gone. Contains-append_left log (e ∷ []) p (cut.of_log p gone);
-      begins = λ a p c gone earlier. begins a p (Contains-push_cases log e a c) gone earlier;
-      closed = λ a p c gone edge. closed a p edge.0 c gone edge.1
-          (edge-push model log e known sound a.id p.id edge.0 edge.1);
-      settled = λ p gone memory hart is.
-          settled-stays model log e known sound hart p (cut.settled p gone memory hart is);
-    }
+      -- a cut of the log is one of the longer log
+      pub cut-stays : IsCut model (log ++ e ∷ []) active past
+      cut-stays = record {
+        of_log = λ p gone. Contains-append_left log (e ∷ []) p (cut.of_log p gone);
+        begins = λ a p c gone earlier. begins a p (Contains-push_cases log e a c) gone earlier;
+        closed = λ a p c gone edge. closed a p edge.0 c gone edge.1
+            (edge-push model log e known sound a.id p.id edge.0 edge.1);
+        settled = λ p gone memory hart is.
+            settled-stays model log e known sound hart p (cut.settled p gone memory hart is);
+      }

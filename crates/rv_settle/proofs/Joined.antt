@@ -43,7 +43,7 @@ place-rest (x ∷ xs) ys i none =
     go false e again = omega (arith, again)
 
 -- no test both passes and fails
-not-both : (b : Bool) → IsTrue b → IsFalse b → ⊥
+pub not-both : (b : Bool) → IsTrue b → IsFalse b → ⊥
 not-both b passes fails = grind (arith, common_steps)
 
 module _ (model : MemoryModel) (log : List Event) (active : List ℕ) (past : Event → Bool) (first rest : List Id)

@@ -1,5 +1,6 @@
 -- What a monitor may forget. These are this project's own.
-use Rattle.std.specs.Prelude.{◌≡◌, ◌<◌, ◌++◌, Bool, Contains, IsFalse, IsTrue, List, Some, ℕ}
+use Rattle.std.specs.Prelude.{AllPairs, ◌≢◌, ◌≡◌, ◌<◌, ◌++◌, Bool, Contains, IsFalse, IsTrue, List}
+use Rattle.std.specs.Prelude.{Some, ℕ}
 use Rattle.rv_event.specs.Edges.{IsEdge}
 use Rattle.rv_event.specs.Log.{Earlier, named}
 use Rattle.rv_event.specs.Operations.{IsMemory}
@@ -29,3 +30,11 @@ pub record IsParted (log : List Event) (past : Event → Bool) (first rest : Lis
   pub is_order : IsOrderOf log (first ++ rest)
   pub gone : (i : Id) (a : Event) → Contains first i → named log i ≡ Some a → IsTrue (past a)
   pub kept : (i : Id) (a : Event) → Contains rest i → named log i ≡ Some a → IsFalse (past a)
+
+-- the list has each operation that is kept, once, and nothing else
+pub record IsOrderOfKept (log : List Event) (past : Event → Bool) (order : List Id) : Type 0 where
+  pub each :
+      (i : Id) (a : Event) → named log i ≡ Some a → IsMemory a → IsFalse (past a) → Contains order i
+  pub nothing_else :
+      (i : Id) → Contains order i → (a : Event) × (named log i ≡ Some a) × IsMemory a × IsFalse (past a)
+  pub once : AllPairs (λ i j. i ≢ j) order

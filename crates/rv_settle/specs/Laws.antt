@@ -10,7 +10,7 @@ use Rattle.rv_event.specs.declared.event.Id.{Id}
 use Rattle.rv_event.specs.declared.memory_model.MemoryModel.{MemoryModel}
 use Rattle.rv_event.specs.declared.reason.Reason.{Reason}
 use Rattle.rv_cert.specs.Laws.{NoneStale}
-use Rattle.rv_settle.specs.Cuts.{GoesForward, IsCut, IsParted}
+use Rattle.rv_settle.specs.Cuts.{GoesForward, IsCut, IsOrderOfKept, IsParted}
 use Rattle.rv_settle.specs.Past.{ComesBeforePast}
 use Rattle.rv_settle.specs.Settled.{AnyEdge, IsSettled}
 
@@ -55,3 +55,17 @@ PastIsSeen =
     WellFormed (log ++ x ∷ []) → IsCut model (events log) active past →
     ((p : Event) × IsTrue (past p) × AnyEdge model (events (log ++ x ∷ [])) x.event.id p.id)
     ↔ ComesBeforePast (events (log ++ x ∷ [])) past x.event
+
+-- Where some order was lawful before a new event of an active hart, some is with it exactly where no
+-- pair is stale, the event does not come before the past, and the operations that are kept have an
+-- order in which edges go forward. So what is kept decides, with the versions of the past.
+abbrev pub KeptDecides : Type 0
+KeptDecides =
+    (model : MemoryModel) (log : List Entry) (x : Entry) (active : List ℕ) (past : Event → Bool)
+    (before : List Id) →
+    WellFormed (log ++ x ∷ []) → Contains active x.event.id.hart → IsCut model (events log) active past →
+    Lawful model (events log) before →
+    ((order : List Id) × Lawful model (events (log ++ x ∷ [])) order)
+    ↔ (NoneStale (events (log ++ x ∷ [])) × (ComesBeforePast (events (log ++ x ∷ [])) past x.event → ⊥)
+    × ((rest : List Id) × IsOrderOfKept (events (log ++ x ∷ [])) past rest
+    × GoesForward model (events (log ++ x ∷ [])) rest))

@@ -1,5 +1,6 @@
 //! Laws over the definitions alone. Each function does nothing: its contract is the law.
-ghost use Rattle.rv_settle.specs.Laws.{CutStays, NothingComesBeforeSettled, OrdersJoin, PastIsSeen, SettledStays};
+ghost use Rattle.rv_settle.specs.Laws.{CutStays, KeptDecides, NothingComesBeforeSettled, OrdersJoin};
+ghost use Rattle.rv_settle.specs.Laws.{PastIsSeen, SettledStays};
 
 /// No lawful order has a new event of an active hart before a settled operation, under either
 /// model: where an edge leads from the one to the other, no order is lawful.
@@ -29,4 +30,10 @@ pub fn orders_join()
 /// tell so, under either model.
 pub fn past_is_seen()
     ensures { PastIsSeen }
+{}
+
+/// Where some order was lawful before a new event of an active hart, whether one is with it is told
+/// by what is kept and by the versions of the past, under either model.
+pub fn kept_decides()
+    ensures { KeptDecides }
 {}

@@ -14,4 +14,6 @@
 
 mod laws;
 
-pub use laws::{cut_stays, nothing_comes_before_settled, orders_join, past_is_seen, settled_stays};
+pub use laws::{
+    cut_stays, kept_decides, nothing_comes_before_settled, orders_join, past_is_seen, settled_stays,
+};
