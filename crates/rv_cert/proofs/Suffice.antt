@@ -1,6 +1,6 @@
 -- An order in which every edge goes forward is lawful, where no pair is stale.
 use Rattle.rv_event.specs.declared.memory_model.MemoryModel.{MemoryModel}
-use Rattle.std.proofs.Common.{◌≡◌, ◌<◌, ◌≤◌, List, Contains, Some, ◌⊎◌, inl, inr, sym, ap, arith}
+use Rattle.std.proofs.Common.{ℕ, ◌≡◌, ◌<◌, ◌≤◌, List, Contains, Some, ◌⊎◌, inl, inr, sym, ap, arith}
 use Rattle.std.proofs.lemmas.Bool.{cases_lt, or_left, or_right}
 use Rattle.rv_event.specs.Log.{writer, Earlier}
 use Rattle.rv_event.specs.Operations.{is_load, is_store, IsLoad, IsStore, IsMemory}
@@ -8,7 +8,7 @@ use Rattle.rv_event.specs.Relations.{Paired}
 use Rattle.rv_event.specs.Orders.{place, Before, Lawful, IsOrderOf, Candidate, IsAtomic}
 use Rattle.rv_event.specs.Edges.{HasReason, IsStale}
 use Rattle.rv_event.proofs.Names.{IsWriterOf, writer-is, earlier_cases}
-use Rattle.rv_event.proofs.Indexed.{Indexed}
+use Rattle.rv_event.proofs.Indexed.{IndexedWithin}
 use Rattle.rv_event.specs.declared.event.Id.{Id}
 use Rattle.rv_event.specs.declared.event.Event.{Event}
 use Rattle.rv_event.specs.declared.reason.Reason.{Reason}
@@ -22,7 +22,7 @@ load_is_memory e l = or_left (is_load e.op) (is_store e.op) l
 store_is_memory : (e : Event) → IsStore e → IsMemory e
 store_is_memory e s = or_right (is_load e.op) (is_store e.op) s
 
-module _ (model : MemoryModel) (log : List Event) (order : List Id) (known : Indexed log)
+module _ {limit : ℕ} (model : MemoryModel) (log : List Event) (order : List Id) (known : IndexedWithin limit log)
     (none_stale : (load store : Id) → IsStale log load store → ⊥) (forward : EdgesGoForward model log order) where
   goes_forward : (a b : Event) → Contains log a → Contains log b → IsMemory a → IsMemory b → (reason : Reason) →
       HasReason model log reason a b → Before order a b

@@ -3,48 +3,37 @@ use Rattle.rv_event.proofs.Common.{common_steps, ◌≡◌, ℕ, ◌<◌, Bool, 
 use Rattle.rv_event.proofs.Common.{List, [], ◌∷◌, ◌++◌, length, get_or, Contains, filter, find, Some}
 use Rattle.rv_event.proofs.Common.{◌⊎◌, inl, inr, refl, sym, ap, ◌∙◌, subst, arith, append_assoc, append-nil}
 use Rattle.rv_event.proofs.Common.{none-some, same_Some, is_store, IsStore, same_id, named, of_hart}
-use Rattle.rv_event.proofs.Common.{writer, events, WellFormed, Id, Event, Entry}
-use Rattle.rv_event.proofs.Names.{Contains-cons, Contains-here, Contains-there, named-is, same_id-refl}
+use Rattle.rv_event.proofs.Common.{writer, events, WellFormedWithin, Id, Event, Entry}
+use Rattle.rv_event.proofs.Names.{Contains-cons, named-is, same_id-refl}
 use Rattle.rv_event.proofs.Names.{writer-is}
 use Rattle.rv_event.proofs.Growing.{Grows, named-of_hart, All-from_contains}
 use Rattle.std.proofs.Common.{length-append, eq-eqb}
 use Rattle.std.proofs.lemmas.List.{get_or_append_left}
 use Rattle.std.proofs.lemmas.List.Elements.{All-contains, All-filter, Contains-append_left}
-use Rattle.rv_event.proofs.Indexed.{Indexed, Sound, AllSound, all_sound, find-append_some, writer-above}
+use Rattle.rv_event.proofs.Indexed.{IndexedWithin, SoundWithin, AllSoundWithin, all_sound, find-append_some, writer-above}
 use Rattle.rv_event.proofs.Indexed.{wrote-own}
+use Rattle.rv_event.proofs.Merged.{Contains-filter}
 
 -- each hart's events stand at their numbers
 abbrev pub Numbered : List Event → Type 0
 Numbered log = (h k : ℕ) (d : Event) → k < length (of_hart h log) → (get_or (of_hart h log) k d).id.seq ≡ k
 
-numbered-push : (log : List Event) (e : Event) → Numbered log → Sound log e → Numbered (log ++ e ∷ [])
+numbered-push : {limit : ℕ} (log : List Event) (e : Event) → Numbered log → SoundWithin limit log e →
+    Numbered (log ++ e ∷ [])
 numbered-push log e numbered sound h k d low = grind (arith, common_steps)
 
-numbered-all : (before rest : List Event) → Numbered before → AllSound before rest → Numbered (before ++ rest)
-numbered-all before [] numbered all = rw append-nil numbered
-numbered-all before (e ∷ rest) numbered all =
+numbered-all : (limit : ℕ) (before rest : List Event) → Numbered before → AllSoundWithin limit before rest →
+    Numbered (before ++ rest)
+numbered-all limit before [] numbered all = rw append-nil numbered
+numbered-all limit before (e ∷ rest) numbered all =
     let more : Numbered ((before ++ e ∷ []) ++ rest) =
-    numbered-all (before ++ e ∷ []) rest (numbered-push before e numbered all.0) all.1 in
+    numbered-all limit (before ++ e ∷ []) rest (numbered-push before e numbered all.0) all.1 in
     subst Numbered (append_assoc before (e ∷ []) rest) more
 
--- those of a well formed log do
-pub numbered_from_WellFormed : (log : List Entry) → WellFormed log → Numbered (events log)
-numbered_from_WellFormed log ok = numbered-all [] (events log) (λ h k d low. absurd (omega (arith, low)))
-    (all_sound log [] log ok refl)
-
--- what passes the test is among what was filtered
-Contains-filter : {X : Type 0} (p : X → Bool) (xs : List X) (x : X) → Contains xs x → p x ≡ true →
-    Contains (filter p xs) x
-Contains-filter p [] x (k, low, is) passes = absurd (omega (arith, low))
-Contains-filter {X} p (y ∷ ys) x c passes =
-    go (p y) refl (Contains-cons y ys x c) (λ more. Contains-filter p ys x more passes)
-  where
-    go : (b : Bool) → p y ≡ b → (y ≡ x) ⊎ Contains ys x → (Contains ys x → Contains (filter p ys) x) →
-        Contains (cond b (y ∷ filter p ys) (filter p ys)) x
-    go true e (inl same) again = Contains-here y (filter p ys) x same
-    go true e (inr more) again = Contains-there y (filter p ys) x (again more)
-    go false e (inl same) again = absurd (cc)
-    go false e (inr more) again = again more
+-- those of a well formed log do, however many events a hart may have
+pub numbered_within : (limit : ℕ) (log : List Entry) → WellFormedWithin limit log → Numbered (events log)
+numbered_within limit log ok = numbered-all limit [] (events log) (λ h k d low. absurd (omega (arith, low)))
+    (all_sound limit log [] log ok refl)
 
 -- an element that passes the test is found, or one before it
 find-some : {X : Type 0} (p : X → Bool) (xs : List X) (x : X) → Contains xs x → p x ≡ true →
@@ -70,7 +59,8 @@ of_log h log a c =
 of_own : (log : List Event) (a : Event) → Contains log a → Contains (of_hart a.id.hart log) a
 of_own log a c = Contains-filter (λ (x : Event). a.id.hart == x.id.hart) log a c (eq-eqb a.id.hart a.id.hart refl)
 
-module _ (old new : List Event) (grows : Grows old new) (known : Indexed new) (numbered : Numbered new) where
+module _ {limit : ℕ} (old new : List Event) (grows : Grows old new) (known : IndexedWithin limit new)
+    (numbered : Numbered new) where
   in-new : (a : Event) → Contains old a → Contains new a
   in-new a c = let g = grows a.id.hart in
       of_log a.id.hart new a (subst (λ (es : List Event). Contains es a) (sym g.1)
@@ -140,7 +130,7 @@ module _ (old new : List Event) (grows : Grows old new) (known : Indexed new) (n
       first ∙ sym again ∙ whole
 
   -- the log is indexed too
-  pub indexed-beginning : Indexed old
+  pub indexed-beginning : IndexedWithin limit old
   indexed-beginning = record {
     own = own-old;
     below = below-old;

@@ -3,7 +3,8 @@ pub use Rattle.rv_event.specs.Annotations.{IsAcquire, IsRcsc, IsRelease}
 pub use Rattle.rv_event.specs.Contexts.{IsContext, faults_in, taken_in}
 pub use Rattle.rv_event.specs.Edges.{HasReason, IsEdge, IsStale}
 pub use Rattle.rv_event.specs.Faults.{dependency_fault, deps_fault, event_fault, expected, fault_of, first_faults}
-pub use Rattle.rv_event.specs.Faults.{is_reserved, lowest, reservation_fault, source_fault, taken_fault}
+pub use Rattle.rv_event.specs.Faults.{fault_within, first_faults_within, is_reserved, lowest, reservation_fault}
+pub use Rattle.rv_event.specs.Faults.{source_fault, taken_fault}
 pub use Rattle.rv_event.specs.Log.{Between, Earlier, did_write, events, named, of_hart, same_id, writer}
 pub use Rattle.rv_event.specs.Merges.{SameSources}
 pub use Rattle.rv_event.specs.Operations.{IsStore, is_exclusive, is_store}
@@ -15,7 +16,7 @@ pub use Rattle.rv_event.specs.Preserved.{control, data_of, different_reads, fenc
 pub use Rattle.rv_event.specs.Preserved.{reads_atomic_write, reads_dependent_write}
 pub use Rattle.rv_event.specs.Relations.{Behind, ControlDependsOn, DependsOn, Fenced, IsCarrier, Lists, Paired}
 pub use Rattle.rv_event.specs.Relations.{fence_orders}
-pub use Rattle.rv_event.specs.WellFormed.{Continues, WellFormed, entries_of}
+pub use Rattle.rv_event.specs.WellFormed.{Continues, WellFormed, WellFormedWithin, entries_of}
 pub use Rattle.rv_event.specs.declared.context.Context.{Context}
 pub use Rattle.rv_event.specs.declared.event.Dep.{Dep}
 pub use Rattle.rv_event.specs.declared.event.DepKind.TheVariants.{Addr, Ctrl, DataOf}

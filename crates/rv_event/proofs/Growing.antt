@@ -13,7 +13,7 @@ use Rattle.rv_event.proofs.Common.{inl, inr, Addr, Behind, Ctrl, DataOf, Depends
 use Rattle.rv_event.specs.Relations.{listed, through}
 use Rattle.rv_event.specs.declared.event.DepKind.{DepKind}
 use Rattle.rv_event.proofs.Names.{named-is, writer-is}
-use Rattle.rv_event.proofs.Indexed.{Indexed, find-append_some}
+use Rattle.rv_event.proofs.Indexed.{IndexedWithin, find-append_some}
 
 -- a search looks only where its test can pass
 pub find-filter : {X : Type 0} (p q : X → Bool) → ((x : X) → p x ≡ true → q x ≡ true) → (xs : List X) →
@@ -80,8 +80,8 @@ Any-from_contains P xs x (k, l, e) p = (k, x, l, e, p)
 pub All-from_contains : {X : Type 0} (P : X → Type 0) (xs : List X) → ((x : X) → Contains xs x → P x) → All P xs
 All-from_contains P xs each k d l = each (slice_index_or xs k d) (Contains-get_or xs k d l)
 
-module _ (model : MemoryModel) (old new : List Event) (grows : Grows old new) (known : Indexed old)
-    (known' : Indexed new) where
+module _ {limit : ℕ} (model : MemoryModel) (old new : List Event) (grows : Grows old new)
+    (known : IndexedWithin limit old) (known' : IndexedWithin limit new) where
   -- the old events stay
   pub Contains-grows : (e : Event) → Contains old e → Contains new e
   Contains-grows e c = (named-is new e.id e (named-grows old new grows e.id e (known.own e c))).0
@@ -116,7 +116,7 @@ module _ (model : MemoryModel) (old new : List Event) (grows : Grows old new) (k
   Any-grows-by P Q map any =
       let f = Any-contains P old any in Any-from_contains Q new f.0 (Contains-grows f.0 f.1) (map f.0 f.2)
 
-  DependsOn-grows : (kind : DepKind) (e a : Event) → DependsOn old kind e a → DependsOn new kind e a
+  pub DependsOn-grows : (kind : DepKind) (e a : Event) → DependsOn old kind e a → DependsOn new kind e a
   DependsOn-grows kind e a (inl l) = inl l
   DependsOn-grows kind e a (inr any) =
       inr (Any-grows-by (λ m. Lists kind e m × Behind old m a) (λ m. Lists kind e m × Behind new m a)

@@ -1,6 +1,7 @@
 -- A well formed log with one more entry.
 use Rattle.rv_event.proofs.Common.{common_steps, rules, ◌≡◌, List, [], ◌∷◌, ◌++◌, length, ◌⊎◌, inl, inr, refl, ap}
-use Rattle.rv_event.proofs.Common.{arith, None, length-append, fault_of, WellFormed, Entry}
+use Rattle.rv_event.proofs.Common.{arith, None, length-append, fault_of, fault_within, WellFormed, WellFormedWithin}
+use Rattle.rv_event.proofs.Common.{ℕ, Entry}
 
 -- a list with one more at its end is cut at that one, or before it
 pub split_push : {X : Type 0} (xs : List X) (x : X) (before after : List X) (y : X) → xs ++ x ∷ [] ≡ before ++ y ∷
@@ -27,9 +28,19 @@ pub WellFormed-push : (log : List Entry) (x : Entry) → WellFormed log → faul
     WellFormed (log ++ x ∷ [])
 WellFormed-push log x ok none before after y e = search (split_push, rules)
 
+-- so is the beginning of one, however many events a hart may have
+pub within-front : (limit : ℕ) (log more : List Entry) → WellFormedWithin limit (log ++ more) →
+    WellFormedWithin limit log
+within-front limit log more ok before after x e = grind (arith, common_steps)
+
+-- and its last entry has no fault
+pub within-last : (limit : ℕ) (log : List Entry) (x : Entry) → WellFormedWithin limit (log ++ x ∷ []) →
+    fault_within limit log x ≡ None
+within-last limit log x ok = ok log [] x refl
+
 -- the beginning of a well formed log is well formed
 pub WellFormed-front : (log more : List Entry) → WellFormed (log ++ more) → WellFormed log
-WellFormed-front log more ok before after x e = grind (arith, common_steps)
+WellFormed-front log more ok = within-front 4096 log more ok
 
 -- and its last entry has no fault
 pub WellFormed-last : (log : List Entry) (x : Entry) → WellFormed (log ++ x ∷ []) → fault_of log x ≡ None

@@ -13,12 +13,12 @@ use Rattle.rv_event.proofs.Common.{Behind, DataOf, Lists}
 use Rattle.rv_event.specs.Relations.{listed, through}
 use Rattle.rv_event.specs.declared.event.DepKind.{DepKind}
 use Rattle.rv_event.proofs.Names.{named-is, writer-is}
-use Rattle.rv_event.proofs.Indexed.{Indexed, Sound, indexed-push}
+use Rattle.rv_event.proofs.Indexed.{IndexedWithin, SoundWithin, indexed-push}
 use Rattle.rv_event.proofs.Growing.{Grows, Any-contains, Any-from_contains, All-from_contains, Contains-grows}
 use Rattle.rv_event.proofs.Growing.{earlier_old}
 
-module _ (model : MemoryModel) (old new : List Event) (grows : Grows old new) (known : Indexed old)
-    (known' : Indexed new) where
+module _ {limit : ℕ} (model : MemoryModel) (old new : List Event) (grows : Grows old new)
+    (known : IndexedWithin limit old) (known' : IndexedWithin limit new) where
   Any-settled : (b : Event) → Contains old b → (P : Event → Type 0) → ((m : Event) → P m → Earlier m b) →
       Any P new → Any P old
   Any-settled b cb P early any = search (Any-contains, Any-from_contains, earlier_old, rules)
@@ -152,7 +152,8 @@ pub grows-push : (log : List Event) (e : Event) → Grows log (log ++ e ∷ [])
 grows-push log e hart = (of_hart hart (e ∷ []), filter-append (λ (x : Event). hart == x.id.hart) log (e ∷ []))
 
 -- each edge of the grown log is an old one, or has the new event at an end
-pub edge-push : (model : MemoryModel) (log : List Event) (e : Event) → Indexed log → Sound log e →
+pub edge-push : {limit : ℕ} (model : MemoryModel) (log : List Event) (e : Event) → IndexedWithin limit log →
+    SoundWithin limit log e →
     (i j : Id) (reason : Reason) → IsEdge model (log ++ e ∷ []) i reason j → IsEdge model log i reason j ⊎
     ((i ≡ e.id) ⊎ (j ≡ e.id))
 edge-push model log e known sound i j reason edge =

@@ -1,4 +1,5 @@
--- What is wrong with an entry over the entries before it. The faults are this project's own.
+-- What is wrong with an entry over the entries before it. The faults are this project's own. How many
+-- events a hart may have is a parameter; this project's logs have at most 4,096 of a hart.
 use Rattle.std.specs.Prelude.{ℕ, Bool, true, false, not, ◌&&◌, ◌||◌, ◌==◌, ◌++◌, nat_lt, nat_le, List, []}
 use Rattle.std.specs.Prelude.{◌∷◌, reverse, find, length, Option, None, Some, option_map, unwrap_or}
 use Rattle.std.specs.Prelude.{if◌then◌else◌}
@@ -105,9 +106,9 @@ taken_fault log e =
 abbrev pub reservation_fault : List Event → Event → Option Fault
 reservation_fault log e = fault_if (is_sc e.op && not (is_reserved log e.id.hart)) NoReservation
 
--- 7: the hart has 4,096 events
-abbrev pub full_fault : List Event → Event → Option Fault
-full_fault log e = fault_if (nat_le 4096 (expected log e)) Full
+-- 7: the hart has as many events as it may have
+abbrev pub full_fault : ℕ → List Event → Event → Option Fault
+full_fault limit log e = fault_if (nat_le limit (expected log e)) Full
 
 -- 8: an event of its hart came from another source
 abbrev pub source_fault : List Entry → Entry → Option Fault
@@ -119,16 +120,20 @@ abbrev pub deps_fault : Event → Option Fault
 deps_fault e = fault_if (nat_lt 8 (length e.deps)) TooManyDeps
 
 -- the faults that look at events alone, up to a full hart
-abbrev pub first_faults : List Event → Event → List (Option Fault)
-first_faults log e =
+abbrev pub first_faults_within : ℕ → List Event → Event → List (Option Fault)
+first_faults_within limit log e =
     hart_fault e
     ∷ sequence_fault log e
     ∷ dependency_fault log e
     ∷ zero_fault e
     ∷ taken_fault log e
     ∷ reservation_fault log e
-    ∷ full_fault log e
+    ∷ full_fault limit log e
     ∷ []
+
+-- those where a hart may have 4,096 events
+abbrev pub first_faults : List Event → Event → List (Option Fault)
+first_faults log e = first_faults_within 4096 log e
 
 -- the first that holds
 abbrev pub lowest : List (Option Fault) → Option Fault
@@ -140,7 +145,11 @@ lowest (None ∷ rest) = lowest rest
 abbrev pub event_fault : List Event → Event → Option Fault
 event_fault log e = lowest (first_faults log e ++ deps_fault e ∷ [])
 
--- the fault of an entry over a log
+-- the fault of an entry over a log, where a hart may have so many events
+abbrev pub fault_within : ℕ → List Entry → Entry → Option Fault
+fault_within limit log x =
+    lowest (first_faults_within limit (events log) x.event ++ source_fault log x ∷ deps_fault x.event ∷ [])
+
+-- the same, where it may have 4,096
 abbrev pub fault_of : List Entry → Entry → Option Fault
-fault_of log x =
-    lowest (first_faults (events log) x.event ++ source_fault log x ∷ deps_fault x.event ∷ [])
+fault_of log x = fault_within 4096 log x

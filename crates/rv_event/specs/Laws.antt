@@ -1,9 +1,9 @@
 -- What the definitions say of one another.
-use Rattle.std.specs.Prelude.{◌≡◌, ◌≢◌, ◌≤◌, ◌⊎◌, ◌↔◌, ◌++◌, List, [], ◌∷◌, length, All}
+use Rattle.std.specs.Prelude.{ℕ, ◌≡◌, ◌≢◌, ◌≤◌, ◌⊎◌, ◌↔◌, ◌++◌, List, [], ◌∷◌, length, All}
 use Rattle.rv_event.specs.Log.{events}
 use Rattle.rv_event.specs.Orders.{Lawful}
 use Rattle.rv_event.specs.Edges.{IsEdge}
-use Rattle.rv_event.specs.WellFormed.{WellFormed, Continues}
+use Rattle.rv_event.specs.WellFormed.{WellFormed, WellFormedWithin, Continues}
 use Rattle.rv_event.specs.Merges.{SameSources}
 use Rattle.rv_event.specs.Relations.{DependsOn, Lists}
 use Rattle.rv_event.specs.declared.event.DepKind.{DepKind}
@@ -28,18 +28,19 @@ MergesShareOrders =
 abbrev pub LogsAreBounded : Type 0
 LogsAreBounded = (log : List Entry) → WellFormed log → length log ≤ 65536
 
--- an edge stays one in every well formed log that goes on
+-- an edge stays one in every well formed log that goes on, however many events a hart may have
 abbrev pub EdgesStay : Type 0
 EdgesStay =
-    (model : MemoryModel) (log longer : List Entry) (i j : Id) (reason : Reason) →
-    WellFormed log → WellFormed longer → Continues log longer →
+    (limit : ℕ) (model : MemoryModel) (log longer : List Entry) (i j : Id) (reason : Reason) →
+    WellFormedWithin limit log → WellFormedWithin limit longer → Continues log longer →
     IsEdge model (events log) i reason j → IsEdge model (events longer) i reason j
 
--- an edge of a log with one entry more is an edge of the log, or has the new event at an end
+-- an edge of a log with one entry more is an edge of the log, or has the new event at an end, however
+-- many events a hart may have
 abbrev pub NewEdgesEndAtTheNewEvent : Type 0
 NewEdgesEndAtTheNewEvent =
-    (model : MemoryModel) (log : List Entry) (x : Entry) (i j : Id) (reason : Reason) →
-    WellFormed (log ++ x ∷ []) → IsEdge model (events (log ++ x ∷ [])) i reason j →
+    (limit : ℕ) (model : MemoryModel) (log : List Entry) (x : Entry) (i j : Id) (reason : Reason) →
+    WellFormedWithin limit (log ++ x ∷ []) → IsEdge model (events (log ++ x ∷ [])) i reason j →
     IsEdge model (events log) i reason j ⊎ ((i ≡ x.event.id) ⊎ (j ≡ x.event.id))
 
 -- in a log without carriers a dependency is one that an event lists

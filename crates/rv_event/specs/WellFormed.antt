@@ -1,12 +1,17 @@
 -- Logs in which nothing is wrong, and logs that go on. These are this project's own.
 use Rattle.std.specs.Prelude.{ℕ, ◌==◌, ◌≡◌, ◌++◌, List, ◌∷◌, filter, None}
-use Rattle.rv_event.specs.Faults.{event_fault, fault_of}
+use Rattle.rv_event.specs.Faults.{event_fault, fault_within}
 use Rattle.rv_event.specs.declared.event.Event.{Event}
 use Rattle.rv_event.specs.declared.event.Entry.{Entry}
 
--- no entry has a fault over the entries before it
+-- no entry has a fault over the entries before it, where a hart may have so many events
+abbrev pub WellFormedWithin : ℕ → List Entry → Type 0
+WellFormedWithin limit log =
+    (before after : List Entry) (x : Entry) → log ≡ before ++ x ∷ after → fault_within limit before x ≡ None
+
+-- no entry has a fault, where a hart may have 4,096 events
 abbrev pub WellFormed : List Entry → Type 0
-WellFormed log = (before after : List Entry) (x : Entry) → log ≡ before ++ x ∷ after → fault_of before x ≡ None
+WellFormed log = WellFormedWithin 4096 log
 
 -- no event has a fault over the events before it
 abbrev pub WellFormedEvents : List Event → Type 0

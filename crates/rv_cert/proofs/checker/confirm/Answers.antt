@@ -1,5 +1,4 @@
 -- A certificate of a well formed log leaves no lawful order, for it and for what continues it.
-use Rattle.std.proofs.Common.{◌∙◌, sym}
 use Rattle.rv_event.specs.Log.{events}
 use Rattle.rv_cert.proofs.Final.{final_from_refusal}
 use Rattle.rv_cert.proofs.Forward.{no_certificate}
