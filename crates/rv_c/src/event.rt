@@ -97,7 +97,7 @@ fn deps_of(alloc: Global, deps: &[RvmonDep]) -> Result<Deps, Reply>
     ensures deps { IfOk result (λ made. map dep_of deps.now ≡ map Some made) }
     ensures reason { IfErr result (AreUnwritten deps.now) }
 {
-    let mut made = Vec::new(alloc);
+    let mut made = Deps::new(alloc);
     'deps: for dep in deps {
         let Some(dep) = dep_of(*dep) else {
             return Err(Reply::UnknownDependency);
@@ -106,7 +106,7 @@ fn deps_of(alloc: Global, deps: &[RvmonDep]) -> Result<Deps, Reply>
             return Err(Reply::NoMemory);
         }
     }
-    Ok(Deps::from_vec(made))
+    Ok(made)
 }
 
 /// The entry that the numbers say, or why they say none.

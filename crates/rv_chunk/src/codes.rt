@@ -264,14 +264,14 @@ pub fn rewritten_words(words: &[u64]) -> [u64; 7]
 fn read_deps(alloc: Global, halves: &[u32; 8]) -> Result<Deps, NoMemory>
     ensures { IfOk result (λ d. d ≡ deps_of halves.now) }
 {
-    let mut items = Vec::new(alloc);
+    let mut deps = Deps::new(alloc);
     for half in halves {
         if *half == 0 {
             break;
         }
-        items.push(dep_of(*half))?;
+        deps.push(dep_of(*half))?;
     }
-    Ok(Deps::from_vec(items))
+    Ok(deps)
 }
 
 /// The event that seven words say.

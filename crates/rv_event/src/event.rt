@@ -1,5 +1,5 @@
 //! Events of a hart, as a trace records them.
-ghost use Rattle.std.specs.Prelude.{◌≡◌, ◌↔◌, IfOk, IsTrue, Some};
+ghost use Rattle.std.specs.Prelude.{◌≡◌, ◌↔◌, ◌++◌, ◌∷◌, [], IfOk, IsTrue, OnErr, OnOk, Some};
 ghost use Rattle.rv_event.specs.Operations.{IsLoad, IsStore, IsMemory};
 ghost use Rattle.rv_event.specs.Texts.{id_text};
 
@@ -159,6 +159,15 @@ impl PartialEq for Deps {
 }
 
 impl Deps {
+    /// No dependencies. It takes no memory; the allocator serves the calls to come.
+    pub fn new(alloc: Global) -> Self
+        ensures { result ≡ [] }
+    {
+        Deps {
+            items: Vec::new(alloc),
+        }
+    }
+
     /// Takes a vector over. It takes no memory.
     pub fn from_vec(items: Vec<Dep>) -> Self
         ensures { result ≡ items.items }
@@ -166,12 +175,27 @@ impl Deps {
         Deps { items }
     }
 
-    /// Gives the vector back. It takes no memory.
-    pub fn into_vec(self) -> Vec<Dep>
-        ensures { result.items ≡ self }
+    /// Adds a dependency at the end.
+    ///
+    /// # Errors
+    /// `NoMemory` where there is no room; the dependencies stay as they are.
+    pub fn push(&mut self, dep: Dep) -> Result<(), NoMemory>
+        ensures pushed { OnOk result (self.new ≡ self.old ++ dep ∷ []) }
+        ensures unchanged { OnErr result (self.new ≡ self.old) }
     {
-        let Deps { items } = self;
-        items
+        self.items.push(dep)?;
+        Ok(())
+    }
+
+    /// Equal dependencies.
+    ///
+    /// # Errors
+    /// `NoMemory` where there is no room; the dependencies stay as they are.
+    pub fn copy(&self, alloc: Global) -> Result<Deps, NoMemory>
+        ensures { IfOk result (λ deps. deps ≡ self.now) }
+    {
+        let items = Vec::from_slice(alloc, self.as_slice())?;
+        Ok(Deps { items })
     }
 
     /// The dependencies, in order.
@@ -232,7 +256,7 @@ impl Event {
     pub fn copy(&self, alloc: Global) -> Result<Event, NoMemory>
         ensures { IfOk result (λ e. e ≡ self.now) }
     {
-        let items = Vec::from_slice(alloc, self.deps.as_slice())?;
+        let deps = self.deps.copy(alloc)?;
         Ok(Event {
             id: self.id,
             op: self.op,
@@ -241,7 +265,7 @@ impl Event {
             wrote: self.wrote,
             acquire: self.acquire,
             release: self.release,
-            deps: Deps::from_vec(items),
+            deps,
         })
     }
 }

@@ -63,14 +63,14 @@ fn each_of(alloc: Global, columns: Columns, text: &[u8]) -> Result<Deps, FaultKi
     ensures small { IfOk result AreSmall }
     ensures count { IfOk result (λ ds. length ds ≡ length (parts text.now)) }
 {
-    let mut list = Vec::new(alloc);
+    let mut deps = Deps::new(alloc);
     for part in text.split(|b| *b == b' ') {
         let dep = dependency_of(columns, part)?;
-        if list.push(dep).is_err() {
+        if deps.push(dep).is_err() {
             return Err(FaultKind::NoMemory);
         }
     }
-    Ok(Deps::from_vec(list))
+    Ok(deps)
 }
 
 /// What the field of the dependencies says: none where it is blank, else one to eight.
@@ -83,7 +83,7 @@ pub fn dependencies_of(alloc: Global, columns: Columns, text: &[u8]) -> Result<D
     ensures few { IfOk result (λ ds. length ds ≤ MAX_DEPS) }
 {
     if text.is_empty() {
-        return Ok(Deps::from_vec(Vec::new(alloc)));
+        return Ok(Deps::new(alloc));
     }
     if count_of_parts(text) > MAX_DEPS {
         return Err(FaultKind::TooManyDeps);

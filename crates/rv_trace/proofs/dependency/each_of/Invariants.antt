@@ -6,8 +6,8 @@ use Rattle.rv_trace.proofs.dependency.each_of.Given as goal
 
 abbrev pub invariant-loop-part : goal.invariant-loop-part
 invariant-loop-part l = record {
-  said : with_front l.list.items (each_dependency l.columns (drop (length l.yielded) (parts l.text))) ≡
+  said : with_front l.deps (each_dependency l.columns (drop (length l.yielded) (parts l.text))) ≡
       each_dependency l.columns (parts l.text);
-  count : length l.list.items ≡ length l.yielded;
-  small : AreSmall l.list.items;
+  count : length l.deps ≡ length l.yielded;
+  small : AreSmall l.deps;
 }
