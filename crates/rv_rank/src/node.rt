@@ -2,8 +2,12 @@
 ghost use Rattle.std.specs.Prelude.{◌≡◌, ◌<◌, ◌≤◌, ◌+◌, ◌*◌, ◌++◌, [], ◌∷◌, length, max, IfOk, OnOk, OnErr};
 ghost use Rattle.rv_rank.specs.Rows.{degree, row_of, other};
 
+use smallvec::SmallVec;
 use std::alloc::{AllocError, Global};
 use std::marker::Model;
+
+/// How many neighbours a node has room for without an allocation.
+const INLINE: usize = 6;
 
 /// A side of a node: the nodes that an edge leads from, or those that one leads to.
 #[derive(Clone, Copy, Debug)]
@@ -17,13 +21,13 @@ pub(crate) enum Side {
 /// Contracts see the two rows, and how many neighbours there is room for.
 #[derive(Drop)]
 pub(crate) struct Node {
-    neighbours: Vec<u32>,
+    neighbours: SmallVec<u32, INLINE>,
     /// How many of the neighbours are predecessors.
     split: usize,
 }
 
 impl Model for Node {
-    ghost use Rattle.std.specs.Prelude.{◌≤◌, take, drop, length, vec_capacity};
+    ghost use Rattle.std.specs.Prelude.{◌≤◌, take, drop, length};
     ghost use Rattle.rv_rank.specs.Rows.{Neighbours};
 
     ghost Value = { Neighbours };
@@ -31,21 +35,24 @@ impl Model for Node {
     ghost view = { λ n. record {
       incoming = take n.split n.neighbours.items;
       outgoing = drop n.split n.neighbours.items;
-      room = vec_capacity n.neighbours;
+      room = n.neighbours.capacity;
     } };
 
     ghost invariant = { λ n. n.split ≤ length n.neighbours.items };
 }
 
 impl Node {
-    /// A node with its neighbours. It has room for twice as many, and for four at least. The only
-    /// error is out of memory.
+    /// A node with its neighbours. It has room for six, or for twice its neighbours where these are
+    /// more than six. The only error is out of memory.
     pub(crate) fn new(alloc: Global, preds: &[u32], succs: &[u32]) -> Result<Self, AllocError>
         ensures incoming { IfOk result (λ n. n.incoming ≡ preds.now) }
         ensures outgoing { IfOk result (λ n. n.outgoing ≡ succs.now) }
     {
         let count = preds.len() + succs.len();
-        let mut neighbours = Vec::with_capacity(alloc, (2 * count).max(4))?;
+        let mut neighbours = SmallVec::new(alloc);
+        if count > INLINE {
+            neighbours.reserve_exact(2 * count)?;
+        }
         neighbours.extend_from_slice(preds)?;
         neighbours.extend_from_slice(succs)?;
         Ok(Node {
@@ -58,14 +65,14 @@ impl Node {
     pub(crate) fn incoming(&self) -> &[u32]
         ensures { result.now ≡ self.now.incoming }
     {
-        &self.neighbours[..self.split]
+        &self.neighbours.as_slice()[..self.split]
     }
 
     /// The nodes that an edge leads to.
     pub(crate) fn outgoing(&self) -> &[u32]
         ensures { result.now ≡ self.now.outgoing }
     {
-        &self.neighbours[self.split..]
+        &self.neighbours.as_slice()[self.split..]
     }
 
     /// Makes room for so many neighbours more. A list that lacks it becomes twice as long, or as
@@ -104,8 +111,9 @@ impl Node {
     {
         match side {
             Side::Incoming => {
+                let successors = self.neighbours.len() - self.split;
                 self.neighbours.insert(self.split, node).unwrap();
-                self.split += 1;
+                self.split = self.neighbours.len() - successors;
             }
             Side::Outgoing => self.neighbours.push(node).unwrap(),
         }

@@ -3,14 +3,14 @@
 //! # Memory
 //!
 //! An order keeper takes at most 80 bytes a node and 16 an edge, both directions together and the
-//! allocator's own aside. A node has 48 bytes: 32 for its list and the count of its predecessors
-//! here, two places of 4 in the list of visits, and a place of 4 in either table of the order. A
-//! full table grows by a quarter and one, so it has room for at most five quarters of its items and
-//! one more, and the 48 bytes become 60. An edge has 4 bytes in the list of either end. A list has
-//! room for at most twice its neighbours, which makes the 8 bytes 16, or for four, which are 16
-//! bytes more a node: so it begins, and a full one becomes twice as long. The list of a successor
-//! becomes so where it has room for one alone, since a successor may be a predecessor too. Where
-//! one call names an edge twice, both mentions count.
+//! allocator's own aside. A node has 64 bytes: 48 for its list, which has six neighbours in place,
+//! and the count of its predecessors here, two places of 4 in the list of visits, and a place of 4
+//! in either table of the order. A full table grows by a quarter and one, so it has room for at
+//! most five quarters of its items and one more, and the 64 bytes become 80. An edge has 4 bytes in
+//! the list of either end. A list of more than six neighbours lies outside of its node, and a full
+//! one becomes twice as long, which makes the 8 bytes 16. The list of a successor becomes so where
+//! it has room for one alone, since a successor may be a predecessor too. Where one call names an
+//! edge twice, both mentions count.
 //!
 //! Beyond this are some 200 bytes for each keeper, room that a refused placement made in vain, and,
 //! until a call returns, the marks of a placement with successors, 8 bytes for each rank from the
