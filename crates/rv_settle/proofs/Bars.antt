@@ -1,19 +1,20 @@
 -- An operation that stands before what comes is ordered before a new event by a rule.
-use Rattle.std.proofs.Common.{◌≡◌, ◌++◌, ◌∷◌, ◌∙◌, ◌<◌, [], Any, Contains, IsTrue, List, arith, inl}
-use Rattle.std.proofs.Common.{inr, length, refl, subst}
+use Rattle.std.proofs.Common.{◌≡◌, ◌++◌, ◌∷◌, ◌∙◌, ◌<◌, [], Any, Contains, IsTrue, List, arith}
+use Rattle.std.proofs.Common.{length, refl, subst}
 use Rattle.std.proofs.Common.{sym, ℕ}
 use Rattle.std.proofs.lemmas.Grind.{common_steps}
 use Rattle.std.proofs.lemmas.List.Elements.{Contains-append_left, Contains-append_right}
 use Rattle.rv_cover.specs.Paths.{AnyRule}
-use Rattle.rv_event.proofs.Growing.{Any-contains, Any-from_contains}
-use Rattle.rv_event.proofs.Indexed.{Indexed, Sound}
+use Rattle.rv_event.proofs.Growing.{Any-contains, Any-from_contains, DependsOn-grows}
+use Rattle.rv_event.proofs.Indexed.{IndexedWithin, SoundWithin, indexed-push}
 use Rattle.rv_event.proofs.Names.{Contains-here}
+use Rattle.rv_event.proofs.Settled.{grows-push}
 use Rattle.rv_event.specs.Annotations.{IsRelease}
 use Rattle.rv_event.specs.Log.{Between, Earlier, of_hart}
 use Rattle.rv_event.specs.Operations.{IsLoad, IsMemory, IsStore, is_load, is_store}
 use Rattle.rv_event.specs.Preserved.{Condition, after_acquire, after_dependent_address}
 use Rattle.rv_event.specs.Preserved.{before_release, control, fenced}
-use Rattle.rv_event.specs.Relations.{Behind, DependsOn, Lists, fence_orders, listed, through}
+use Rattle.rv_event.specs.Relations.{DependsOn, fence_orders}
 use Rattle.rv_event.specs.declared.event.DepKind.{DepKind}
 use Rattle.rv_event.specs.declared.event.DepKind.TheVariants.{Addr, Ctrl}
 use Rattle.rv_event.specs.declared.event.Event.{Event}
@@ -38,27 +39,19 @@ store-releases : (e : Event) → IsStore e → IsRelease Ztso e
 store-releases e store = grind (arith, common_steps)
 
 module _ (log more : List Event) where
-  -- what is behind a carrier stays behind it in a longer log
-  Behind-longer : (c a : Event) → Behind log c a → Behind (log ++ more) c a
-  Behind-longer c a (listed is l) = listed is l
-  Behind-longer c a (through {m = m} is cm l rest) =
-      through is (Contains-append_left log more m cm) l (Behind-longer m a rest)
-
-  -- a dependency stays one
-  pub DependsOn-longer : (kind : DepKind) (e a : Event) → DependsOn log kind e a → DependsOn (log ++ more) kind e a
-  DependsOn-longer kind e a (inl l) = inl l
-  DependsOn-longer kind e a (inr any) =
-      let f = Any-contains (λ m. Lists kind e m × Behind log m a) log any in
-      inr (Any-from_contains (λ m. Lists kind e m × Behind (log ++ more) m a) (log ++ more) f.0
-      (Contains-append_left log more f.0 f.1) (f.2.0, Behind-longer f.0 a f.2.1))
-
   -- what holds of an event of the log holds of one of the longer log
   pub Any-longer : (P Q : Event → Type 0) → ((f : Event) → Contains log f → P f → Q f) → Any P log → Any Q (log ++ more)
   Any-longer P Q map any =
       let f = Any-contains P log any in
       Any-from_contains Q (log ++ more) f.0 (Contains-append_left log more f.0 f.1) (map f.0 f.1 f.2)
 
-module _ (model : MemoryModel) (log : List Event) (e : Event) (known : Indexed log) (sound : Sound log e) where
+module _ {limit : ℕ} (model : MemoryModel) (log : List Event) (e : Event) (known : IndexedWithin limit log)
+    (sound : SoundWithin limit log e) where
+  -- a dependency stays one
+  pub depends : (kind : DepKind) (f m : Event) → DependsOn log kind f m → DependsOn (log ++ e ∷ []) kind f m
+  depends kind f m d =
+      DependsOn-grows model log (log ++ e ∷ []) (grows-push log e) known (indexed-push log e known sound) kind f m d
+
   -- each event of its hart is earlier than the new event
   pub earlier-new : (a : Event) → Contains log a → a.id.hart ≡ e.id.hart → Earlier a e
   earlier-new a c own = record {
@@ -115,7 +108,7 @@ module _ (model : MemoryModel) (log : List Event) (e : Event) (known : Indexed l
       (λ f cf p. (
         record { after = p.0; before = earlier-new f cf (sym p.0.hart ∙ own) },
         p.1,
-        DependsOn-longer log (e ∷ []) Ctrl f m p.2,
+        depends Ctrl f m p.2,
       )) any))
   before-store m c memory own is store (addressed any) =
       ordered m c memory own is 13 (after_dependent_address (record {
@@ -125,7 +118,7 @@ module _ (model : MemoryModel) (log : List Event) (e : Event) (known : Indexed l
             (λ f. Between m f e × DependsOn (log ++ e ∷ []) Addr f m)
             (λ f cf p. (
               record { after = p.0; before = earlier-new f cf (sym p.0.hart ∙ own) },
-              DependsOn-longer log (e ∷ []) Addr f m p.1,
+              depends Addr f m p.1,
             )) any;
       }))
   before-store m c memory own is store (released ztso) = ordered m c memory own is 6 (before_release

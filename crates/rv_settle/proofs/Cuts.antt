@@ -3,7 +3,7 @@ use Rattle.std.proofs.Common.{◌++◌, ◌∷◌, ◌≡◌, ◌⊎◌, ◌∙�
 use Rattle.std.proofs.Common.{arith, inl, inr, subst, sym, ℕ}
 use Rattle.std.proofs.lemmas.List.Elements.{Contains-append_left, Contains-push_cases}
 use Rattle.std.proofs.lemmas.Option.{same_Some}
-use Rattle.rv_event.proofs.Indexed.{Indexed, Sound, indexed-push}
+use Rattle.rv_event.proofs.Indexed.{IndexedWithin, SoundWithin, indexed-push}
 use Rattle.rv_event.proofs.Names.{named-is}
 use Rattle.rv_event.proofs.Settled.{edge-push}
 use Rattle.rv_event.specs.Edges.{IsEdge}
@@ -19,7 +19,8 @@ use Rattle.rv_settle.proofs.Forward.{no_way_back}
 use Rattle.rv_settle.proofs.Stays.{settled-stays}
 use Rattle.rv_settle.specs.Cuts.{IsCut}
 
-module _ (model : MemoryModel) (log : List Event) (e : Event) (known : Indexed log) (sound : Sound log e) where
+module _ {limit : ℕ} (model : MemoryModel) (log : List Event) (e : Event) (known : IndexedWithin limit log)
+    (sound : SoundWithin limit log e) where
   -- an event of the longer log with the id of an old one is that
   same-old : (a p : Event) → Contains (log ++ e ∷ []) a → Contains log p → a.id ≡ p.id → a ≡ p
   same-old a p ca cp same =

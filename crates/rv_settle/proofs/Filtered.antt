@@ -11,26 +11,12 @@ use Rattle.std.proofs.lemmas.List.Elements.{Contains-append_cases}
 use Rattle.std.proofs.lemmas.List.Elements.{filter_passes}
 use Rattle.std.proofs.lemmas.List.Kept.{AllPairs-cons}
 use Rattle.rv_event.proofs.Growing.{All-from_contains}
-use Rattle.rv_event.proofs.Names.{Contains-cons, Contains-here, Contains-there, same_id-true}
+use Rattle.rv_event.proofs.Names.{Contains-here, Contains-there, same_id-true}
 use Rattle.rv_event.specs.Log.{same_id}
 use Rattle.rv_event.specs.Orders.{place}
 use Rattle.rv_event.specs.declared.event.Id.{Id}
 
--- an element that passes the test stays
-pub filter-keeps : {X : Type 0} (p : X → Bool) (xs : List X) (x : X) → Contains xs x → p x ≡ true →
-    Contains (filter p xs) x
-filter-keeps p [] x (k, low, is) passes = absurd (omega (arith, low))
-filter-keeps {X} p (y ∷ ys) x c passes =
-    go (p y) refl (Contains-cons y ys x c) (λ more. filter-keeps p ys x more passes)
-  where
-    go : (b : Bool) → p y ≡ b → (y ≡ x) ⊎ Contains ys x → (Contains ys x → Contains (filter p ys) x) →
-        Contains (cond b (y ∷ filter p ys) (filter p ys)) x
-    go true e (inl same) again = Contains-here y (filter p ys) x same
-    go true e (inr more) again = Contains-there y (filter p ys) x (again more)
-    go false e (inl same) again = absurd (cc)
-    go false e (inr more) again = again more
-
--- and what stays was there, and passes
+-- what a filter keeps was there, and passes
 pub filter-kept : {X : Type 0} (p : X → Bool) (xs : List X) (x : X) → Contains (filter p xs) x →
     Contains xs x × (p x ≡ true)
 filter-kept p xs x c = (

@@ -1,12 +1,12 @@
 -- Whatever comes before a settled operation would come before itself.
-use Rattle.std.proofs.Common.{◌++◌, ◌∷◌, ◌≡◌, ◌⊎◌, ◌<◌, ◌≤◌, [], Contains, List, arith, inl, inr}
+use Rattle.std.proofs.Common.{ℕ, ◌++◌, ◌∷◌, ◌≡◌, ◌⊎◌, ◌<◌, ◌≤◌, [], Contains, List, arith, inl, inr}
 use Rattle.std.proofs.Common.{refl, subst, sym}
 use Rattle.std.proofs.Common.{rules, ◌∙◌, Some}
 use Rattle.std.proofs.lemmas.Option.{same_Some}
 use Rattle.std.proofs.lemmas.List.Elements.{Contains-append_left, Contains-append_right}
 use Rattle.rv_cert.proofs.Forward.{edge-forward}
 use Rattle.rv_cover.specs.Paths.{AnyRule, Path, more, one}
-use Rattle.rv_event.proofs.Indexed.{Indexed, Sound, indexed-push}
+use Rattle.rv_event.proofs.Indexed.{IndexedWithin, SoundWithin, indexed-push}
 use Rattle.rv_event.proofs.Names.{Contains-here}
 use Rattle.rv_event.specs.Edges.{IsEdge}
 use Rattle.rv_event.specs.Log.{named}
@@ -41,12 +41,13 @@ module _ (model : MemoryModel) (log : List Event) (order : List Id) (lawful : La
   leads-forward p m (inl same) = rw same (omega arith)
   leads-forward p m (inr path) = let before = path-forward p.id m.id path in omega arith
 
-module _ (model : MemoryModel) (log : List Event) (e : Event) (known : Indexed log) (sound : Sound log e)
+module _ {limit : ℕ} (model : MemoryModel) (log : List Event) (e : Event) (known : IndexedWithin limit log)
+    (sound : SoundWithin limit log e)
     (order : List Id) (lawful : Lawful model (log ++ e ∷ []) order) where
   new : List Event
   new = log ++ e ∷ []
 
-  known' : Indexed new
+  known' : IndexedWithin limit new
   unfolding new
   known' = indexed-push log e known sound
 

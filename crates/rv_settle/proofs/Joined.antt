@@ -5,7 +5,7 @@ use Rattle.std.proofs.Common.{inl, inr, length, refl, subst, suc, sym, true, ◌
 use Rattle.std.proofs.lemmas.Bool.{false≢true}
 use Rattle.std.proofs.lemmas.Grind.{common_steps}
 use Rattle.std.proofs.lemmas.List.Elements.{Contains-append_cases}
-use Rattle.rv_event.proofs.Indexed.{Indexed}
+use Rattle.rv_event.proofs.Indexed.{IndexedWithin}
 use Rattle.rv_event.proofs.Names.{Contains-cons, Contains-here, Contains-there, named-is}
 use Rattle.rv_event.proofs.Names.{same_id-refl, same_id-true}
 use Rattle.rv_event.specs.Edges.{IsEdge}
@@ -46,8 +46,9 @@ place-rest (x ∷ xs) ys i none =
 pub not-both : (b : Bool) → IsTrue b → IsFalse b → ⊥
 not-both b passes fails = grind (arith, common_steps)
 
-module _ (model : MemoryModel) (log : List Event) (active : List ℕ) (past : Event → Bool) (first rest : List Id)
-    (known : Indexed log) (cut : IsCut model log active past) (parts : IsParted log past first rest)
+module _ {limit : ℕ} (model : MemoryModel) (log : List Event) (active : List ℕ) (past : Event → Bool)
+    (first rest : List Id) (known : IndexedWithin limit log) (cut : IsCut model log active past)
+    (parts : IsParted log past first rest)
     (first_forward : GoesForward model log first) (rest_forward : GoesForward model log rest) where
   -- an operation that is kept is not of the first list
   apart : (i : Id) (a : Event) → named log i ≡ Some a → Contains rest i → Contains first i → ⊥

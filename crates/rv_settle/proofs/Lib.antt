@@ -1,8 +1,10 @@
 pub mod Bars
 pub mod Cuts
+pub mod Decided
 pub mod Filtered
 pub mod Forward
 pub mod Joined
 pub mod Kept
 pub mod Seen
 pub mod Stays
+pub mod Windows

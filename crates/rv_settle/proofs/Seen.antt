@@ -5,7 +5,7 @@ use Rattle.std.proofs.lemmas.Grind.{common_steps}
 use Rattle.std.proofs.lemmas.List.Elements.{Contains-append_left, Contains-append_right}
 use Rattle.std.proofs.lemmas.List.Elements.{Contains-push_cases}
 use Rattle.std.proofs.lemmas.Option.{same_Some}
-use Rattle.rv_event.proofs.Indexed.{Indexed, Sound, indexed-push}
+use Rattle.rv_event.proofs.Indexed.{IndexedWithin, SoundWithin, indexed-push}
 use Rattle.rv_event.proofs.Names.{Contains-here, writer-is}
 use Rattle.rv_event.specs.Edges.{HasReason}
 use Rattle.rv_event.specs.Log.{Earlier}
@@ -37,7 +37,8 @@ lr-load log lr sc pair = rw pair.is_lr
 sc-store : (log : List Event) (lr sc : Event) → Paired log lr sc → IsStore sc
 sc-store log lr sc pair = rw pair.is_sc
 
-module _ (model : MemoryModel) (log : List Event) (e : Event) (known : Indexed log) (sound : Sound log e)
+module _ {limit : ℕ} (model : MemoryModel) (log : List Event) (e : Event) (known : IndexedWithin limit log)
+    (sound : SoundWithin limit log e)
     (active : List ℕ) (past : Event → Bool) (cut : IsCut model log active past) where
   -- the new event is not earlier than an old one
   not-earlier : (p : Event) → Contains log p → Earlier e p → ⊥
@@ -71,7 +72,7 @@ module _ (model : MemoryModel) (log : List Event) (e : Event) (known : Indexed l
   seen p gone AtomicOut h =
       stores_too_late h.lr p h.of_log h.paired gone h.store h.word h.other_hart h.versions
 
-  known' : Indexed (log ++ e ∷ [])
+  known' : IndexedWithin limit (log ++ e ∷ [])
   known' = indexed-push log e known sound
 
   there : Contains (log ++ e ∷ []) e

@@ -4,7 +4,7 @@ use Rattle.std.proofs.Common.{◌++◌, ◌∷◌, ◌≡◌, ◌⊎◌, [], IsT
 use Rattle.std.proofs.lemmas.List.Elements.{Contains-append_left}
 use Rattle.rv_cover.specs.Paths.{Path, more, one}
 use Rattle.rv_event.proofs.Growing.{IsEdge-grows}
-use Rattle.rv_event.proofs.Indexed.{Indexed, Sound, indexed-push}
+use Rattle.rv_event.proofs.Indexed.{IndexedWithin, SoundWithin, indexed-push}
 use Rattle.rv_event.proofs.Settled.{grows-push}
 use Rattle.rv_event.specs.Log.{Earlier}
 use Rattle.rv_event.specs.Relations.{DependsOn, fence_orders}
@@ -13,13 +13,14 @@ use Rattle.rv_event.specs.declared.event.Event.{Event}
 use Rattle.rv_event.specs.declared.event.Id.{Id}
 use Rattle.rv_event.specs.declared.event.Op.TheVariants.{Branch, Load, Store}
 use Rattle.rv_event.specs.declared.memory_model.MemoryModel.{MemoryModel}
-use Rattle.rv_settle.proofs.Bars.{Any-longer, DependsOn-longer}
+use Rattle.rv_settle.proofs.Bars.{Any-longer, depends}
 use Rattle.rv_settle.specs.Bars.{IsBeforeLoads, IsBeforeStores, acquired_loads, acquired_stores}
 use Rattle.rv_settle.specs.Bars.{addressed, branched}
 use Rattle.rv_settle.specs.Bars.{fenced_loads, fenced_stores, released}
 use Rattle.rv_settle.specs.Settled.{AnyEdge, IsSettledFor, LeadsTo}
 
-module _ (model : MemoryModel) (log : List Event) (e : Event) (known : Indexed log) (sound : Sound log e) where
+module _ {limit : ℕ} (model : MemoryModel) (log : List Event) (e : Event) (known : IndexedWithin limit log)
+    (sound : SoundWithin limit log e) where
   -- an edge stays
   edge-stays : (i j : Id) → AnyEdge model log i j → AnyEdge model (log ++ e ∷ []) i j
   edge-stays i j edge = (
@@ -54,11 +55,11 @@ module _ (model : MemoryModel) (log : List Event) (e : Event) (known : Indexed l
   stores-stay m (branched any) =
       branched (Any-longer log (e ∷ []) (λ f. Earlier m f × (f.op ≡ Branch) × DependsOn log Ctrl f m)
       (λ f. Earlier m f × (f.op ≡ Branch) × DependsOn (log ++ e ∷ []) Ctrl f m)
-      (λ f c p. (p.0, p.1, DependsOn-longer log (e ∷ []) Ctrl f m p.2)) any)
+      (λ f c p. (p.0, p.1, depends model log e known sound Ctrl f m p.2)) any)
   stores-stay m (addressed any) =
       addressed (Any-longer log (e ∷ []) (λ f. Earlier m f × DependsOn log Addr f m)
       (λ f. Earlier m f × DependsOn (log ++ e ∷ []) Addr f m)
-      (λ f c p. (p.0, DependsOn-longer log (e ∷ []) Addr f m p.1)) any)
+      (λ f c p. (p.0, depends model log e known sound Addr f m p.1)) any)
   stores-stay m (released ztso) = released ztso
 
   -- an operation that leads to one goes on to do so

@@ -1,7 +1,7 @@
 -- What a monitor may forget. These are this project's own.
 use Rattle.std.specs.Prelude.{AllPairs, ◌≢◌, ◌≡◌, ◌<◌, ◌++◌, Bool, Contains, IsFalse, IsTrue, List}
 use Rattle.std.specs.Prelude.{Some, ℕ}
-use Rattle.rv_event.specs.Edges.{IsEdge}
+use Rattle.rv_event.specs.Edges.{IsEdge, IsStale}
 use Rattle.rv_event.specs.Log.{Earlier, named}
 use Rattle.rv_event.specs.Operations.{IsMemory}
 use Rattle.rv_event.specs.Orders.{IsOrderOf, place}
@@ -24,6 +24,11 @@ abbrev pub GoesForward : MemoryModel → List Event → List Id → Type 0
 GoesForward model log order =
     (i j : Id) (reason : Reason) → Contains order i → Contains order j → IsEdge model log i reason j →
     place order i < place order j
+
+-- no pair that is kept is stale
+abbrev pub NoneStaleKept : List Event → (Event → Bool) → Type 0
+NoneStaleKept log past =
+    (load store : Id) (stale : IsStale log load store) → IsFalse (past stale.a) → IsFalse (past stale.b) → ⊥
 
 -- the one list has the operations of the past, the other one those that are kept, each once
 pub record IsParted (log : List Event) (past : Event → Bool) (first rest : List Id) : Type 0 where

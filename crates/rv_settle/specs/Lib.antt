@@ -3,3 +3,4 @@ pub mod Cuts
 pub mod Laws
 pub mod Past
 pub mod Settled
+pub mod Windows

@@ -1,6 +1,7 @@
 //! Laws over the definitions alone. Each function does nothing: its contract is the law.
 ghost use Rattle.rv_settle.specs.Laws.{CutStays, KeptDecides, NothingComesBeforeSettled, OrdersJoin};
-ghost use Rattle.rv_settle.specs.Laws.{PastIsSeen, SettledStays};
+ghost use Rattle.rv_settle.specs.Laws.{PastIsSeen, SettledStays, WindowDecides, WindowsHaveTheEdges};
+ghost use Rattle.rv_settle.specs.Laws.{WindowsHaveTheStalePairs};
 
 /// No lawful order has a new event of an active hart before a settled operation, under either
 /// model: where an edge leads from the one to the other, no order is lawful.
@@ -36,4 +37,24 @@ pub fn past_is_seen()
 /// by what is kept and by the versions of the past, under either model.
 pub fn kept_decides()
     ensures { KeptDecides }
+{}
+
+/// A window has just the edges of its log between events that are kept, for the same reasons, under
+/// either model. A window's numbers are counted from each hart's first event that is kept. No event
+/// of the log is a carrier, and an SC that is kept is paired with an LR that is kept.
+pub fn windows_have_the_edges()
+    ensures { WindowsHaveTheEdges }
+{}
+
+/// A window has just the stale pairs of its log between events that are kept.
+pub fn windows_have_the_stale_pairs()
+    ensures { WindowsHaveTheStalePairs }
+{}
+
+/// Where some order was lawful before a new event of an active hart, some is with it exactly where
+/// the event does not come before the past by its versions, and some order is lawful for the window
+/// with it, under either model. So the window judges a log of any length, with the versions of the
+/// past. No event of the log is a carrier, and an SC that is kept is paired with an LR that is kept.
+pub fn window_decides()
+    ensures { WindowDecides }
 {}

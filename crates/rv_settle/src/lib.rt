@@ -7,7 +7,8 @@
 //!
 //! - `laws`: what the definitions say.
 //! - `specs/`: operations that stand before what comes (`Bars`), settled operations (`Settled`),
-//!   what may be forgotten (`Cuts`), how an event can come before it (`Past`), the laws (`Laws`).
+//!   what may be forgotten (`Cuts`), how an event can come before it (`Past`), what is kept, with its
+//!   numbers counted anew (`Windows`), the laws (`Laws`).
 //!
 //! It stands on `rv_event`, `rv_cert` and `rv_cover`, and has no code but the laws.
 #![tactic(auto)]
@@ -15,5 +16,6 @@
 mod laws;
 
 pub use laws::{
-    cut_stays, kept_decides, nothing_comes_before_settled, orders_join, past_is_seen, settled_stays,
+    cut_stays, kept_decides, nothing_comes_before_settled, orders_join, past_is_seen,
+    settled_stays, window_decides, windows_have_the_edges, windows_have_the_stale_pairs,
 };

@@ -3,18 +3,18 @@ use Rattle.std.proofs.Common.{◌∷◌, [], List, subst, sym}
 use Rattle.rv_event.proofs.Common.{map-append, deps_fault, events, source_fault, Lawful}
 use Rattle.rv_event.specs.declared.event.Entry.{Entry}
 use Rattle.rv_event.specs.declared.event.Event.{Event}
-use Rattle.rv_event.proofs.Indexed.{indexed_from_WellFormed, sound_from_none}
-use Rattle.rv_event.proofs.Pushed.{WellFormed-front, WellFormed-last}
+use Rattle.rv_event.proofs.Indexed.{indexed_within, sound_from_none}
+use Rattle.rv_event.proofs.Pushed.{within-front, within-last}
 use Rattle.rv_settle.specs.Cuts.{IsCut}
 use Rattle.rv_settle.proofs.Cuts.{cut-stays, none-back}
 use Rattle.rv_settle.proofs.laws.cut_stays.Goals as goal
 
 pub returns : goal.returns
-returns c model log x active past order ok is_active cut lawful =
+returns c limit model log x active past order ok is_active cut lawful =
     let same = map-append (λ (y : Entry). y.event) log (x ∷ []) in
-    let known = indexed_from_WellFormed log (WellFormed-front log (x ∷ []) ok) in
+    let known = indexed_within limit log (within-front limit log (x ∷ []) ok) in
     let sound = sound_from_none (events log) x.event (source_fault log x ∷ deps_fault x.event ∷ [])
-    (WellFormed-last log x ok) in
+    (within-last limit log x ok) in
     let lawful_events = subst (λ (es : List Event). Lawful model es order) same lawful in
     subst (λ (es : List Event). IsCut model es active past) (sym same)
     (cut-stays model (events log) x.event known sound active past cut

@@ -1,0 +1,40 @@
+-- Windows: the entries that a run keeps, each hart's numbers counted from its first one. These are
+-- this project's own.
+use Rattle.std.specs.Prelude.{ℕ, ◌<◌, ◌≤◌, ◌-◌, ◌↔◌, Bool, Contains, IsTrue, List, filter, map, nat_le}
+use Rattle.rv_event.specs.Relations.{Paired}
+use Rattle.rv_event.specs.declared.event.Dep.{Dep}
+use Rattle.rv_event.specs.declared.event.Entry.{Entry}
+use Rattle.rv_event.specs.declared.event.Event.{Event}
+
+-- the dependencies on events from number n on, counted from there
+abbrev pub deps_from : ℕ → List Dep → List Dep
+deps_from n deps =
+    map (λ (d : Dep). record { kind = d.kind; seq = d.seq - n }) (filter (λ (d : Dep). nat_le n d.seq) deps)
+
+-- the event, where the numbers of its hart are counted from n
+abbrev pub counted_from : ℕ → Event → Event
+counted_from n e =
+    record e { id = record { hart = e.id.hart; seq = e.id.seq - n }; deps = deps_from n e.deps }
+
+-- the event, where each hart's numbers are counted from its first event that is kept
+abbrev pub renumbered : (ℕ → ℕ) → Event → Event
+renumbered first e = counted_from (first e.id.hart) e
+
+-- the event is kept: its number is not below the first of its hart
+abbrev pub IsKept : (ℕ → ℕ) → Event → Type 0
+IsKept first e = first e.id.hart ≤ e.id.seq
+
+-- the entries that are kept, renumbered
+abbrev pub window : (ℕ → ℕ) → List Entry → List Entry
+window first log =
+    map (λ (x : Entry). record x { event = renumbered first x.event })
+    (filter (λ (x : Entry). nat_le (first x.event.id.hart) x.event.id.seq) log)
+
+-- an SC that is kept is paired with an LR that is kept
+abbrev pub KeepsPairs : (ℕ → ℕ) → List Event → Type 0
+KeepsPairs first log =
+    (lr sc : Event) → Contains log lr → Paired log lr sc → IsKept first sc → IsKept first lr
+
+-- the past is what stands below each hart's first number that is kept
+abbrev pub IsBelow : List Event → (Event → Bool) → (ℕ → ℕ) → Type 0
+IsBelow log past first = (a : Event) → Contains log a → IsTrue (past a) ↔ a.id.seq < first a.id.hart
