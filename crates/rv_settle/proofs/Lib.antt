@@ -2,6 +2,7 @@ pub mod Bars
 pub mod Cuts
 pub mod Decided
 pub mod Filtered
+pub mod Formed
 pub mod Forward
 pub mod Joined
 pub mod Kept

@@ -14,7 +14,7 @@ use Rattle.rv_cert.specs.Laws.{NoneStale}
 use Rattle.rv_settle.specs.Cuts.{GoesForward, IsCut, IsOrderOfKept, IsParted, NoneStaleKept}
 use Rattle.rv_settle.specs.Past.{ComesBeforePast}
 use Rattle.rv_settle.specs.Settled.{AnyEdge, IsSettled}
-use Rattle.rv_settle.specs.Windows.{IsBelow, IsKept, KeepsPairs, renumbered, window}
+use Rattle.rv_settle.specs.Windows.{ClosesPairs, IsBelow, IsKept, KeepsFew, KeepsPairs, renumbered, window}
 
 -- where an edge leads from a new event of an active hart to a settled one, no order is lawful
 abbrev pub NothingComesBeforeSettled : Type 0
@@ -95,15 +95,24 @@ WindowsHaveTheStalePairs =
 
 -- Where some order was lawful before a new event of an active hart, some is with it exactly where the
 -- event does not come before the past, and some order is lawful for the window with it. So a log of any
--- length may be judged by its window, and the versions of its past.
+-- length may be judged by its window, and the versions of its past. No event is a carrier, what is
+-- forgotten leaves no hart with a reservation, and no hart keeps more than 4,096 events.
 abbrev pub WindowDecides : Type 0
 WindowDecides =
     (limit : ℕ) (model : MemoryModel) (log : List Entry) (x : Entry) (active : List ℕ) (past : Event → Bool)
     (first : ℕ → ℕ) (before : List Id) →
-    WellFormedWithin limit (log ++ x ∷ []) → WellFormed (window first (log ++ x ∷ [])) →
-    All (λ m. m.op ≢ Carrier) (events (log ++ x ∷ [])) → KeepsPairs first (events (log ++ x ∷ [])) →
+    WellFormedWithin limit (log ++ x ∷ []) → All (λ m. m.op ≢ Carrier) (events (log ++ x ∷ [])) →
+    ClosesPairs first (events (log ++ x ∷ [])) → KeepsFew first (events (log ++ x ∷ [])) →
     Contains active x.event.id.hart → IsCut model (events log) active past → IsBelow (events log) past first →
     IsKept first x.event → Lawful model (events log) before →
     ((order : List Id) × Lawful model (events (log ++ x ∷ [])) order)
     ↔ ((ComesBeforePast (events (log ++ x ∷ [])) past x.event → ⊥)
     × ((order : List Id) × Lawful model (events (window first (log ++ x ∷ []))) order))
+
+-- the window of a well formed log is well formed, where what is forgotten leaves no hart with a
+-- reservation, and no hart keeps more than 4,096 events
+abbrev pub WindowsAreWellFormed : Type 0
+WindowsAreWellFormed =
+    (limit : ℕ) (log : List Entry) (first : ℕ → ℕ) →
+    WellFormedWithin limit log → ClosesPairs first (events log) → KeepsFew first (events log) →
+    WellFormed (window first log)

@@ -1,6 +1,9 @@
 -- Windows: the entries that a run keeps, each hart's numbers counted from its first one. These are
 -- this project's own.
-use Rattle.std.specs.Prelude.{ℕ, ◌<◌, ◌≤◌, ◌-◌, ◌↔◌, Bool, Contains, IsTrue, List, filter, map, nat_le}
+use Rattle.std.specs.Prelude.{ℕ, ◌<◌, ◌≤◌, ◌+◌, ◌-◌, ◌↔◌, Bool, Contains, IsFalse, IsTrue, List, filter, length, map}
+use Rattle.std.specs.Prelude.{nat_le, nat_lt}
+use Rattle.rv_event.specs.Faults.{is_reserved}
+use Rattle.rv_event.specs.Log.{of_hart}
 use Rattle.rv_event.specs.Relations.{Paired}
 use Rattle.rv_event.specs.declared.event.Dep.{Dep}
 use Rattle.rv_event.specs.declared.event.Entry.{Entry}
@@ -38,3 +41,12 @@ KeepsPairs first log =
 -- the past is what stands below each hart's first number that is kept
 abbrev pub IsBelow : List Event → (Event → Bool) → (ℕ → ℕ) → Type 0
 IsBelow log past first = (a : Event) → Contains log a → IsTrue (past a) ↔ a.id.seq < first a.id.hart
+
+-- what is forgotten leaves no hart with a reservation
+abbrev pub ClosesPairs : (ℕ → ℕ) → List Event → Type 0
+ClosesPairs first log =
+    (hart : ℕ) → IsFalse (is_reserved (filter (λ (e : Event). nat_lt e.id.seq (first e.id.hart)) log) hart)
+
+-- no hart keeps more than 4,096 events
+abbrev pub KeepsFew : (ℕ → ℕ) → List Event → Type 0
+KeepsFew first log = (hart : ℕ) → length (of_hart hart log) ≤ first hart + 4096

@@ -1,7 +1,7 @@
 //! Laws over the definitions alone. Each function does nothing: its contract is the law.
 ghost use Rattle.rv_settle.specs.Laws.{CutStays, KeptDecides, NothingComesBeforeSettled, OrdersJoin};
 ghost use Rattle.rv_settle.specs.Laws.{PastIsSeen, SettledStays, WindowDecides, WindowsHaveTheEdges};
-ghost use Rattle.rv_settle.specs.Laws.{WindowsHaveTheStalePairs};
+ghost use Rattle.rv_settle.specs.Laws.{WindowsAreWellFormed, WindowsHaveTheStalePairs};
 
 /// No lawful order has a new event of an active hart before a settled operation, under either
 /// model: where an edge leads from the one to the other, no order is lawful.
@@ -54,7 +54,14 @@ pub fn windows_have_the_stale_pairs()
 /// Where some order was lawful before a new event of an active hart, some is with it exactly where
 /// the event does not come before the past by its versions, and some order is lawful for the window
 /// with it, under either model. So the window judges a log of any length, with the versions of the
-/// past. No event of the log is a carrier, and an SC that is kept is paired with an LR that is kept.
+/// past. No event of the log is a carrier, what is forgotten leaves no hart with a reservation, and
+/// no hart keeps more than 4,096 events.
 pub fn window_decides()
     ensures { WindowDecides }
+{}
+
+/// The window of a well formed log is well formed, where what is forgotten leaves no hart with a
+/// reservation, and no hart keeps more than 4,096 events.
+pub fn windows_are_well_formed()
+    ensures { WindowsAreWellFormed }
 {}
