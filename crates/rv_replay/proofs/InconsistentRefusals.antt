@@ -21,7 +21,7 @@ exactly_allowed model entries (Forbidden f) told =
     let evidence = told.0 ++ told.1 ∷ [] in
     let whole : entries ≡ evidence ++ told.2.after = grind (arith, common_steps) in (
       λ none. absurd none,
-      λ ok. absurd (no_longer_log model evidence entries f.certificate ok.lawful.0 ok.well_formed
+      λ ok. absurd (no_longer_log 4096 model evidence entries f.certificate ok.lawful.0 ok.well_formed
           (subst (λ (l : List Entry). Continues evidence l) (sym whole) (continued evidence told.2.after))
           told.3.certified
           ok.lawful.1),
