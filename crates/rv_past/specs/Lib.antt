@@ -1,0 +1,3 @@
+pub mod Before
+pub mod Gone
+pub mod Laws
