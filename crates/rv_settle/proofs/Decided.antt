@@ -68,7 +68,7 @@ abbrev pub of_window : (ℕ → ℕ) → Id → Id
 of_window first i = record { hart = i.hart; seq = i.seq + first i.hart }
 
 -- the number of an event that is kept comes back
-comes-back : (first : ℕ → ℕ) (a : Event) → IsKept first a → of_window first (to_window first a.id) ≡ a.id
+pub comes-back : (first : ℕ → ℕ) (a : Event) → IsKept first a → of_window first (to_window first a.id) ≡ a.id
 comes-back first a kept =
     let seq : (a.id.seq - first a.id.hart) + first a.id.hart ≡ a.id.seq = omega (arith, kept) in grind arith
 

@@ -1,4 +1,5 @@
 pub mod Bars
+pub mod Composed
 pub mod Cuts
 pub mod Decided
 pub mod Filtered

@@ -39,7 +39,7 @@ acquire-in : (model : MemoryModel) (first : ℕ → ℕ) (e : Event) → IsAcqui
 acquire-in Rvwmo first e is = is
 acquire-in Ztso first e is = is
 
-acquire-back :
+pub acquire-back :
     (model : MemoryModel) (first : ℕ → ℕ) (e : Event) → IsAcquire model (renumbered first e) → IsAcquire model e
 acquire-back Rvwmo first e is = is
 acquire-back Ztso first e is = is
@@ -178,7 +178,7 @@ module _ {limit other : ℕ} (log : List Event) (w : List Event) (first : ℕ �
       let there = over found.0 found.1 found.2 in
       Any-from_contains Q w (renumbered first found.0) (into found.0 found.1 there.0) there.1
 
-  any-back : (P Q : Event → Type 0) →
+  pub any-back : (P Q : Event → Type 0) →
       ((m : Event) → Contains log m → IsKept first m → Q (renumbered first m) → P m) → Any Q w → Any P log
   any-back P Q over any =
       let found = Any-contains Q w any in
@@ -233,7 +233,7 @@ module _ {limit other : ℕ} (log : List Event) (w : List Event) (first : ℕ �
         DependsOn w kind (renumbered first m) (renumbered first a)
     depends-in kind m d = inl (lists-in first kind m a kept (listed-alone log plain kind m a d))
 
-    depends-back : (kind : DepKind) (m : Event) → IsKept first m →
+    pub depends-back : (kind : DepKind) (m : Event) → IsKept first m →
         DependsOn w kind (renumbered first m) (renumbered first a) → DependsOn log kind m a
     depends-back kind m kept-m d =
         inl (lists-back first kind m a kept kept-m

@@ -14,7 +14,7 @@ use Rattle.rv_cert.specs.Laws.{NoneStale}
 use Rattle.rv_settle.specs.Cuts.{GoesForward, IsCut, IsOrderOfKept, IsParted, NoneStaleKept}
 use Rattle.rv_settle.specs.Past.{ComesBeforePast}
 use Rattle.rv_settle.specs.Settled.{AnyEdge, IsSettled}
-use Rattle.rv_settle.specs.Windows.{ClosesPairs, IsBelow, IsKept, KeepsFew, KeepsPairs, renumbered, window}
+use Rattle.rv_settle.specs.Windows.{AreBoth, ClosesPairs, IsBelow, IsKept, KeepsFew, KeepsPairs, renumbered, window}
 
 -- where an edge leads from a new event of an active hart to a settled one, no order is lawful
 abbrev pub NothingComesBeforeSettled : Type 0
@@ -116,3 +116,15 @@ WindowsAreWellFormed =
     (limit : ℕ) (log : List Entry) (first : ℕ → ℕ) →
     WellFormedWithin limit log → ClosesPairs first (events log) → KeepsFew first (events log) →
     WellFormed (window first log)
+
+-- The past of a cut, with the past of a cut of its window, is the past of a cut. So a run may forget
+-- more by its window alone.
+abbrev pub CutsCompose : Type 0
+CutsCompose =
+    (limit : ℕ) (model : MemoryModel) (log : List Entry) (active : List ℕ) (first : ℕ → ℕ)
+    (past more both : Event → Bool) →
+    WellFormedWithin limit log → All (λ m. m.op ≢ Carrier) (events log) →
+    ClosesPairs first (events log) → KeepsFew first (events log) →
+    IsCut model (events log) active past → IsBelow (events log) past first →
+    IsCut model (events (window first log)) active more → AreBoth first (events log) past more both →
+    IsCut model (events log) active both

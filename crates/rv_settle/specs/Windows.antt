@@ -1,7 +1,7 @@
 -- Windows: the entries that a run keeps, each hart's numbers counted from its first one. These are
 -- this project's own.
-use Rattle.std.specs.Prelude.{ℕ, ◌<◌, ◌≤◌, ◌+◌, ◌-◌, ◌↔◌, Bool, Contains, IsFalse, IsTrue, List, filter, length, map}
-use Rattle.std.specs.Prelude.{nat_le, nat_lt}
+use Rattle.std.specs.Prelude.{ℕ, ◌<◌, ◌≤◌, ◌+◌, ◌-◌, ◌↔◌, ◌⊎◌, Bool, Contains, IsFalse, IsTrue, List, filter}
+use Rattle.std.specs.Prelude.{length, map, nat_le, nat_lt}
 use Rattle.rv_event.specs.Faults.{is_reserved}
 use Rattle.rv_event.specs.Log.{of_hart}
 use Rattle.rv_event.specs.Relations.{Paired}
@@ -50,3 +50,9 @@ ClosesPairs first log =
 -- no hart keeps more than 4,096 events
 abbrev pub KeepsFew : (ℕ → ℕ) → List Event → Type 0
 KeepsFew first log = (hart : ℕ) → length (of_hart hart log) ≤ first hart + 4096
+
+-- the events of the past, and those of the window's past
+abbrev pub AreBoth : (ℕ → ℕ) → List Event → (Event → Bool) → (Event → Bool) → (Event → Bool) → Type 0
+AreBoth first log past more both =
+    (a : Event) → IsTrue (both a)
+    ↔ (IsTrue (past a) ⊎ (Contains log a × IsKept first a × IsTrue (more (renumbered first a))))

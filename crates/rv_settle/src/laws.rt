@@ -1,5 +1,5 @@
 //! Laws over the definitions alone. Each function does nothing: its contract is the law.
-ghost use Rattle.rv_settle.specs.Laws.{CutStays, KeptDecides, NothingComesBeforeSettled, OrdersJoin};
+ghost use Rattle.rv_settle.specs.Laws.{CutStays, CutsCompose, KeptDecides, NothingComesBeforeSettled, OrdersJoin};
 ghost use Rattle.rv_settle.specs.Laws.{PastIsSeen, SettledStays, WindowDecides, WindowsHaveTheEdges};
 ghost use Rattle.rv_settle.specs.Laws.{WindowsAreWellFormed, WindowsHaveTheStalePairs};
 
@@ -64,4 +64,10 @@ pub fn window_decides()
 /// reservation, and no hart keeps more than 4,096 events.
 pub fn windows_are_well_formed()
     ensures { WindowsAreWellFormed }
+{}
+
+/// The past of a cut, with the past of a cut of its window, is the past of a cut, under either model.
+/// So a run may forget more by its window alone.
+pub fn cuts_compose()
+    ensures { CutsCompose }
 {}

@@ -16,7 +16,7 @@
 mod laws;
 
 pub use laws::{
-    cut_stays, kept_decides, nothing_comes_before_settled, orders_join, past_is_seen,
+    cut_stays, cuts_compose, kept_decides, nothing_comes_before_settled, orders_join, past_is_seen,
     settled_stays, window_decides, windows_are_well_formed, windows_have_the_edges,
     windows_have_the_stale_pairs,
 };
