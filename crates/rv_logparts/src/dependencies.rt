@@ -1,6 +1,7 @@
 //! Instructions in a row, and the events from which registers were computed. Their dependencies are
-//! those that the manual's section 14.1 ("Syntactic Dependencies") names in its prose.
-use rv_flow::{Carrier, Flow, HartTrace, Step, Unlisted};
+//! those that the manual's section 14.1 ("Syntactic Dependencies") names in its prose. What may panic
+//! stands in functions of its own, so that few paths lead through a test.
+use rv_flow::{Carrier, Flow, HartTrace, Lists, Step, Unlisted};
 use rv_insn::{Insn, Unit, Width, decode};
 use rv_rows::Row;
 use std::alloc::Global;
@@ -114,23 +115,31 @@ fn insn_of(rt: &impl Abort, word: u32) -> Insn {
 fn a_running_sum_has_each_of_a_hundred_loads(rt: HostRuntime) {
     let mut words = Vec::new(rt.alloc());
     for event in 0..100u32 {
-        words.push((LOAD, Some(event))).expect(&rt, "memory");
-        words.push((SUM, None)).expect(&rt, "memory");
+        add_word(&rt, &mut words, LOAD, Some(event));
+        add_word(&rt, &mut words, SUM, None);
     }
-    words.push((BRANCH_ON_SUM, None)).expect(&rt, "memory");
+    add_word(&rt, &mut words, BRANCH_ON_SUM, None);
     let flow = flow_of(&rt, rt.alloc(), words.as_slice());
     assert_first(&rt, &flow.data(insn_of(&rt, STORE_SUM)), 100);
     assert_first(&rt, &flow.address(insn_of(&rt, STORE_SUM)), 0);
     assert_first(&rt, flow.control(), 100);
 }
 
+fn add_word(rt: &impl Abort, words: &mut Vec<(u32, Option<u32>)>, word: u32, event: Option<u32>) {
+    words.push((word, event)).expect(rt, "memory");
+}
+
 #[test]
 fn an_address_is_that_of_the_last_load_alone(rt: HostRuntime) {
     let words = [(LOAD, Some(0)), (SUM, None), (LOAD, Some(1))];
     let flow = flow_of(&rt, rt.alloc(), &words);
-    let row = flow.address(insn_of(&rt, STORE_BY_LAST));
-    assert!(rt; row.has(1) && !row.has(0));
+    assert_last(&rt, &flow.address(insn_of(&rt, STORE_BY_LAST)));
     assert_first(&rt, flow.control(), 0);
+}
+
+/// The row has event 1, and not event 0.
+fn assert_last(rt: &impl Abort, row: &Row) {
+    assert!(rt; row.has(1) && !row.has(0));
 }
 
 /// Loads so many values, and adds each to a register.
@@ -167,28 +176,47 @@ fn insert_all(rt: &impl Abort, set: &mut Row, numbers: &[u32]) {
 fn carriers_list_each_of_a_hundred_loads(rt: HostRuntime) {
     let mut trace = HartTrace::new(rt.alloc());
     load_sum(&rt, &mut trace, 100);
-    let lists = trace.lists(insn_of(&rt, STORE_SUM)).expect(&rt, "room");
-    assert!(rt; lists.address.is_empty() && lists.value.len() == 2);
-    assert_eq!(rt; trace.carriers().len(), 14);
-    assert_eq!(rt; trace.next(), 114);
+    let lists = lists_of_store(&rt, &mut trace);
+    assert_listed(&rt, &lists, 2);
+    assert_trace(&rt, &trace, 14, 114);
     let mut set = Row::new();
     insert_all(&rt, &mut set, &lists.value);
     open_carriers(&rt, trace.carriers(), &mut set);
     assert_first(&rt, &set, 100);
-    let branch = trace
-        .branch(insn_of(&rt, BRANCH_ON_SUM))
-        .expect(&rt, "memory");
-    assert_eq!(rt; branch.len(), 100);
+    assert_branch(&rt, &mut trace, 100);
+}
+
+/// What a store of the sum lists.
+fn lists_of_store(rt: &impl Abort, trace: &mut HartTrace) -> Lists {
+    trace.lists(insn_of(rt, STORE_SUM)).expect(rt, "room")
+}
+
+/// It lists so many for its value, and none for its address.
+fn assert_listed(rt: &impl Abort, lists: &Lists, count: usize) {
+    assert!(rt; lists.address.is_empty());
+    assert_eq!(rt; lists.value.len(), count);
+}
+
+/// There are so many carriers, and this is the next row's number.
+fn assert_trace(rt: &impl Abort, trace: &HartTrace, carriers: usize, next: u32) {
+    assert_eq!(rt; trace.carriers().len(), carriers);
+    assert_eq!(rt; trace.next(), next);
+}
+
+/// A branch on the sum lists so many.
+fn assert_branch(rt: &impl Abort, trace: &mut HartTrace, count: usize) {
+    let listed = trace
+        .branch(insn_of(rt, BRANCH_ON_SUM))
+        .expect(rt, "memory");
+    assert_eq!(rt; listed.len(), count);
 }
 
 #[test]
 fn eight_events_take_no_carrier(rt: HostRuntime) {
     let mut trace = HartTrace::new(rt.alloc());
     load_sum(&rt, &mut trace, 8);
-    let lists = trace.lists(insn_of(&rt, STORE_SUM)).expect(&rt, "room");
-    assert_eq!(rt; lists.value.len(), 8);
-    assert!(rt; trace.carriers().is_empty());
-    assert_eq!(rt; trace.next(), 8);
+    assert_listed(&rt, &lists_of_store(&rt, &mut trace), 8);
+    assert_trace(&rt, &trace, 0, 8);
 }
 
 #[test]
@@ -196,10 +224,9 @@ fn a_carrier_is_used_again(rt: HostRuntime) {
     let mut trace = HartTrace::new(rt.alloc());
     load_sum(&rt, &mut trace, 9);
     for _ in 0..3 {
-        let lists = trace.lists(insn_of(&rt, STORE_SUM)).expect(&rt, "room");
-        assert_eq!(rt; lists.value.len(), 2);
+        assert_listed(&rt, &lists_of_store(&rt, &mut trace), 2);
     }
-    assert_eq!(rt; trace.carriers().len(), 1);
+    assert_trace(&rt, &trace, 1, 10);
 }
 
 /// Adds a value from memory to the register, and stores the sum.
@@ -221,18 +248,26 @@ fn eighteen_sums_in_turn_take_two_carriers_each(rt: HostRuntime) {
             add_to(&rt, &mut trace, register);
         }
     }
-    assert_eq!(rt; trace.carriers().len(), 36);
+    assert_carriers(&rt, &trace, 36);
+}
+
+fn assert_carriers(rt: &impl Abort, trace: &HartTrace, count: usize) {
+    assert_eq!(rt; trace.carriers().len(), count);
 }
 
 #[test]
 fn a_branch_lists_an_event_once(rt: HostRuntime) {
     let mut trace = HartTrace::new(rt.alloc());
     load_sum(&rt, &mut trace, 2);
-    let insn = insn_of(&rt, BRANCH_ON_SUM);
-    assert_eq!(rt; trace.branch(insn).expect(&rt, "memory").len(), 2);
-    trace.push(insn).expect(&rt, "memory");
+    assert_branch(&rt, &mut trace, 2);
+    pass_branch(&rt, &mut trace);
     load_sum(&rt, &mut trace, 1);
-    assert_eq!(rt; trace.branch(insn).expect(&rt, "memory").len(), 1);
+    assert_branch(&rt, &mut trace, 1);
+}
+
+/// The branch on the sum goes by.
+fn pass_branch(rt: &impl Abort, trace: &mut HartTrace) {
+    trace.push(insn_of(rt, BRANCH_ON_SUM)).expect(rt, "memory");
 }
 
 #[test]
@@ -240,11 +275,20 @@ fn a_hart_has_4096_rows_at_most(rt: HostRuntime) {
     let mut trace = HartTrace::new(rt.alloc());
     load_sum(&rt, &mut trace, 9);
     for number in 9..4096 {
-        assert!(rt; matches!(trace.number_row(), Ok(row) if row == number));
+        assert_numbered(&rt, &mut trace, number);
     }
+    assert_full(&rt, &mut trace);
+    assert_trace(&rt, &trace, 0, 4096);
+}
+
+/// The next row has this number.
+fn assert_numbered(rt: &impl Abort, trace: &mut HartTrace, number: u32) {
+    assert!(rt; matches!(trace.number_row(), Ok(row) if row == number));
+}
+
+/// No row finds a place, an event's neither, nor the carriers of a list.
+fn assert_full(rt: &impl Abort, trace: &mut HartTrace) {
     assert!(rt; matches!(trace.number_row(), Err(Unlisted::Full)));
-    assert!(rt; matches!(trace.push_event(insn_of(&rt, LOAD)), Err(Unlisted::Full)));
-    assert!(rt; matches!(trace.lists(insn_of(&rt, STORE_SUM)), Err(Unlisted::Full)));
-    assert!(rt; trace.carriers().is_empty());
-    assert_eq!(rt; trace.next(), 4096);
+    assert!(rt; matches!(trace.push_event(insn_of(rt, LOAD)), Err(Unlisted::Full)));
+    assert!(rt; matches!(trace.lists(insn_of(rt, STORE_SUM)), Err(Unlisted::Full)));
 }

@@ -63,28 +63,37 @@ fn words_of_16_bits(rt: HostRuntime) {
 
 #[test]
 fn bits_that_order_memory(rt: HostRuntime) {
-    let Ok(lr) = decode(0x1405_25af, Width::Rv32) else {
-        panic!(rt; "lr.w.aq");
-    };
-    assert!(rt; lr.operation == Operation::LrW && lr.acquire && !lr.release);
-    let Ok(sc) = decode(0x1ab5_262f, Width::Rv32) else {
-        panic!(rt; "sc.w.rl");
-    };
-    assert!(rt; sc.operation == Operation::ScW && !sc.acquire && sc.release);
-    let Ok(fence) = decode(0x0310_000f, Width::Rv32) else {
-        panic!(rt; "fence rw,w");
-    };
-    assert_eq!(rt; (fence.predecessors, fence.successors), (3, 1));
-    let tso = decode(0x8330_000f, Width::Rv32);
-    assert!(rt;
-        matches!(
-            tso,
-            Ok(Insn {
-                operation: Operation::FenceTso,
-                ..
-            })
-        )
-    );
+    // lr.w.aq; sc.w.rl; fence rw,w; fence.tso
+    assert_annotated(&rt, 0x1405_25af, Operation::LrW, (true, false));
+    assert_annotated(&rt, 0x1ab5_262f, Operation::ScW, (false, true));
+    assert_fence(&rt, 0x0310_000f, (3, 1));
+    assert_annotated(&rt, 0x8330_000f, Operation::FenceTso, (false, false));
+}
+
+/// The instruction of the word at 32 bits.
+fn insn_of(rt: &impl Abort, word: u32) -> Insn {
+    match decode(word, Width::Rv32) {
+        Ok(insn) => insn,
+        Err(_) => panic!(rt; "{word:x} is not decoded"),
+    }
+}
+
+/// The word is the operation with these `aq` and `rl` bits.
+fn assert_annotated(rt: &impl Abort, word: u32, operation: Operation, bits: (bool, bool)) {
+    let insn = insn_of(rt, word);
+    assert_eq!(rt; insn.operation, operation, "{word:x}");
+    assert_eq!(rt; (insn.acquire, insn.release), bits, "{word:x}");
+}
+
+/// The word is a fence of these sets.
+fn assert_fence(rt: &impl Abort, word: u32, sets: (u8, u8)) {
+    let insn = insn_of(rt, word);
+    assert_eq!(rt; (insn.predecessors, insn.successors), sets, "{word:x}");
+}
+
+/// The word is none at this width.
+fn assert_refused(rt: &impl Abort, word: u32, width: Width, why: Undecoded) {
+    assert!(rt; decode(word, width) == Err(why), "{word:x}");
 }
 
 #[test]
@@ -98,7 +107,7 @@ fn widths_and_refusals(rt: HostRuntime) {
         (0xffff_ffff, Width::Rv64, Undecoded::Unknown),
     ];
     for (word, width, why) in cases {
-        assert!(rt; decode(word, width) == Err(why), "{word:x}");
+        assert_refused(&rt, word, width, why);
     }
     assert_decoded(&rt, 0x2001, Width::Rv32, Operation::Jal, (1, 0, 0), 0);
     assert_decoded(&rt, 0x2505, Width::Rv64, Operation::Addiw, (10, 10, 0), 1);
