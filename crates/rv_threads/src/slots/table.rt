@@ -1,10 +1,13 @@
-//! LitmusTest rows of the table, two threads at one slot, and a carrier over a table.
+//! The table call by call, two threads at one slot, and a carrier over a table.
+//!
+//! What may panic stands in functions of its own, so that few paths lead through a test.
 ghost use Rattle.std.specs.Prelude.{◌≡◌, ◌<◌, ℕ, All};
 
 use rv_chunk::{Chunk, pack};
 use rv_event::{Deps, Event, Id, Op};
 use rv_slots::{
-    Carrier, Claim, Free, Looked, Pin, Pinned, Put, Seat, Slots, SlotsFault, TableCarrier,
+    Carrier, Claim, Filling, Free, Looked, Pin, Pinned, Put, Seat, Slots, SlotsFault, Stray,
+    TableCarrier,
 };
 use std::alloc::Global;
 use std::process::Abort;
@@ -59,16 +62,38 @@ fn store_chunk(rt: &impl Abort, alloc: Global) -> Chunk {
     }
 }
 
+/// Claims a slot.
+fn claim_slot(rt: &impl Abort, slots: &Slots, seat: Seat, slot: usize) -> Filling
+    requires table { seat.place.table_id ≡ slots.now.table.shared.table_id }
+    requires slot { slot < slots.now.count }
+    ensures { result.place.table_id ≡ slots.now.table.shared.table_id }
+{
+    match slots.claim(seat, slot) {
+        Claim::Filling(filling) => filling,
+        Claim::Busy(_seat) => panic!(rt; "the slot is claimed"),
+    }
+}
+
+/// Wants to claim a slot that is claimed.
+fn claim_in_vain(rt: &impl Abort, slots: &Slots, seat: Seat, slot: usize) -> Seat
+    requires table { seat.place.table_id ≡ slots.now.table.shared.table_id }
+    requires slot { slot < slots.now.count }
+    ensures { result.place.table_id ≡ slots.now.table.shared.table_id }
+{
+    match slots.claim(seat, slot) {
+        Claim::Filling(_filling) => panic!(rt; "the slot is not claimed"),
+        Claim::Busy(seat) => seat,
+    }
+}
+
 /// Claims a slot and fills it with the chunk.
 fn fill_slot(rt: &impl Abort, slots: &Slots, seat: Seat, slot: usize, chunk: &Chunk) -> Seat
     requires table { seat.place.table_id ≡ slots.now.table.shared.table_id }
     requires slot { slot < slots.now.count }
     ensures { result.place.table_id ≡ slots.now.table.shared.table_id }
 {
-    match slots.claim(seat, slot) {
-        Claim::Filling(filling) => slots.fill(filling, chunk.words()),
-        Claim::Busy(_seat) => panic!(rt; "the slot is claimed"),
-    }
+    let filling = claim_slot(rt, slots, seat, slot);
+    slots.fill(filling, chunk.words())
 }
 
 /// Pins a slot that is to be read.
@@ -80,6 +105,18 @@ fn pin_slot(rt: &impl Abort, slots: &Slots, seat: Seat, slot: usize) -> Pinned
     match slots.pin(seat, slot) {
         Pin::Pinned(pinned) => pinned,
         Pin::Stray(_stray) => panic!(rt; "the slot is not to be read"),
+    }
+}
+
+/// Pins a slot that is not to be read.
+fn pin_astray(rt: &impl Abort, slots: &Slots, seat: Seat, slot: usize) -> Stray
+    requires table { seat.place.table_id ≡ slots.now.table.shared.table_id }
+    requires slot { slot < slots.now.count }
+    ensures { result.place.table_id ≡ slots.now.table.shared.table_id }
+{
+    match slots.pin(seat, slot) {
+        Pin::Pinned(_pinned) => panic!(rt; "the slot is to be read"),
+        Pin::Stray(stray) => stray,
     }
 }
 
@@ -95,6 +132,40 @@ fn look(slots: &Slots, seat: Seat, slot: usize) -> (Seat, u64)
     }
 }
 
+/// The state word of a slot is this one.
+fn assert_state(rt: &impl Abort, slots: &Slots, seat: Seat, slot: usize, wanted: u64) -> Seat
+    requires table { seat.place.table_id ≡ slots.now.table.shared.table_id }
+    requires slot { slot < slots.now.count }
+    ensures { result.place.table_id ≡ slots.now.table.shared.table_id }
+{
+    let (seat, word) = look(slots, seat, slot);
+    assert_word(rt, word, wanted);
+    seat
+}
+
+/// A state word is this one.
+fn assert_word(rt: &impl Abort, word: u64, wanted: u64) {
+    assert_eq!(rt; word, wanted);
+}
+
+/// A free of slot 0 by the word that was seen ends so.
+fn assert_free(rt: &impl Abort, slots: &Slots, seat: &mut Seat, seen: u64, wanted: Free)
+    requires { seat.old.place.table_id ≡ slots.now.table.shared.table_id }
+    ensures { seat.new.place.table_id ≡ slots.now.table.shared.table_id }
+{
+    let free = slots.free(seat, 0, seen);
+    assert_eq!(rt; free, wanted);
+}
+
+/// A read of the pinned slot gives the chunk.
+fn assert_read(rt: &impl Abort, slots: &Slots, pinned: &mut Pinned, chunk: &Chunk)
+    requires { pinned.old.place.table_id ≡ slots.now.table.shared.table_id }
+    ensures { pinned.new.place.table_id ≡ slots.now.table.shared.table_id }
+{
+    let read = slots.read(pinned);
+    assert!(rt; read.words() == chunk.words());
+}
+
 #[test]
 fn a_slot_is_read_by_the_first_seat_and_the_last(rt: HostRuntime) {
     let alloc = rt.alloc();
@@ -105,38 +176,29 @@ fn a_slot_is_read_by_the_first_seat_and_the_last(rt: HostRuntime) {
     let one = take_seat(&rt, &slots, &mut seats, 1);
     let zero = take_seat(&rt, &slots, &mut seats, 0);
 
-    let Claim::Filling(filling) = slots.claim(zero, 0) else {
-        panic!(&rt; "the slot is claimed")
-    };
-    let (eye, word) = look(&slots, eye, 0);
-    assert_eq!(rt; word, 0x1_0000_0000);
+    let filling = claim_slot(&rt, &slots, zero, 0);
+    let eye = assert_state(&rt, &slots, eye, 0, 0x1_0000_0000);
     let zero = slots.fill(filling, chunk.words());
-    let (eye, word) = look(&slots, eye, 0);
-    assert_eq!(rt; word, 0x3_0000_0000);
+    let eye = assert_state(&rt, &slots, eye, 0, 0x3_0000_0000);
 
     let mut one = pin_slot(&rt, &slots, one, 0);
     let mut last = pin_slot(&rt, &slots, last, 0);
-    let (eye, word) = look(&slots, eye, 0);
-    assert_eq!(rt; word, 0x3_8000_0002);
+    let eye = assert_state(&rt, &slots, eye, 0, 0x3_8000_0002);
     slots.done(&mut one);
-    let (eye, word) = look(&slots, eye, 0);
-    assert_eq!(rt; word, 0x7_8000_0002);
+    let eye = assert_state(&rt, &slots, eye, 0, 0x7_8000_0002);
 
     let (mut one, seen) = slots.unpin(one);
-    assert_eq!(rt; seen, 0x7_8000_0000);
-    assert_eq!(rt; slots.free(&mut one, 0, seen), Free::Held);
-    let read = slots.read(&mut last);
-    assert!(rt; read.words() == chunk.words());
+    assert_word(&rt, seen, 0x7_8000_0000);
+    assert_free(&rt, &slots, &mut one, seen, Free::Held);
+    assert_read(&rt, &slots, &mut last, &chunk);
     let (mut last, seen) = slots.unpin(last);
-    assert_eq!(rt; seen, 0x7_0000_0000);
-    assert_eq!(rt; slots.free(&mut last, 0, seen), Free::Freed);
-    let (eye, word) = look(&slots, eye, 0);
-    assert_eq!(rt; word, 0x8_0000_0000);
+    assert_word(&rt, seen, 0x7_0000_0000);
+    assert_free(&rt, &slots, &mut last, seen, Free::Freed);
+    let eye = assert_state(&rt, &slots, eye, 0, 0x8_0000_0000);
 
-    assert!(rt; matches!(slots.claim(zero, 0), Claim::Filling(_)));
-    let (_eye, word) = look(&slots, eye, 0);
-    assert_eq!(rt; word, 0x9_0000_0000);
-    assert_eq!(rt; slots.free(&mut one, 0, 0xffff_ffff_0000_0000), Free::Worn);
+    let _filling = claim_slot(&rt, &slots, zero, 0);
+    let _eye = assert_state(&rt, &slots, eye, 0, 0x9_0000_0000);
+    assert_free(&rt, &slots, &mut one, 0xffff_ffff_0000_0000, Free::Worn);
 }
 
 #[test]
@@ -149,36 +211,28 @@ fn the_last_of_two_readers_frees(rt: HostRuntime) {
     let one = take_seat(&rt, &slots, &mut seats, 1);
     let zero = take_seat(&rt, &slots, &mut seats, 0);
 
-    let Claim::Filling(filling) = slots.claim(zero, 0) else {
-        panic!(&rt; "the slot is claimed")
-    };
-    let Pin::Stray(stray) = slots.pin(three, 0) else {
-        panic!(&rt; "the slot is not full")
-    };
+    let filling = claim_slot(&rt, &slots, zero, 0);
+    let stray = pin_astray(&rt, &slots, three, 0);
     let (three, seen) = slots.unpin_stray(stray);
-    assert_eq!(rt; seen, 0x1_0000_0000);
-    let Claim::Busy(three) = slots.claim(three, 0) else {
-        panic!(&rt; "the slot is not claimed")
-    };
+    assert_word(&rt, seen, 0x1_0000_0000);
+    let three = claim_in_vain(&rt, &slots, three, 0);
     let zero = slots.fill(filling, chunk.words());
 
     let mut one = pin_slot(&rt, &slots, one, 0);
     let mut two = pin_slot(&rt, &slots, two, 0);
     slots.done(&mut one);
     let (mut one, seen) = slots.unpin(one);
-    assert_eq!(rt; seen, 0x7_0000_0004);
-    assert_eq!(rt; slots.free(&mut one, 0, seen), Free::Held);
-    assert!(rt; slots.read(&mut two).words() == chunk.words());
+    assert_word(&rt, seen, 0x7_0000_0004);
+    assert_free(&rt, &slots, &mut one, seen, Free::Held);
+    assert_read(&rt, &slots, &mut two, &chunk);
     let (mut two, seen) = slots.unpin(two);
-    assert_eq!(rt; seen, 0x7_0000_0000);
-    assert_eq!(rt; slots.free(&mut two, 0, seen), Free::Freed);
+    assert_word(&rt, seen, 0x7_0000_0000);
+    assert_free(&rt, &slots, &mut two, seen, Free::Freed);
 
     let (one, _two) = slots.meet(one, two);
-    let (_one, word) = look(&slots, one, 0);
-    assert_eq!(rt; word, 0x8_0000_0000);
-    assert!(rt; matches!(slots.claim(zero, 0), Claim::Filling(_)));
-    let (_three, word) = look(&slots, three, 0);
-    assert_eq!(rt; word, 0x9_0000_0000);
+    let _one = assert_state(&rt, &slots, one, 0, 0x8_0000_0000);
+    let _filling = claim_slot(&rt, &slots, zero, 0);
+    let _three = assert_state(&rt, &slots, three, 0, 0x9_0000_0000);
 }
 
 #[test]
@@ -191,37 +245,29 @@ fn a_stray_pin_holds_back_a_free(rt: HostRuntime) {
     let one = take_seat(&rt, &slots, &mut seats, 1);
     let zero = take_seat(&rt, &slots, &mut seats, 0);
 
-    let Pin::Stray(stray) = slots.pin(three, 0) else {
-        panic!(&rt; "the slot is not full")
-    };
-    let (eye, word) = look(&slots, eye, 0);
-    assert_eq!(rt; word, 0x8);
-    let Claim::Filling(filling) = slots.claim(zero, 0) else {
-        panic!(&rt; "the slot is claimed")
-    };
-    let (eye, word) = look(&slots, eye, 0);
-    assert_eq!(rt; word, 0x1_0000_0008);
+    let stray = pin_astray(&rt, &slots, three, 0);
+    let eye = assert_state(&rt, &slots, eye, 0, 0x8);
+    let filling = claim_slot(&rt, &slots, zero, 0);
+    let eye = assert_state(&rt, &slots, eye, 0, 0x1_0000_0008);
     let _zero = slots.fill(filling, chunk.words());
-    let (eye, word) = look(&slots, eye, 0);
-    assert_eq!(rt; word, 0x3_0000_0008);
+    let eye = assert_state(&rt, &slots, eye, 0, 0x3_0000_0008);
     let mut one = pin_slot(&rt, &slots, one, 0);
     slots.done(&mut one);
     let (mut one, seen) = slots.unpin(one);
-    assert_eq!(rt; seen, 0x7_0000_0008);
-    assert_eq!(rt; slots.free(&mut one, 0, seen), Free::Held);
+    assert_word(&rt, seen, 0x7_0000_0008);
+    assert_free(&rt, &slots, &mut one, seen, Free::Held);
     let (mut three, seen) = slots.unpin_stray(stray);
-    assert_eq!(rt; seen, 0x7_0000_0000);
-    assert_eq!(rt; slots.free(&mut three, 0, seen), Free::Freed);
-    let (_eye, word) = look(&slots, eye, 0);
-    assert_eq!(rt; word, 0x8_0000_0000);
+    assert_word(&rt, seen, 0x7_0000_0000);
+    assert_free(&rt, &slots, &mut three, seen, Free::Freed);
+    let _eye = assert_state(&rt, &slots, eye, 0, 0x8_0000_0000);
 }
 
 #[test]
 fn the_last_generation_is_not_freed(rt: HostRuntime) {
     let (slots, mut seats) = open(&rt, rt.alloc(), 2);
     let mut zero = take_seat(&rt, &slots, &mut seats, 0);
-    assert_eq!(rt; slots.free(&mut zero, 0, 0xffff_ffff_0000_0000), Free::Worn);
-    assert!(rt; matches!(slots.claim(zero, 0), Claim::Filling(_)));
+    assert_free(&rt, &slots, &mut zero, 0xffff_ffff_0000_0000, Free::Worn);
+    let _filling = claim_slot(&rt, &slots, zero, 0);
 }
 
 #[test]
