@@ -8,6 +8,7 @@ ghost use Rattle.rv_event.specs.Log.{writer};
 ghost use Rattle.std.specs.Option.{option_map};
 ghost use Rattle.rv_edges.specs.Kept.{happened, grown, links_of};
 ghost use Rattle.rv_edges.specs.Histories.{IsCarried, kept_of};
+ghost use Rattle.rv_edges.specs.Ties.{AreTiesOf};
 ghost use Rattle.rv_book.specs.Adding.{IsRefused};
 ghost use Rattle.rv_book.specs.Arranged.{at, EachLeads, order_of};
 ghost use Rattle.rv_book.specs.Counts.{is_waiting};
@@ -18,7 +19,7 @@ use crate::evidence::evidence_of;
 use crate::hints::Hints;
 use crate::nodes::{find_nodes, ids_at, ids_of};
 use rv_cert::{Certificate, Circle, Evidence};
-use rv_edges::{Around, History};
+use rv_edges::{Around, History, Tie};
 use rv_event::{Entry, Event, Fault, Id, Link, MemoryModel, NoMemory};
 use rv_rank::{Ranks, Refused};
 use std::alloc::Global;
@@ -145,6 +146,16 @@ impl Arrangement {
         ensures carried { IsCarried self.now.model self.now.history }
     {
         self.history.links()
+    }
+
+    /// The links that the history keeps, each with both of its ends.
+    ///
+    /// # Errors
+    /// `NoMemory` where the list could not be had.
+    pub fn ties(&self) -> Result<Vec<Tie>, NoMemory>
+        ensures { IfOk result (λ ties. AreTiesOf self.now.model (happened self.now.history) ties.items) }
+    {
+        self.history.ties()
     }
 
     /// Adds the entry where some order is lawful with its event.

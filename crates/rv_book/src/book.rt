@@ -4,6 +4,7 @@ ghost use Rattle.std.specs.Prelude.{length, true};
 ghost use Rattle.std.specs.Option.{option_map};
 ghost use Rattle.rv_book.specs.Counts.{is_waiting, operations_of, waiting_of};
 ghost use Rattle.rv_book.specs.Linked.{AreLinksOf};
+ghost use Rattle.rv_edges.specs.Ties.{AreTiesOf};
 ghost use Rattle.rv_event.specs.Log.{events, writer};
 ghost use Rattle.rv_event.specs.Faults.{fault_of};
 ghost use Rattle.rv_event.specs.Orders.{Lawful};
@@ -15,6 +16,7 @@ use crate::evidence::evidence_of;
 use crate::tally::Tally;
 use rv_cert::{Forbidden, Malformed, Verdict};
 use rv_chunk::{Chunk, unpack};
+use rv_edges::Tie;
 use rv_event::{Entry, Event, Fault, Id, Link, MemoryModel, NoMemory, find_deps_fault};
 use std::alloc::Global;
 use std::marker::Model;
@@ -184,6 +186,17 @@ impl Book {
         ensures { AreLinksOf self.now.model (events self.now.log) result.now }
     {
         self.arrangement.links()
+    }
+
+    /// The edges that the book keeps, each with both of its ends: wherever the log has an edge, a path
+    /// of them leads.
+    ///
+    /// # Errors
+    /// `NoMemory` where the list could not be had; the book stays as it is.
+    pub fn ties(&self) -> Result<Vec<Tie>, NoMemory>
+        ensures { IfOk result (λ ties. AreTiesOf self.now.model (events self.now.log) ties.items) }
+    {
+        self.arrangement.ties()
     }
 
     /// The ids of the memory operations, in an order that is lawful for the log.

@@ -8,3 +8,4 @@ pub mod Listed
 pub mod GrownHarts
 pub mod OwnLinkLists
 pub mod Sides
+pub mod TiesOfLinks

@@ -2,6 +2,7 @@
 use Rattle.rv_edges.proofs.Common.{common_steps, ◌≡◌, ℕ, ◌+◌, ◌-◌, ◌≤◌, List, [], ◌∷◌, ◌++◌, length, take, drop}
 use Rattle.std.specs.List.{flat_map}
 use Rattle.std.proofs.lemmas.List.{drop-drop, take-append-drop}
+use Rattle.std.proofs.Common.{suc}
 use Rattle.rv_edges.proofs.Common.{refl, sym, ap, ◌∙◌, append_assoc, arith, length-drop, length-take-le}
 use Rattle.rv_edges.proofs.Common.{take-append_seam, drop-append_seam, take-length}
 use Rattle.rv_edges.proofs.Common.{Link, Sides, OwnLinks, total, own_from}
@@ -10,6 +11,11 @@ use Rattle.rv_edges.proofs.Common.{Link, Sides, OwnLinks, total, own_from}
 pub total-push : (sides : List Sides) (s : Sides) → total (sides ++ s ∷ []) ≡ total sides + (s.before + s.after)
 total-push [] s = omega arith
 total-push (x ∷ sides) s = omega (arith, total-push sides s)
+
+-- each event has its links
+pub length-own_from : (links : List Link) (sides : List Sides) → length (own_from links sides) ≡ length sides
+length-own_from links [] = refl
+length-own_from links (s ∷ sides) = ap suc (length-own_from (drop (s.before + s.after) links) sides)
 
 -- how many links two lists have
 abbrev pub sides_of : List Link → List Link → Sides

@@ -2,3 +2,4 @@ pub mod Histories
 pub mod Indexes
 pub mod Kept
 pub mod OwnLinks
+pub mod Ties

@@ -16,9 +16,11 @@ ghost use Rattle.rv_versions.specs.Reserved.{IsReserved};
 ghost use Rattle.rv_edges.specs.Kept.{Kept, happened, grown, links_of, IsTied};
 ghost use Rattle.rv_edges.specs.Histories.{IsLinked, IsCarried, kept_of, with_entry, HasOwnEdge, IsStaleOf};
 ghost use Rattle.rv_edges.specs.Indexes.{AreHarts, IsHartIn, hart_in};
+ghost use Rattle.rv_edges.specs.Ties.{ties_of};
 ghost use Rattle.std.specs.Option.{option_copied, option_map};
 
 use crate::links::{KeptLinks, Links};
+use crate::ties::Tie;
 use rv_event::{
     Context, Dep, Entry, Event, Fault, Id, Link, MemoryModel, NoMemory, find_deps_fault,
     first_fault, is_bad_dependency, lowest_rule,
@@ -190,6 +192,17 @@ impl History {
         ensures carried { IsCarried self.now.model self.now.kept }
     {
         self.links.all()
+    }
+
+    /// The links that the history keeps, each with both of its ends, one event after the other.
+    ///
+    /// # Errors
+    /// `NoMemory` where the list could not be had.
+    pub fn ties(&self) -> Result<Vec<Tie>, NoMemory>
+        ensures value { IfOk result (λ ties. ties.items ≡ ties_of self.now.kept) }
+        ensures carried { IsCarried self.now.model self.now.kept }
+    {
+        self.links.ties(self.alloc, self.versions.entries())
     }
 
     /// Adds a copy of the event with its links, as an entry of source 0. The links are as `around`

@@ -14,8 +14,9 @@
 //!
 //! - `history`: the history, its links and what it keeps of harts and versions.
 //! - `links`: lists of links.
-//! - `specs/`: events with their links (`Kept`), what links promise (`Histories`), what is kept of
-//!   harts (`Indexes`).
+//! - `ties`: links with both of their ends.
+//! - `specs/`: events with their links (`Kept`), what links promise (`Histories`), links as pairs of
+//!   ids (`Ties`), what is kept of harts (`Indexes`).
 //!
 //! It stands on `rv_event`, `rv_cover`, `rv_hart` and `rv_versions`. Its one contract to the
 //! others: listed links are edges, and listed and kept links carry every edge.
@@ -23,6 +24,8 @@
 
 mod history;
 mod links;
+mod ties;
 
 pub use history::{Around, History};
 pub use links::Links;
+pub use ties::Tie;

@@ -1,9 +1,13 @@
 //! Lists of links.
-ghost use Rattle.std.specs.Prelude.{◌≡◌, ◌≢◌, ◌++◌, ◌∷◌, [], IfOk, OnOk, OnErr};
+ghost use Rattle.std.specs.Prelude.{◌≡◌, ◌≢◌, ◌++◌, ◌∷◌, [], IfOk, OnOk, OnErr, ◌≤◌, length};
 ghost use Rattle.std.specs.List.{flat_map};
-ghost use Rattle.rv_edges.specs.OwnLinks.{OwnLinks};
+ghost use Rattle.rv_event.specs.Log.{events};
+ghost use Rattle.rv_edges.specs.Kept.{kept_from};
+ghost use Rattle.rv_edges.specs.OwnLinks.{OwnLinks, own_from, total};
+ghost use Rattle.rv_edges.specs.Ties.{ties_of};
 
-use rv_event::{Link, NoMemory};
+use crate::ties::{Tie, push_ties};
+use rv_event::{Entry, Link, NoMemory};
 use std::alloc::{AllocError, Global};
 use std::marker::Model;
 
@@ -84,6 +88,17 @@ impl KeptLinks {
         self.links.as_slice()
     }
 
+    /// All links with both of their ends, one event of the log after the other.
+    ///
+    /// # Errors
+    /// `NoMemory` where the list could not be had.
+    pub fn ties(&self, alloc: Global, log: &[Entry]) -> Result<Vec<Tie>, NoMemory>
+        requires { length log.now ≡ length self.now }
+        ensures { IfOk result (λ ties. ties.items ≡ ties_of (kept_from (events log.now) self.now)) }
+    {
+        ties_from(alloc, log, self.links.as_slice(), self.sides.as_slice())
+    }
+
     /// Adds those of one event more.
     ///
     /// # Errors
@@ -116,4 +131,26 @@ impl KeptLinks {
             self.links.truncate(left);
         }
     }
+}
+
+/// The links with both of their ends: so many are of the first entry, and so on.
+fn ties_from(
+    alloc: Global,
+    log: &[Entry],
+    links: &[Link],
+    sides: &[Sides],
+) -> Result<Vec<Tie>, NoMemory>
+    requires long { length sides.now ≤ length log.now }
+    requires total { total sides.now ≡ length links.now }
+    ensures { IfOk result (λ ties. ties.items ≡ ties_of (kept_from (events log.now) (own_from links.now sides.now))) }
+{
+    let mut ties = Vec::with_capacity(alloc, links.len())?;
+    let mut rest = links;
+    for k in 0..sides.len() {
+        let (before, others) = rest.split_at(sides[k].before);
+        let (after, others) = others.split_at(sides[k].after);
+        push_ties(&mut ties, log[k].event.id, before, after)?;
+        rest = others;
+    }
+    Ok(ties)
 }
