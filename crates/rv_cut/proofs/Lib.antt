@@ -1,0 +1,5 @@
+pub mod Entries
+pub mod Found
+pub mod Lowered
+pub mod MoreMarks
+pub mod Reservations

@@ -1,0 +1,80 @@
+-- What is found is a cut.
+use Rattle.std.proofs.Common.{IsTrue, List, arith, length, refl, subst, sym, ℕ, ◌≤◌}
+use Rattle.std.proofs.lemmas.List.Elements.{All-contains}
+use Rattle.std.proofs.lemmas.List.Sorted.{Contains-permutation, IsPermutation-sym}
+use Rattle.std.specs.List.{Contains}
+use Rattle.rv_edges.specs.Ties.{AreTiesOf}
+use Rattle.rv_edges.specs.declared.ties.Tie.{Tie}
+use Rattle.rv_event.proofs.Indexed.{indexed_from_WellFormed}
+use Rattle.rv_event.specs.Log.{events, of_hart}
+use Rattle.rv_event.specs.Operations.{IsMemory}
+use Rattle.rv_event.specs.WellFormed.{WellFormed}
+use Rattle.rv_event.specs.declared.event.Entry.{Entry}
+use Rattle.rv_event.specs.declared.event.Event.{Event}
+use Rattle.rv_event.specs.declared.memory_model.MemoryModel.{MemoryModel}
+use Rattle.rv_settle.specs.Settled.{AnyEdge, IsSettled}
+use Rattle.rv_cut.proofs.Found.{IsClosed, found, found-none}
+use Rattle.rv_cut.proofs.Lowered.{past-lower}
+use Rattle.rv_cut.specs.Cuts.{IsCutOf, first_of, is_past}
+use Rattle.rv_cut.proofs.find.find_cut.Goals as goal
+
+pub behind-cut-requires : goal.behind-cut-requires
+behind-cut-requires c = indexed_from_WellFormed c.log-log.result.now
+    (subst WellFormed (sym c.log-log.ensures.value) c.log-log.ensures.well_formed)
+
+pub closes_pairs-requires : goal.closes_pairs-requires
+closes_pairs-requires c = indexed_from_WellFormed c.log-log.result.now
+    (subst WellFormed (sym c.log-log.ensures.value) c.log-log.ensures.well_formed)
+
+pub keep_unsettled-requires : goal.keep_unsettled-requires
+keep_unsettled-requires c = λ t own.
+    let sorted = c.sort_unstable_by_key.new.self.items in
+    let listed = Contains-permutation sorted c.in_ok-ties.ties.items t
+    (IsPermutation-sym c.in_ok-ties.ties.items sorted c.sort_unstable_by_key.ensures.permutation)
+    (subst (λ (ts : List Tie). Contains ts t) c.as_slice-2.ensures.value own) in
+    subst (λ (m : MemoryModel). AnyEdge m (events c.log-log.result.now) t.from t.to) (sym c.model-model.ensures.value)
+    (subst (λ (l : List Entry). AnyEdge c.args.book.now.model (events l) t.from t.to) (sym c.log-log.ensures.value)
+    (c.in_ok-ties.ensures.each t listed))
+
+pub returns-then-closes_pairs : goal.returns-then-closes_pairs
+returns-then-closes_pairs c =
+    subst (λ (m : MemoryModel). IsCutOf m (events c.args.book.now.log) c.args.active.now firsts)
+    c.model-model.ensures.value
+    (subst (λ (l : List Entry). IsCutOf c.model-model.result (events l) c.args.active.now firsts)
+    c.log-log.ensures.value (found c.model-model.result log c.args.active.now firsts c.in_ok-ties.ties.items are
+    closed settled (c.if-closes_pairs.ensures refl) within))
+  where
+    firsts : List ℕ
+    firsts = c.keep_open.new.cut
+
+    log : List Event
+    log = events c.log-log.result.now
+
+    are : AreTiesOf c.model-model.result log c.in_ok-ties.ties.items
+    are =
+        subst (λ (m : MemoryModel). AreTiesOf m log c.in_ok-ties.ties.items) (sym c.model-model.ensures.value)
+        (subst (λ (l : List Entry). AreTiesOf c.args.book.now.model (events l) c.in_ok-ties.ties.items)
+        (sym c.log-log.ensures.value) c.in_ok-ties.ensures)
+
+    closed : IsClosed firsts c.in_ok-ties.ties.items
+    closed t own =
+        All-contains (λ (x : Tie). IsTrue (is_past firsts x.to) → IsTrue (is_past firsts x.from))
+        c.as_slice-4.result.now t (c.if-is_closed.ensures.0 refl)
+        (subst (λ (ts : List Tie). Contains ts t) (sym c.as_slice-4.ensures.value)
+        (Contains-permutation c.in_ok-ties.ties.items c.sort_unstable_by_key.new.self.items t
+        c.sort_unstable_by_key.ensures.permutation own))
+
+    settled : (p : Event) → Contains log p → IsMemory p → IsTrue (is_past firsts p.id) →
+        IsSettled c.model-model.result log c.args.active.now p
+    settled p own memory past =
+        c.in_ok-keep_unsettled.ensures.settled p own memory
+        (past-lower c.keep_unsettled.new.cut firsts c.keep_open.ensures p.id past)
+
+    within : (hart : ℕ) → first_of firsts hart ≤ length (of_hart hart log)
+    within hart =
+        omega (arith, c.keep_open.ensures hart, c.keep_unsettled.ensures.lower hart, c.behind-cut.ensures hart)
+
+pub returns : goal.returns
+returns c =
+    found-none c.args.book.now.model (events c.args.book.now.log) c.args.active.now c.new.result
+    c.in_ok-ties.ties.items c.in_ok-ties.ensures c.new.ensures

@@ -1,0 +1,78 @@
+//! The search for a cut.
+ghost use Rattle.std.specs.Prelude.{IfOk};
+ghost use Rattle.rv_event.specs.Log.{events};
+ghost use Rattle.rv_cut.specs.Cuts.{IsCutOf};
+
+use crate::closing::{closes_pairs, is_closed, keep_open};
+use crate::cut::Cut;
+use crate::reach::keep_unsettled;
+use rv_book::Book;
+use rv_event::{Id, NoMemory};
+use std::alloc::Global;
+
+/// A cut of the book's log whose past these harts, the only ones that are still active, can't come
+/// before any more. No edge of the log leads into the past from what is kept, and no LR of the past
+/// waits for its SC.
+///
+/// The cut is as high as it may be: an event is kept only where it or one that pulls it with it is
+/// not settled. That is not proved; what is proved holds of any cut that is answered.
+///
+/// It costs a pass over the book's links and its log for each active hart, and a sort of the links.
+///
+/// # Errors
+/// `NoMemory` where it could not be had; the book stays as it is.
+pub fn find_cut(alloc: Global, book: &Book, active: &[u8]) -> Result<Cut, NoMemory>
+    ensures { IfOk result (IsCutOf book.now.model (events book.now.log) active.now) }
+{
+    let model = book.model();
+    let log = book.log();
+    let places = places_of(alloc, book.order()?.as_slice())?;
+    let mut ties = book.ties()?;
+    ties.sort_unstable_by_key(|tie| place_of(places.as_slice(), tie.from));
+    let mut cut = Cut::behind(log);
+    keep_unsettled(alloc, model, log, ties.as_slice(), active, &mut cut)?;
+    keep_open(alloc, log, ties.as_slice(), &mut cut)?;
+    if is_closed(ties.as_slice(), &cut) && closes_pairs(log, &cut) {
+        Ok(cut)
+    } else {
+        Ok(Cut::new())
+    }
+}
+
+/// How many operations stand behind each one in the order, by its hart and its number there.
+fn places_of(alloc: Global, order: &[Id]) -> Result<Vec<Vec<usize>>, NoMemory> {
+    let mut places = Vec::with_capacity(alloc, 16)?;
+    for _ in 0..16 {
+        places.push(Vec::new(alloc))?;
+    }
+    for k in 0..order.len() {
+        let id = order[k];
+        let behind = order.len() - k;
+        put_place(&mut places, id, behind)?;
+    }
+    Ok(places)
+}
+
+/// Puts the place of an operation down.
+fn put_place(places: &mut Vec<Vec<usize>>, id: Id, place: usize) -> Result<(), NoMemory> {
+    let Some(hart) = places.get_mut(id.hart as usize) else {
+        return Ok(());
+    };
+    let seq = id.seq as usize;
+    if hart.len() <= seq {
+        hart.resize(seq + 1, 0)?;
+    }
+    hart[seq] = place;
+    Ok(())
+}
+
+/// The place that was put down for the operation; 0 where none was.
+fn place_of(places: &[Vec<usize>], id: Id) -> usize {
+    let Some(hart) = places.get(id.hart as usize) else {
+        return 0;
+    };
+    match hart.get(id.seq as usize) {
+        Some(place) => *place,
+        None => 0,
+    }
+}
