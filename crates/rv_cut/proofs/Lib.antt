@@ -2,4 +2,3 @@ pub mod Entries
 pub mod Found
 pub mod Lowered
 pub mod MoreMarks
-pub mod Reservations

@@ -176,7 +176,7 @@ low-high m s (e ∷ es) counts = go (cases_lt s m) (low-high m (suc s) es (count
     go (inr least) again = rw (none-low m s (e ∷ es) counts least, all-high m s (e ∷ es) counts least) refl
 
 -- the events of the window are the events that are kept
-events-window : (first : ℕ → ℕ) (log : List Entry) → events (window first log) ≡ map (renumbered first)
+pub events-window : (first : ℕ → ℕ) (log : List Entry) → events (window first log) ≡ map (renumbered first)
     (filter (λ (e : Event). nat_le (first e.id.hart) e.id.seq) (events log))
 events-window first log =
     map-twice (λ (x : Entry). record x { event = renumbered first x.event }) (λ (x : Entry). x.event)

@@ -22,6 +22,7 @@ use Rattle.rv_event.specs.Orders.{IsOperation, IsOrderOf, Lawful, place}
 use Rattle.rv_event.specs.declared.event.Event.{Event}
 use Rattle.rv_event.specs.declared.event.Id.{Id}
 use Rattle.rv_event.specs.declared.memory_model.MemoryModel.{MemoryModel}
+use Rattle.rv_event.specs.declared.reason.Reason.{Reason}
 use Rattle.rv_settle.proofs.Bars.{earlier-new}
 use Rattle.rv_settle.proofs.Cuts.{cut-stays, new-id, none-back}
 use Rattle.rv_settle.proofs.Filtered.{filter-kept, once-append, place-filter}
@@ -47,11 +48,11 @@ true-not b passes = grind (arith, common_steps)
 
 module _ (log : List Event) (past : Event → Bool) (order : List Id) (whole : IsOrderOf log order) where
   -- the operations of an order that are kept, in that order
-  kept : List Id
+  pub kept : List Id
   kept = filter (λ i. is_kept past (named log i)) order
 
   -- these are the operations that are kept, each once
-  kept-order : IsOrderOfKept log past kept
+  pub kept-order : IsOrderOfKept log past kept
   unfolding kept
   kept-order = record {
     each = λ i a is memory fails.
@@ -68,6 +69,16 @@ module _ (log : List Event) (past : Event → Bool) (order : List Id) (whole : I
         );
     once = AllPairs-filter (λ i j. i ≢ j) (λ j. is_kept past (named log j)) order whole.once;
   }
+
+  -- edges go forward among them where all do
+  pub kept-forward : (model : MemoryModel) →
+      ((i j : Id) (reason : Reason) → IsEdge model log i reason j → place order i < place order j) →
+      GoesForward model log kept
+  unfolding kept
+  kept-forward model forward i j reason ci cj edge =
+      let test = λ (k : Id). is_kept past (named log k) in
+      place-filter test order i j (filter-kept test order i ci).1 (filter-kept test order j cj).1
+      (forward i j reason edge)
 
 module _ {limit : ℕ} (model : MemoryModel) (log : List Event) (e : Event) (known : IndexedWithin limit log)
     (sound : SoundWithin limit log e)

@@ -7,6 +7,8 @@ pub mod Formed
 pub mod Forward
 pub mod Joined
 pub mod Kept
+pub mod Nested
+pub mod Reserved
 pub mod Seen
 pub mod Stays
 pub mod Windows

@@ -1,5 +1,5 @@
 -- What the definitions say of events to come, however many events a hart may have.
-use Rattle.std.specs.Prelude.{◌++◌, ◌∷◌, ◌↔◌, ◌≢◌, [], All, Bool, Contains, IsTrue, List, ℕ}
+use Rattle.std.specs.Prelude.{◌++◌, ◌∷◌, ◌↔◌, ◌≡◌, ◌≢◌, [], All, Bool, Contains, IsTrue, List, ℕ}
 use Rattle.rv_event.specs.Edges.{IsEdge, IsStale}
 use Rattle.rv_event.specs.Log.{events}
 use Rattle.rv_event.specs.Orders.{Lawful}
@@ -14,7 +14,8 @@ use Rattle.rv_cert.specs.Laws.{NoneStale}
 use Rattle.rv_settle.specs.Cuts.{GoesForward, IsCut, IsOrderOfKept, IsParted, NoneStaleKept}
 use Rattle.rv_settle.specs.Past.{ComesBeforePast}
 use Rattle.rv_settle.specs.Settled.{AnyEdge, IsSettled}
-use Rattle.rv_settle.specs.Windows.{AreBoth, ClosesPairs, IsBelow, IsKept, KeepsFew, KeepsPairs, renumbered, window}
+use Rattle.rv_settle.specs.Windows.{AreBoth, ClosesPairs, IsBelow, IsKept, KeepsFew, KeepsPairs, both_firsts}
+use Rattle.rv_settle.specs.Windows.{renumbered, window}
 
 -- where an edge leads from a new event of an active hart to a settled one, no order is lawful
 abbrev pub NothingComesBeforeSettled : Type 0
@@ -128,3 +129,33 @@ CutsCompose =
     IsCut model (events log) active past → IsBelow (events log) past first →
     IsCut model (events (window first log)) active more → AreBoth first (events log) past more both →
     IsCut model (events log) active both
+
+-- Where some order is lawful for a log, some order is lawful for its window. No event is a carrier, what
+-- is forgotten leaves no hart with a reservation, and no hart keeps more than 4,096 events.
+abbrev pub WindowsAreLawful : Type 0
+WindowsAreLawful =
+    (limit : ℕ) (model : MemoryModel) (log : List Entry) (first : ℕ → ℕ) (order : List Id) →
+    WellFormedWithin limit log → All (λ m. m.op ≢ Carrier) (events log) →
+    ClosesPairs first (events log) → KeepsFew first (events log) → Lawful model (events log) order →
+    (rest : List Id) × Lawful model (events (window first log)) rest
+
+-- the window of a window is the window of the log from where both begin
+abbrev pub WindowsCompose : Type 0
+WindowsCompose =
+    (log : List Entry) (first next : ℕ → ℕ) →
+    window next (window first log) ≡ window (both_firsts first next) log
+
+-- Where what the log forgets leaves no hart with a reservation, and what its window forgets doesn't either,
+-- both together don't.
+abbrev pub PairsStayClosed : Type 0
+PairsStayClosed =
+    (log : List Entry) (first next : ℕ → ℕ) →
+    ClosesPairs first (events log) → ClosesPairs next (events (window first log)) →
+    ClosesPairs (both_firsts first next) (events log)
+
+-- the past of a log with the past of its window is what stands below both numbers
+abbrev pub PastsAdd : Type 0
+PastsAdd =
+    (log : List Entry) (first next : ℕ → ℕ) (past more both : Event → Bool) →
+    IsBelow (events log) past first → IsBelow (events (window first log)) more next →
+    AreBoth first (events log) past more both → IsBelow (events log) both (both_firsts first next)

@@ -47,6 +47,10 @@ abbrev pub ClosesPairs : (ℕ → ℕ) → List Event → Type 0
 ClosesPairs first log =
     (hart : ℕ) → IsFalse (is_reserved (filter (λ (e : Event). nat_lt e.id.seq (first e.id.hart)) log) hart)
 
+-- where each hart's numbers are counted from the first one of a window's window
+abbrev pub both_firsts : (ℕ → ℕ) → (ℕ → ℕ) → ℕ → ℕ
+both_firsts first next hart = first hart + next hart
+
 -- no hart keeps more than 4,096 events
 abbrev pub KeepsFew : (ℕ → ℕ) → List Event → Type 0
 KeepsFew first log = (hart : ℕ) → length (of_hart hart log) ≤ first hart + 4096

@@ -1,7 +1,8 @@
 //! Laws over the definitions alone. Each function does nothing: its contract is the law.
 ghost use Rattle.rv_settle.specs.Laws.{CutStays, CutsCompose, KeptDecides, NothingComesBeforeSettled, OrdersJoin};
-ghost use Rattle.rv_settle.specs.Laws.{PastIsSeen, SettledStays, WindowDecides, WindowsHaveTheEdges};
-ghost use Rattle.rv_settle.specs.Laws.{WindowsAreWellFormed, WindowsHaveTheStalePairs};
+ghost use Rattle.rv_settle.specs.Laws.{PairsStayClosed, PastIsSeen, PastsAdd, SettledStays, WindowDecides};
+ghost use Rattle.rv_settle.specs.Laws.{WindowsAreLawful, WindowsAreWellFormed, WindowsCompose};
+ghost use Rattle.rv_settle.specs.Laws.{WindowsHaveTheEdges, WindowsHaveTheStalePairs};
 
 /// No lawful order has a new event of an active hart before a settled operation, under either
 /// model: where an edge leads from the one to the other, no order is lawful.
@@ -66,8 +67,31 @@ pub fn windows_are_well_formed()
     ensures { WindowsAreWellFormed }
 {}
 
-/// The past of a cut, with the past of a cut of its window, is the past of a cut, under either model.
-/// So a run may forget more by its window alone.
+/// The past of a cut, with the past of a cut of its window, is the past of a cut, under either
+/// model. So a run may forget more by its window alone.
 pub fn cuts_compose()
     ensures { CutsCompose }
+{}
+
+/// Where some order is lawful for a log, some order is lawful for its window, under either model.
+/// So a window is judged anew without a refusal. No event of the log is a carrier, what is
+/// forgotten leaves no hart with a reservation, and no hart keeps more than 4,096 events.
+pub fn windows_are_lawful()
+    ensures { WindowsAreLawful }
+{}
+
+/// The window of a window is the window of the log, from where both begin.
+pub fn windows_compose()
+    ensures { WindowsCompose }
+{}
+
+/// Where what a log forgets leaves no hart with a reservation, and what its window forgets does not
+/// either, both together do not.
+pub fn pairs_stay_closed()
+    ensures { PairsStayClosed }
+{}
+
+/// The past of a log with the past of its window is what stands below the numbers of both.
+pub fn pasts_add()
+    ensures { PastsAdd }
 {}

@@ -9,7 +9,7 @@ use Rattle.rv_event.specs.Operations.{is_exclusive}
 use Rattle.rv_event.specs.declared.event.Entry.{Entry}
 use Rattle.rv_event.specs.declared.event.Event.{Event}
 use Rattle.rv_cut.proofs.Entries.{contained-at, events-more}
-use Rattle.rv_cut.proofs.Reservations.{reserved-kept, reserved-past}
+use Rattle.rv_settle.proofs.Reserved.{reserved-in, reserved-out}
 use Rattle.rv_cut.proofs.closing.closes_pairs.Goals.{else-is_past, then-is_past}
 use Rattle.rv_cut.specs.Cuts.{is_past}
 use Rattle.rv_cut.proofs.closing.closes_pairs.Goals as goal
@@ -33,12 +33,12 @@ loop-entry-preserved c = λ hart.
           ∙ w.note_reservation.ensures hart
           ∙ ap (λ (b : Bool). if (hart == e.id.hart) && is_exclusive e.op then is_lr e.op else b)
           (c.loop-entry.invariant hart)
-          ∙ sym (reserved-past is_gone before e hart (sym w.if-is_past.ensures))
+          ∙ sym (reserved-in is_gone before e hart (sym w.if-is_past.ensures))
           ∙ sym more
       | else-is_past w ↦
           ap (λ (rs : List Bool). get_or rs hart false) w.reserved-is
           ∙ c.loop-entry.invariant hart
-          ∙ sym (reserved-kept is_gone before e hart (sym w.if-is_past.ensures))
+          ∙ sym (reserved-out is_gone before e hart (sym w.if-is_past.ensures))
           ∙ sym more
     ]
 
