@@ -53,7 +53,7 @@ filter-swap {X} p q (x ∷ xs) = go (p x) (q x) refl refl (filter-swap p q xs)
     go false false e f again = again
 
 -- tests that agree on the elements keep the same ones
-filter-same : {X : Type 0} (p q : X → Bool) (xs : List X) → ((x : X) → Contains xs x → p x ≡ q x) →
+pub filter-same : {X : Type 0} (p q : X → Bool) (xs : List X) → ((x : X) → Contains xs x → p x ≡ q x) →
     filter p xs ≡ filter q xs
 filter-same p q [] same = refl
 filter-same {X} p q (x ∷ xs) same =
@@ -66,7 +66,7 @@ filter-same {X} p q (x ∷ xs) same =
     go false e f again = rw (f, e, again)
 
 -- a search in what was mapped
-find-map : {X Y : Type 0} (f : X → Y) (p : Y → Bool) (xs : List X) →
+pub find-map : {X Y : Type 0} (f : X → Y) (p : Y → Bool) (xs : List X) →
     find p (map f xs) ≡ option_map f (find (λ x. p (f x)) xs)
 find-map f p [] = refl
 find-map {X} {Y} f p (x ∷ xs) = go (p (f x)) (find-map f p xs)
@@ -77,14 +77,14 @@ find-map {X} {Y} f p (x ∷ xs) = go (p (f x)) (find-map f p xs)
     go false again = again
 
 -- what was mapped, from its end
-reverse-map : {X Y : Type 0} (f : X → Y) (xs : List X) → reverse (map f xs) ≡ map f (reverse xs)
+pub reverse-map : {X Y : Type 0} (f : X → Y) (xs : List X) → reverse (map f xs) ≡ map f (reverse xs)
 reverse-map f [] = refl
 reverse-map f (x ∷ xs) =
     reverse-append (f x ∷ []) (map f xs) ∙ ap (λ ys. ys ++ f x ∷ []) (reverse-map f xs) ∙
     sym (map-append f (reverse xs) (x ∷ [])) ∙ ap (map f) (sym (reverse-append (x ∷ []) xs))
 
 -- the events have the numbers from s on
-abbrev CountsFrom : ℕ → List Event → Type 0
+abbrev pub CountsFrom : ℕ → List Event → Type 0
 CountsFrom s es = (k : ℕ) (d : Event) → k < length es → (get_or es k d).id.seq ≡ s + k
 
 counts-here : (s : ℕ) (e : Event) (es : List Event) → CountsFrom s (e ∷ es) → e.id.seq ≡ s
@@ -106,10 +106,10 @@ counts-front s (x ∷ xs) ys counts (suc k) d low =
     omega (arith, at)
 
 -- whether the number is below m, or not
-abbrev is_low : ℕ → Event → Bool
+abbrev pub is_low : ℕ → Event → Bool
 is_low m e = nat_lt e.id.seq m
 
-abbrev is_high : ℕ → Event → Bool
+abbrev pub is_high : ℕ → Event → Bool
 is_high m e = nat_le m e.id.seq
 
 low-true : (m : ℕ) (e : Event) → e.id.seq < m → is_low m e ≡ true
@@ -146,7 +146,7 @@ none-low m s (e ∷ es) counts least =
     rw (low, again)
 
 -- so many are high
-count-high : (m s : ℕ) (es : List Event) → CountsFrom s es → s ≤ m →
+pub count-high : (m s : ℕ) (es : List Event) → CountsFrom s es → s ≤ m →
     length (filter (is_high m) es) ≡ (s + length es) - m
 count-high m s [] counts most = omega (arith, most)
 count-high m s (e ∷ es) counts most =
@@ -162,7 +162,7 @@ count-high m s (e ∷ es) counts most =
     go (inr least) again = rw (all-high m s (e ∷ es) counts least) (omega (arith, least, most))
 
 -- the low ones stand before the high ones
-low-high : (m s : ℕ) (es : List Event) → CountsFrom s es → es ≡ filter (is_low m) es ++ filter (is_high m) es
+pub low-high : (m s : ℕ) (es : List Event) → CountsFrom s es → es ≡ filter (is_low m) es ++ filter (is_high m) es
 low-high m s [] counts = refl
 low-high m s (e ∷ es) counts = go (cases_lt s m) (low-high m (suc s) es (counts-rest s e es counts))
   where
@@ -187,7 +187,7 @@ events-window first log =
     (λ (e : Event). nat_le (first e.id.hart) e.id.seq) log))
 
 -- a hart's events are of the hart
-of_hart-is : (h : ℕ) (es : List Event) (e : Event) → Contains (of_hart h es) e → e.id.hart ≡ h
+pub of_hart-is : (h : ℕ) (es : List Event) (e : Event) → Contains (of_hart h es) e → e.id.hart ≡ h
 of_hart-is h es e c =
     let passes = All-contains (λ (x : Event). (h == x.id.hart) ≡ true) (of_hart h es) e
     (filter_passes (λ (x : Event). h == x.id.hart) es) c in
@@ -206,7 +206,7 @@ own-window first h log =
     (λ e c. ap (λ (k : ℕ). nat_le (first k) e.id.seq) (of_hart-is h (events log) e c)))
 
 -- and of what is forgotten, its low ones
-own-forgotten : (first : ℕ → ℕ) (h : ℕ) (es : List Event) →
+pub own-forgotten : (first : ℕ → ℕ) (h : ℕ) (es : List Event) →
     of_hart h (filter (λ (e : Event). nat_lt e.id.seq (first e.id.hart)) es) ≡ filter (is_low (first h)) (of_hart h es)
 own-forgotten first h es =
     filter-swap (λ (e : Event). h == e.id.hart) (λ (e : Event). nat_lt e.id.seq (first e.id.hart)) es ∙
@@ -214,12 +214,12 @@ own-forgotten first h es =
     (λ e c. ap (λ (k : ℕ). nat_lt e.id.seq (first k)) (of_hart-is h es e c))
 
 -- whether the last LR, SC or failed SC of a list is an LR
-abbrev ends_reserved : List Event → Bool
+abbrev pub ends_reserved : List Event → Bool
 ends_reserved es =
     unwrap_or (option_map (λ (m : Event). is_lr m.op) (find (λ (m : Event). is_exclusive m.op) (reverse es))) false
 
 -- where the first part does not end with a reservation, and the whole does, so does the second part
-ends-behind : (xs ys : List Event) → ends_reserved xs ≡ false → ends_reserved (xs ++ ys) ≡ true →
+pub ends-behind : (xs ys : List Event) → ends_reserved xs ≡ false → ends_reserved (xs ++ ys) ≡ true →
     ends_reserved ys ≡ true
 ends-behind xs ys none whole = go (find (λ (m : Event). is_exclusive m.op) (reverse ys)) refl
   where
@@ -243,7 +243,7 @@ ends-behind xs ys none whole = go (find (λ (m : Event). is_exclusive m.op) (rev
         absurd (false≢true (sym none ∙ sym at ∙ whole))
 
 -- events that are renumbered end as they did
-ends-renumbered : (first : ℕ → ℕ) (es : List Event) → ends_reserved (map (renumbered first) es) ≡ ends_reserved es
+pub ends-renumbered : (first : ℕ → ℕ) (es : List Event) → ends_reserved (map (renumbered first) es) ≡ ends_reserved es
 ends-renumbered first es =
     go (find (λ (m : Event). is_exclusive m.op) (reverse es))
     (ap (find (λ (m : Event). is_exclusive m.op)) (reverse-map (renumbered first) es) ∙
@@ -282,7 +282,7 @@ any-false {X} p (y ∷ ys) none x c =
     go false is none' (inr d) again = again none' d
 
 -- a filter keeps no more than there is
-shorter : {X : Type 0} (p : X → Bool) (xs : List X) → length (filter p xs) ≤ length xs
+pub shorter : {X : Type 0} (p : X → Bool) (xs : List X) → length (filter p xs) ≤ length xs
 shorter p [] = omega arith
 shorter {X} p (x ∷ xs) = go (p x) (shorter p xs)
   where

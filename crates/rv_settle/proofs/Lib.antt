@@ -2,6 +2,7 @@ pub mod Bars
 pub mod Composed
 pub mod Cuts
 pub mod Decided
+pub mod Faulted
 pub mod Filtered
 pub mod Formed
 pub mod Forward

@@ -20,10 +20,10 @@ use Rattle.rv_settle.specs.Windows.{AreBoth, IsBelow, both_firsts, deps_from}
 use Rattle.rv_settle.specs.Windows.{renumbered, window}
 
 -- whether a number passes
-le-yes : (n m : ℕ) → n ≤ m → nat_le n m ≡ true
+pub le-yes : (n m : ℕ) → n ≤ m → nat_le n m ≡ true
 le-yes n m least = grind (arith, common_steps)
 
-le-no : (n m : ℕ) → m < n → nat_le n m ≡ false
+pub le-no : (n m : ℕ) → m < n → nat_le n m ≡ false
 le-no n m less = grind (arith, common_steps)
 
 lt-yes : (n m : ℕ) → n < m → nat_lt n m ≡ true

@@ -1,7 +1,10 @@
 -- What the definitions say of events to come, however many events a hart may have.
-use Rattle.std.specs.Prelude.{◌++◌, ◌∷◌, ◌↔◌, ◌≡◌, ◌≢◌, [], All, Bool, Contains, IsTrue, List, ℕ}
+use Rattle.std.specs.Prelude.{◌+◌, ◌++◌, ◌<◌, ◌∷◌, ◌↔◌, ◌≡◌, ◌≢◌, ◌≤◌, [], All, Bool, Contains, IsTrue, List}
+use Rattle.std.specs.Prelude.{length, ℕ}
+use Rattle.std.specs.Option.{option_map}
 use Rattle.rv_event.specs.Edges.{IsEdge, IsStale}
-use Rattle.rv_event.specs.Log.{events}
+use Rattle.rv_event.specs.Faults.{fault_of, fault_within}
+use Rattle.rv_event.specs.Log.{events, of_hart}
 use Rattle.rv_event.specs.Orders.{Lawful}
 use Rattle.rv_event.specs.WellFormed.{WellFormed, WellFormedWithin}
 use Rattle.rv_event.specs.declared.event.Entry.{Entry}
@@ -12,6 +15,7 @@ use Rattle.rv_event.specs.declared.memory_model.MemoryModel.{MemoryModel}
 use Rattle.rv_event.specs.declared.reason.Reason.{Reason}
 use Rattle.rv_cert.specs.Laws.{NoneStale}
 use Rattle.rv_settle.specs.Cuts.{GoesForward, IsCut, IsOrderOfKept, IsParted, NoneStaleKept}
+use Rattle.rv_settle.specs.Fitting.{FitsPast, in_full}
 use Rattle.rv_settle.specs.Past.{ComesBeforePast}
 use Rattle.rv_settle.specs.Settled.{AnyEdge, IsSettled}
 use Rattle.rv_settle.specs.Windows.{AreBoth, ClosesPairs, IsBelow, IsKept, KeepsFew, KeepsPairs, both_firsts}
@@ -159,3 +163,16 @@ PastsAdd =
     (log : List Entry) (first next : ℕ → ℕ) (past more both : Event → Bool) →
     IsBelow (events log) past first → IsBelow (events (window first log)) more next →
     AreBoth first (events log) past more both → IsBelow (events log) both (both_firsts first next)
+
+-- The fault of an entry over a log is its fault over the window, where the event fits what was forgotten,
+-- and its number is one of 4,096 of the window. What is forgotten leaves no hart with a reservation, and no hart
+-- keeps more than 4,096 events.
+abbrev pub WindowsHaveTheFaults : Type 0
+WindowsHaveTheFaults =
+    (limit : ℕ) (log : List Entry) (x : Entry) (first : ℕ → ℕ) →
+    WellFormedWithin limit log → ClosesPairs first (events log) → KeepsFew first (events log) →
+    first x.event.id.hart ≤ length (of_hart x.event.id.hart (events log)) → FitsPast limit log first x →
+    x.event.id.seq < first x.event.id.hart + 4096 →
+    fault_within limit log x
+    ≡ option_map (in_full first x.event.id.hart)
+    (fault_of (window first log) (record x { event = renumbered first x.event }))

@@ -2,7 +2,7 @@
 ghost use Rattle.rv_settle.specs.Laws.{CutStays, CutsCompose, KeptDecides, NothingComesBeforeSettled, OrdersJoin};
 ghost use Rattle.rv_settle.specs.Laws.{PairsStayClosed, PastIsSeen, PastsAdd, SettledStays, WindowDecides};
 ghost use Rattle.rv_settle.specs.Laws.{WindowsAreLawful, WindowsAreWellFormed, WindowsCompose};
-ghost use Rattle.rv_settle.specs.Laws.{WindowsHaveTheEdges, WindowsHaveTheStalePairs};
+ghost use Rattle.rv_settle.specs.Laws.{WindowsHaveTheEdges, WindowsHaveTheFaults, WindowsHaveTheStalePairs};
 
 /// No lawful order has a new event of an active hart before a settled operation, under either
 /// model: where an edge leads from the one to the other, no order is lawful.
@@ -94,4 +94,11 @@ pub fn pairs_stay_closed()
 /// The past of a log with the past of its window is what stands below the numbers of both.
 pub fn pasts_add()
     ensures { PastsAdd }
+{}
+
+/// The fault of an entry over a log is its fault over the window, in the log's numbers, where the
+/// event fits what was forgotten (`FitsPast`) and its hart has room in the window. What is
+/// forgotten leaves no hart with a reservation, and no hart keeps more than 4,096 events.
+pub fn windows_have_the_faults()
+    ensures { WindowsHaveTheFaults }
 {}

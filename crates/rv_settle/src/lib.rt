@@ -7,8 +7,8 @@
 //!
 //! - `laws`: what the definitions say.
 //! - `specs/`: operations that stand before what comes (`Bars`), settled operations (`Settled`),
-//!   what may be forgotten (`Cuts`), how an event can come before it (`Past`), what is kept, with
-//!   its numbers counted anew (`Windows`), the laws (`Laws`).
+//!   what may be forgotten (`Cuts`), how an event can come before it (`Past`), what an event asks
+//!   of it (`Fitting`), what is kept, with its numbers counted anew (`Windows`), the laws (`Laws`).
 //!
 //! It stands on `rv_event`, `rv_cert` and `rv_cover`, and has no code but the laws.
 #![tactic(auto)]
@@ -18,5 +18,6 @@ mod laws;
 pub use laws::{
     cut_stays, cuts_compose, kept_decides, nothing_comes_before_settled, orders_join,
     pairs_stay_closed, past_is_seen, pasts_add, settled_stays, window_decides, windows_are_lawful,
-    windows_are_well_formed, windows_compose, windows_have_the_edges, windows_have_the_stale_pairs,
+    windows_are_well_formed, windows_compose, windows_have_the_edges, windows_have_the_faults,
+    windows_have_the_stale_pairs,
 };
