@@ -20,7 +20,7 @@ fn entry_of(rt: &impl Abort, alloc: Global, row: &Row) -> Entry {
 }
 
 /// A book that has accepted the rows.
-fn book_of(rt: &impl Abort, alloc: Global, model: MemoryModel, rows: &[Row]) -> Book {
+pub fn book_of(rt: &impl Abort, alloc: Global, model: MemoryModel, rows: &[Row]) -> Book {
     let mut book = Book::new(alloc, model);
     for row in rows {
         let entry = entry_of(rt, alloc, row);

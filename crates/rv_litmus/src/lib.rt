@@ -18,6 +18,8 @@ mod certificates;
 mod chunks;
 pub mod circles;
 #[cfg(test)]
+mod cuts;
+#[cfg(test)]
 mod edges;
 #[cfg(test)]
 mod histories;

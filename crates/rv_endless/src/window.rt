@@ -1,0 +1,98 @@
+//! An entry as a window has it, and the LR with which an SC is paired.
+ghost use Rattle.std.specs.Prelude.{◌≡◌, ◌++◌, ◌∷◌, ◌≤◌, [], IfOk, List, length};
+ghost use Rattle.std.specs.Option.{option_copied};
+ghost use Rattle.rv_event.specs.Log.{events, of_hart};
+ghost use Rattle.rv_event.specs.declared.event.Event.{Event};
+ghost use Rattle.rv_event.proofs.Indexed.{Indexed};
+ghost use Rattle.rv_settle.specs.Windows.{counted_from, deps_from};
+ghost use Rattle.rv_past.specs.Laws.{IsPartner};
+ghost use Rattle.rv_endless.specs.Partners.{IsLastExclusive};
+
+use rv_event::{Dep, Deps, Entry, Event, Id, NoMemory, Op};
+use std::alloc::Global;
+
+/// The entry as a window has it that begins with this number of its hart: numbers are counted from
+/// there, and dependencies on what came before are left out.
+///
+/// # Errors
+/// `NoMemory` where it could not be had.
+pub fn renumber(alloc: Global, entry: &Entry, first: u32) -> Result<Entry, NoMemory>
+    ensures { IfOk result (λ x. x ≡ record entry.now { event = counted_from first entry.now.event }) }
+{
+    let event = &entry.event;
+    Ok(Entry {
+        source: entry.source,
+        event: Event {
+            id: Id {
+                hart: event.id.hart,
+                seq: event.id.seq.saturating_sub(first),
+            },
+            op: event.op,
+            word: event.word,
+            read: event.read,
+            wrote: event.wrote,
+            acquire: event.acquire,
+            release: event.release,
+            deps: renumber_deps(alloc, &event.deps, first)?,
+        },
+    })
+}
+
+/// The dependencies on the events from this number on, counted from there.
+fn renumber_deps(alloc: Global, deps: &Deps, first: u32) -> Result<Deps, NoMemory>
+    ensures { IfOk result (λ kept. kept ≡ deps_from first deps.now) }
+{
+    let mut kept = Deps::new(alloc);
+    for dep in deps.as_slice() {
+        if dep.seq >= first {
+            kept.push(Dep {
+                kind: dep.kind,
+                seq: dep.seq - first,
+            })?;
+        }
+    }
+    Ok(kept)
+}
+
+/// The LR with which the event is paired that comes after all of its hart's in the log, where it is
+/// an SC with one. It costs a pass over the log for an SC, and nothing for another event.
+pub fn find_partner<'a>(log: &'a [Entry], event: &Event) -> Option<&'a Event>
+    requires indexed { Indexed (events log.now) }
+    requires last { length (of_hart event.now.id.hart (events log.now)) ≤ event.now.id.seq }
+    ensures { IsPartner (events log.now ++ event.now ∷ []) event.now (option_copied result) }
+{
+    if event.op != Op::Sc {
+        return None;
+    }
+    let last = last_exclusive(log, event.id.hart)?;
+    if last.op == Op::Lr { Some(last) } else { None }
+}
+
+/// The LR, SC or failed SC of the hart with the highest number.
+fn last_exclusive(log: &[Entry], hart: u8) -> Option<&Event>
+    ensures { IsLastExclusive (events log.now) hart (option_copied result) }
+{
+    let mut last = None;
+    for entry in log {
+        last = later_exclusive(last, hart, &entry.event);
+    }
+    last
+}
+
+/// The event, where it is one of the hart's with a higher number, and else the one before.
+fn later_exclusive<'a>(last: Option<&'a Event>, hart: u8, event: &'a Event) -> Option<&'a Event>
+    ensures { (log : List Event) → IsLastExclusive log hart (option_copied last.entry) →
+        IsLastExclusive (log ++ event.now ∷ []) hart (option_copied result) }
+{
+    if event.id.hart != hart || !event.op.is_exclusive() {
+        return last;
+    }
+    let Some(before) = last else {
+        return Some(event);
+    };
+    if event.id.seq < before.id.seq {
+        last
+    } else {
+        Some(event)
+    }
+}
