@@ -1,6 +1,5 @@
 -- Events of a log's entries.
-use Rattle.std.proofs.Common.{List, ap, get_or, length, subst, sym, take, ℕ, [], ◌++◌, ◌+◌, ◌<◌, ◌∙◌}
-use Rattle.std.proofs.Common.{◌∷◌, ◌≡◌, ◌⊎◌}
+use Rattle.std.proofs.Common.{List, ap, get_or, length, subst, sym, take, ℕ, [], ◌++◌, ◌+◌, ◌<◌, ◌∙◌, ◌∷◌, ◌≡◌, ◌⊎◌}
 use Rattle.std.proofs.lemmas.List.{map-append, take_more}
 use Rattle.std.proofs.lemmas.List.Elements.{Contains-get_or, Contains-push_cases}
 use Rattle.std.specs.List.{Contains}

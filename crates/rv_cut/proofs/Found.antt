@@ -69,19 +69,22 @@ filter-none p [] none = refl
 filter-none p (x ∷ xs) none = let rest = filter-none p xs none in let first = none x in grind (arith, common_steps)
 
 -- no past at all is that of a cut
-pub found-none : (model : MemoryModel) (log : List Event) (active firsts : List ℕ) (ties : List Tie) →
-    AreTiesOf model log ties → ((hart : ℕ) → first_of firsts hart ≡ 0) → IsCutOf model log active firsts
-found-none model log active firsts ties are none =
-    found model log active firsts ties are (λ t own past. absurd (no t.to past))
-    (λ p own memory past. absurd (no p.id past)) closes (λ hart. omega (arith, none hart))
-  where
-    kept : (i : Id) → is_past firsts i ≡ false
-    kept i = le-ltb i.seq (first_of firsts i.hart) (omega (arith, none i.hart))
-
-    no : (i : Id) → IsTrue (is_past firsts i) → ⊥
-    no i past = omega (arith, none i.hart, ltb-true i.seq (first_of firsts i.hart) past)
-
-    closes : ClosesPairs (first_of firsts) log
-    closes hart =
-        ap (λ (es : List Event). is_reserved es hart)
-        (filter-none (λ (e : Event). is_past firsts e.id) log (λ e. kept e.id))
+pub found-none : (model : MemoryModel) (log : List Event) (active firsts : List ℕ) →
+    ((hart : ℕ) → first_of firsts hart ≡ 0) → IsCutOf model log active firsts
+found-none model log active firsts none = record {
+  cut = λ past of_log below.
+      let no : (p : Event) → IsTrue (past p) → ⊥ = λ p gone.
+      let low = (below p (of_log p gone)).0 gone in
+      omega (arith, low, none p.id.hart) in
+      record {
+        of_log = of_log;
+        begins = λ a p own gone earlier. absurd (no p gone);
+        closed = λ a p own gone edge. absurd (no p gone);
+        settled = λ p gone memory. absurd (no p gone);
+      };
+  closes = λ hart.
+      ap (λ (es : List Event). is_reserved es hart)
+      (filter-none (λ (e : Event). is_past firsts e.id) log
+      (λ e. le-ltb e.id.seq (first_of firsts e.id.hart) (omega (arith, none e.id.hart))));
+  within = λ hart. omega (arith, none hart);
+}

@@ -2,3 +2,4 @@ pub mod Entries
 pub mod Found
 pub mod Lowered
 pub mod MoreMarks
+pub mod Places

@@ -1,5 +1,7 @@
 -- What marks say when there is one more.
-use Rattle.std.proofs.Common.{IsTrue, List, ap, inl, inr, refl, subst, sym, ℕ, ◌<◌, ◌≡◌, ◌⊎◌}
+use Rattle.std.proofs.Common.{IsTrue, List, ap, arith, inl, inr, refl, subst, sym, ℕ, ◌<◌, ◌==◌, ◌∙◌, ◌≡◌, ◌⊎◌}
+use Rattle.std.proofs.lemmas.Bool.{eqb-true}
+use Rattle.std.specs.Global.{Vec}
 use Rattle.std.specs.List.{Contains}
 use Rattle.rv_cover.specs.Paths.{Path}
 use Rattle.rv_cover.specs.Paths.Path.{more, one}
@@ -18,9 +20,9 @@ use Rattle.rv_event.specs.declared.event.Op.TheVariants.{Branch}
 use Rattle.rv_event.specs.declared.memory_model.MemoryModel.{MemoryModel}
 use Rattle.rv_settle.specs.Bars.IsBeforeStores.{addressed, branched}
 use Rattle.rv_settle.specs.Settled.{AnyEdge, LeadsTo}
-use Rattle.rv_cut.specs.Marked.{AreMarked, PutsBefore, StandsBefore, is_marked}
+use Rattle.rv_cut.specs.Marked.{AreMarked, PutsBefore, StandsBefore, has_place, mark_of, place_for}
 use Rattle.rv_cut.specs.declared.bars.Later.{Later}
-use Rattle.rv_cut.specs.declared.bars.Later.TheVariants.{Stores}
+use Rattle.rv_cut.specs.declared.bars.Later.TheVariants.{Loads, Stores}
 
 module _ (model : MemoryModel) (log : List Event) (hart : ℕ) (later : Later) where
   -- edges lead from each operation of this id to one that stands there
@@ -28,20 +30,41 @@ module _ (model : MemoryModel) (log : List Event) (hart : ℕ) (later : Later) w
   Leads i = (p : Event) → Contains log p → IsMemory p → p.id ≡ i →
       LeadsTo model log hart (StandsBefore later model log) p
 
-  -- with one mark more they lead from each marked operation, where they do from this one
-  pub marked-more : (old new : List (List ℕ)) (i : Id) →
-      ((j : Id) → IsTrue (is_marked new j) → IsTrue (is_marked old j) ⊎ (j ≡ i)) → Leads i →
-      AreMarked model log hart later old → AreMarked model log hart later new
-  marked-more old new i with_one leads are p own memory marked = elim (with_one p.id marked) [
-    | inl before ↦ are p own memory before
-    | inr is ↦ leads p own memory is
-  ]
-
   -- an operation of the hart that stands there is one itself
   pub leads-own : (m : Event) → Contains log m → IsMemory m → m.id.hart ≡ hart → StandsBefore later model log m →
       Leads m.id
   leads-own m of_log memory own stands p p-own p-memory is =
       record { m = m; of_log = of_log; memory = memory; own = own; leads = inl is; stands = stands }
+
+-- each place is that of one hart and one kind
+place-apart : (hart h : ℕ) (later l : Later) → place_for hart later ≡ place_for h l → (hart ≡ h) × (later ≡ l)
+place-apart hart h Loads Loads same = (omega (arith, same), refl)
+place-apart hart h Loads Stores same = absurd (omega (arith, same))
+place-apart hart h Stores Loads same = absurd (omega (arith, same))
+place-apart hart h Stores Stores same = (omega (arith, same), refl)
+
+module _ (model : MemoryModel) (log : List Event) where
+  -- with more places for one id marks say the same, where edges lead from it for each of these
+  pub marked-more : (old new : List (Vec ℕ)) (i : Id) (mark : ℕ) →
+      ((j : Id) (k : ℕ) → IsTrue (has_place (mark_of new j) k) →
+      IsTrue (has_place (mark_of old j) k) ⊎ ((j ≡ i) × IsTrue (has_place mark k))) →
+      ((hart : ℕ) (later : Later) → IsTrue (has_place mark (place_for hart later)) → Leads model log hart later i) →
+      AreMarked model log old → AreMarked model log new
+  marked-more old new i mark with_one leads are hart later p own memory marked =
+      elim (with_one p.id (place_for hart later) marked) [
+        | inl before ↦ are hart later p own memory before
+        | inr is ↦ leads hart later is.1 p own memory is.0
+      ]
+
+  -- with one place they do where edges lead from it for that one
+  pub leads-one : (i : Id) (h : ℕ) (l : Later) (mark : ℕ) →
+      ((k : ℕ) → has_place mark k ≡ (k == place_for h l)) → Leads model log h l i →
+      (hart : ℕ) (later : Later) → IsTrue (has_place mark (place_for hart later)) → Leads model log hart later i
+  leads-one i h l mark is leads hart later has =
+      let same = place-apart hart h later l
+      (eqb-true (place_for hart later) (place_for h l) (sym (is (place_for hart later)) ∙ has)) in
+      subst (λ (x : ℕ). Leads model log x later i) (sym same.0)
+      (subst (λ (x : Later). Leads model log h x i) (sym same.1) leads)
 
 -- an operation on which an event depends by a branch or an address stands before each later store
 pub leads-source : (model : MemoryModel) (log : List Event) (e : Event) (later : Later) (d : Dep) → Contains log e →
@@ -83,8 +106,9 @@ leads-source model log e later d of_log listed (kind, (before, why)) p p-own p-m
 
 module _ (model : MemoryModel) (log : List Event) (hart : ℕ) (later : Later) where
   -- where an edge leads to a marked operation, edges lead from the other one too
-  pub leads-before : (rows : List (List ℕ)) (t : Tie) → AnyEdge model log t.from t.to → IsTrue (is_marked rows t.to) →
-      AreMarked model log hart later rows → Leads model log hart later t.from
+  pub leads-before : (rows : List (Vec ℕ)) (t : Tie) → AnyEdge model log t.from t.to →
+      IsTrue (has_place (mark_of rows t.to) (place_for hart later)) → AreMarked model log rows →
+      Leads model log hart later t.from
   leads-before rows t (reason, edge) marked are p own memory is =
       record { m = at.m; of_log = at.of_log; memory = at.memory; own = at.own; leads = inr leads; stands = at.stands }
     where
@@ -92,7 +116,8 @@ module _ (model : MemoryModel) (log : List Event) (hart : ℕ) (later : Later) w
       named = named-is log t.to edge.b edge.to_named
 
       at : LeadsTo model log hart (StandsBefore later model log) edge.b
-      at = are edge.b named.0 edge.to_memory (subst (λ i. IsTrue (is_marked rows i)) named.1 marked)
+      at = are hart later edge.b named.0 edge.to_memory
+          (subst (λ i. IsTrue (has_place (mark_of rows i) (place_for hart later))) named.1 marked)
 
       step : AnyEdge model log p.id edge.b.id
       step = subst (λ i. AnyEdge model log i edge.b.id) (sym is)

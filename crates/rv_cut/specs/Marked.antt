@@ -1,7 +1,8 @@
 -- What marks say of the operations of a log. These are this project's own.
-use Rattle.std.specs.Prelude.{ℕ, ◌≡◌, ◌<◌, ◌⊎◌, ◌&&◌, Bool, Contains, IsTrue, List, Option, None, Some, false, nat_lt}
-use Rattle.std.specs.Prelude.{slice_get}
-use Rattle.rv_rows.specs.Bits.{has_bit}
+use Rattle.std.specs.Global.{Vec}
+use Rattle.std.specs.Int.{bit_at}
+use Rattle.std.specs.Prelude.{ℕ, ◌*◌, ◌+◌, ◌≡◌, ◌<◌, ◌⊎◌, Bool, Contains, IsTrue, List, Option, None, Some}
+use Rattle.std.specs.Prelude.{nat_lt, slice_get, slice_index_or}
 use Rattle.rv_event.specs.Operations.{IsMemory}
 use Rattle.rv_event.specs.declared.event.Dep.{Dep}
 use Rattle.rv_event.specs.declared.event.DepKind.TheVariants.{Addr, Ctrl}
@@ -16,13 +17,21 @@ use Rattle.rv_settle.specs.Settled.{AnyEdge, LeadsTo}
 use Rattle.rv_cut.specs.declared.bars.Later.{Later}
 use Rattle.rv_cut.specs.declared.bars.Later.TheVariants.{Loads, Stores}
 
--- the row of a hart has the number
-abbrev pub has_in : Option (List ℕ) → ℕ → Bool
-has_in (Some row) seq = nat_lt seq 4096 && has_bit row seq
-has_in None seq = false
+-- the mark of a number, and of an id: a number in binary
+abbrev pub mark_in : Option (Vec ℕ) → ℕ → ℕ
+mark_in (Some row) seq = slice_index_or row.items seq 0
+mark_in None seq = 0
 
-abbrev pub is_marked : List (List ℕ) → Id → Bool
-is_marked rows i = has_in (slice_get rows i.hart) i.seq
+abbrev pub mark_of : List (Vec ℕ) → Id → ℕ
+mark_of rows i = mark_in (slice_get rows i.hart) i.seq
+
+-- whether a mark has a place, and the place of what is asked of a hart: two for each
+abbrev pub has_place : ℕ → ℕ → Bool
+has_place mark k = nat_lt 0 (bit_at mark k)
+
+abbrev pub place_for : ℕ → Later → ℕ
+place_for hart Loads = 2 * hart
+place_for hart Stores = 2 * hart + 1
 
 -- an operation of this kind
 abbrev pub op_of : Later → Op
@@ -38,17 +47,22 @@ StandsBefore Stores model log m = IsBeforeStores model log m
 abbrev pub PutsBefore : Event → Dep → Type 0
 PutsBefore e d = (d.seq < e.id.seq) × ((d.kind ≡ Addr) ⊎ ((d.kind ≡ Ctrl) × (e.op ≡ Branch)))
 
--- edges lead from each marked operation to one of the hart that stands there
-abbrev pub AreMarked : MemoryModel → List Event → ℕ → Later → List (List ℕ) → Type 0
-AreMarked model log hart later rows =
-    (p : Event) → Contains log p → IsMemory p → IsTrue (is_marked rows p.id) →
+-- Where an operation's mark has a place, edges lead from it to an operation of that hart that stands
+-- before what is asked there.
+abbrev pub AreMarked : MemoryModel → List Event → List (Vec ℕ) → Type 0
+AreMarked model log rows =
+    (hart : ℕ) (later : Later) (p : Event) → Contains log p → IsMemory p →
+    IsTrue (has_place (mark_of rows p.id) (place_for hart later)) →
     LeadsTo model log hart (StandsBefore later model log) p
 
--- edges lead so from each operation of the past
-abbrev pub AllLead : MemoryModel → List Event → ℕ → Later → (Id → Bool) → Type 0
-AllLead model log hart later is_gone =
-    (p : Event) → Contains log p → IsMemory p → IsTrue (is_gone p.id) →
-    LeadsTo model log hart (StandsBefore later model log) p
+-- the mark has all places that are wanted
+abbrev pub HasPlaces : ℕ → ℕ → Type 0
+HasPlaces wanted mark = (k : ℕ) → IsTrue (has_place wanted k) → IsTrue (has_place mark k)
+
+-- the mark has both places of each of the harts
+abbrev pub HasAll : List ℕ → ℕ → Type 0
+HasAll active mark =
+    (hart : ℕ) (later : Later) → Contains active hart → IsTrue (has_place mark (place_for hart later))
 
 -- each of them is an edge of the log
 abbrev pub AreEdges : MemoryModel → List Event → List Tie → Type 0

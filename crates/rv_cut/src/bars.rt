@@ -1,11 +1,12 @@
 //! Operations of a hart that stand before what it does later.
-ghost use Rattle.std.specs.Prelude.{◌≡◌, ◌↔◌, Contains, IfSome, IsTrue, List};
+ghost use Rattle.std.specs.Prelude.{ℕ, ◌≡◌, ◌==◌, ◌<◌, ◌↔◌, Contains, IfSome, IsTrue, List};
 ghost use Rattle.std.specs.Option.{option_copied};
 ghost use Rattle.rv_event.specs.Log.{events};
 ghost use Rattle.rv_event.specs.Operations.{IsMemory};
 ghost use Rattle.rv_event.specs.declared.event.Event.{Event};
 ghost use Rattle.rv_event.specs.declared.memory_model.MemoryModel.{MemoryModel};
-ghost use Rattle.rv_cut.specs.Marked.{AreMarked, PutsBefore, StandsBefore, op_of};
+ghost use Rattle.rv_cut.specs.Marked.{AreMarked, PutsBefore, StandsBefore, has_place, op_of};
+ghost use Rattle.rv_cut.specs.Marked.{place_for};
 ghost use Rattle.rv_cut.specs.declared.bars.Later.TheVariants as kind;
 
 use crate::marks::Marks;
@@ -32,6 +33,18 @@ impl Later {
             Later::Stores => Op::Store,
         }
     }
+
+    /// The mark with the place of the kind for this hart, and no other.
+    pub fn mark(self, hart: u8) -> u32
+        requires { hart < 16 }
+        ensures { (k : ℕ) → has_place result k ≡ (k == place_for hart self) }
+    {
+        let place = match self {
+            Later::Loads => 2 * hart,
+            Later::Stores => 2 * hart + 1,
+        };
+        1 << place
+    }
 }
 
 /// Marks the operations of the hart that stand before its later loads, or before its later stores:
@@ -39,8 +52,8 @@ impl Later {
 ///
 /// It costs three passes over the log.
 pub fn mark_bars(model: MemoryModel, log: &[Entry], hart: u8, later: Later, marks: &mut Marks)
-    ensures { AreMarked model (events log.now) hart later marks.old →
-        AreMarked model (events log.now) hart later marks.new }
+    requires { hart < 16 }
+    ensures { AreMarked model (events log.now) marks.old → AreMarked model (events log.now) marks.new }
 {
     let after_loads = last_fence(log, hart, Op::Load, later);
     let after_stores = last_fence(log, hart, Op::Store, later);
@@ -61,13 +74,13 @@ fn mark_bar(
     after_stores: Option<&Event>,
     marks: &mut Marks,
 )
+    requires { event.now.id.hart < 16 }
     ensures { (log : List Event) → IfSome (option_copied after_loads.entry) (Contains log) →
         IfSome (option_copied after_stores.entry) (Contains log) → Contains log event.now →
-        AreMarked model log event.now.id.hart later marks.old →
-        AreMarked model log event.now.id.hart later marks.new }
+        AreMarked model log marks.old → AreMarked model log marks.new }
 {
     if is_bar(model, event, later, after_loads, after_stores) {
-        marks.mark(event.id);
+        marks.add(event.id, later.mark(event.id.hart));
     }
 }
 
@@ -124,16 +137,17 @@ fn is_annotated(model: MemoryModel, event: &Event, later: Later) -> bool
 
 /// Marks the operations that stand there because the event depends on them.
 fn mark_sources(event: &Event, later: Later, marks: &mut Marks)
+    requires { event.now.id.hart < 16 }
     ensures { (model : MemoryModel) (log : List Event) → Contains log event.now →
-        AreMarked model log event.now.id.hart later marks.old →
-        AreMarked model log event.now.id.hart later marks.new }
+        AreMarked model log marks.old → AreMarked model log marks.new }
 {
     for dep in event.deps.as_slice() {
         if is_source(event, later, *dep) {
-            marks.mark(Id {
+            let source = Id {
                 hart: event.id.hart,
                 seq: dep.seq,
-            });
+            };
+            marks.add(source, later.mark(event.id.hart));
         }
     }
 }

@@ -11,19 +11,23 @@ use rv_event::{Id, NoMemory};
 use std::alloc::Global;
 
 /// A cut of the book's log whose past these harts, the only ones that are still active, can't come
-/// before any more. No edge of the log leads into the past from what is kept, and no LR of the past
-/// waits for its SC.
+/// before any more. With a hart above 15 there is no past. No edge of the log leads into the past
+/// from what is kept, and no LR of the past waits for its SC.
 ///
 /// The cut is as high as it may be: an event is kept only where it or one that pulls it with it is
 /// not settled. That is not proved; what is proved holds of any cut that is answered.
 ///
-/// It costs a pass over the book's links and its log for each active hart, and a sort of the links.
+/// It costs three passes over the log for each active hart, one over the book's links, and a sort
+/// of these.
 ///
 /// # Errors
 /// `NoMemory` where it could not be had; the book stays as it is.
 pub fn find_cut(alloc: Global, book: &Book, active: &[u8]) -> Result<Cut, NoMemory>
     ensures { IfOk result (IsCutOf book.now.model (events book.now.log) active.now) }
 {
+    if active.iter().any(|hart| *hart >= 16) {
+        return Ok(Cut::new());
+    }
     let model = book.model();
     let log = book.log();
     let places = places_of(alloc, book.order()?.as_slice())?;

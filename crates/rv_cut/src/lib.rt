@@ -9,8 +9,8 @@
 //! marked first, and then whatever has an edge to a marked one.
 //!
 //! - `cut`: a cut, as a number for each hart.
-//! - `marks`: sets of ids.
-//! - `bars`: the operations of a hart that stand before what it does later.
+//! - `marks`: of each event, to the bars of which harts edges lead.
+//! - `bars`: the operations of a hart that stand before what it does later, its bars.
 //! - `reach`: what edges lead to them.
 //! - `closing`: cuts into which no edge leads, and that leave no pair open.
 //! - `find`: the search for a cut.

@@ -1,13 +1,12 @@
 //! Operations from which edges lead to where nothing comes before them.
-ghost use Rattle.std.specs.Prelude.{◌≡◌, ℕ, Contains, IfOk, IsTrue, List, OnOk};
+ghost use Rattle.std.specs.Prelude.{◌<◌, ◌≡◌, ℕ, Contains, IsTrue, List, OnOk};
 ghost use Rattle.rv_event.specs.Log.{events};
 ghost use Rattle.rv_event.specs.Operations.{IsMemory};
 ghost use Rattle.rv_event.specs.declared.event.Event.{Event};
 ghost use Rattle.rv_event.specs.declared.memory_model.MemoryModel.{MemoryModel};
 ghost use Rattle.rv_settle.specs.Settled.{IsSettled};
 ghost use Rattle.rv_cut.specs.Cuts.{AreLower, is_past};
-ghost use Rattle.rv_cut.specs.Marked.{AreEdges, AreMarked, is_marked};
-ghost use Rattle.rv_cut.specs.declared.bars.Later.{Later};
+ghost use Rattle.rv_cut.specs.Marked.{AreEdges, AreMarked, HasAll, HasPlaces, mark_of};
 
 use crate::bars::{Later, mark_bars};
 use crate::cut::Cut;
@@ -33,68 +32,72 @@ pub fn keep_unsettled(
     active: &[u8],
     cut: &mut Cut,
 ) -> Result<(), NoMemory>
-    requires { AreEdges model (events log.now) ties.now }
+    requires edges { AreEdges model (events log.now) ties.now }
+    requires harts { (hart : ℕ) → Contains active.now hart → hart < 16 }
     ensures settled { OnOk result ((p : Event) → Contains (events log.now) p → IsMemory p →
         IsTrue (is_past cut.new p.id) → IsSettled model (events log.now) active.now p) }
     ensures lower { AreLower cut.old cut.new }
 {
-    for hart in active {
-        let before_loads = marks_of(alloc, model, log, ties, *hart, Later::Loads)?;
-        keep_unmarked(log, &before_loads, cut);
-        let before_stores = marks_of(alloc, model, log, ties, *hart, Later::Stores)?;
-        keep_unmarked(log, &before_stores, cut);
-    }
+    let mut marks = Marks::new(alloc, log)?;
+    let wanted = mark_all(model, log, active, &mut marks);
+    mark_sources(ties, &mut marks);
+    keep_unmarked(log, &marks, wanted, cut);
     Ok(())
 }
 
-/// Marks of operations from which the ties lead to one of the hart that stands there, and of these.
-fn marks_of(
-    alloc: Global,
-    model: MemoryModel,
-    log: &[Entry],
-    ties: &[Tie],
-    hart: u8,
-    later: Later,
-) -> Result<Marks, NoMemory>
-    requires { AreEdges model (events log.now) ties.now }
-    ensures { IfOk result (AreMarked model (events log.now) hart later) }
+/// Marks the operations of each hart that stand before its later loads or stores. It answers the
+/// mark with all places of these harts.
+fn mark_all(model: MemoryModel, log: &[Entry], active: &[u8], marks: &mut Marks) -> u32
+    requires { (hart : ℕ) → Contains active.now hart → hart < 16 }
+    ensures marked { AreMarked model (events log.now) marks.old → AreMarked model (events log.now) marks.new }
+    ensures all { HasAll active.now result }
 {
-    let mut marks = Marks::new(alloc)?;
-    mark_bars(model, log, hart, later, &mut marks);
-    mark_sources(ties, &mut marks);
-    Ok(marks)
+    let mut all = 0;
+    for hart in active {
+        mark_bars(model, log, *hart, Later::Loads, marks);
+        mark_bars(model, log, *hart, Later::Stores, marks);
+        all = all | Later::Loads.mark(*hart) | Later::Stores.mark(*hart);
+    }
+    all
 }
 
-/// Marks each event from which a tie leads to a marked one, in the order of the ties.
+/// Adds the places of each marked event to those of the events from which a tie leads to it, in the
+/// order of the ties.
 fn mark_sources(ties: &[Tie], marks: &mut Marks)
-    ensures { (model : MemoryModel) (log : List Event) (hart : ℕ) (later : Later) → AreEdges model log ties.now →
-        AreMarked model log hart later marks.old → AreMarked model log hart later marks.new }
+    ensures { (model : MemoryModel) (log : List Event) → AreEdges model log ties.now →
+        AreMarked model log marks.old → AreMarked model log marks.new }
 {
     for tie in ties {
-        if marks.has(tie.to) {
-            marks.mark(tie.from);
-        }
+        let mark = marks.of(tie.to);
+        marks.add(tie.from, mark);
     }
 }
 
-/// Keeps each memory operation that is not marked.
-fn keep_unmarked(log: &[Entry], marks: &Marks, cut: &mut Cut)
+/// Keeps each memory operation whose mark lacks one of the places.
+fn keep_unmarked(log: &[Entry], marks: &Marks, wanted: u32, cut: &mut Cut)
     ensures marked { (p : Event) → Contains (events log.now) p → IsMemory p →
-        IsTrue (is_past cut.new p.id) → IsTrue (is_marked marks.now p.id) }
+        IsTrue (is_past cut.new p.id) → HasPlaces wanted (mark_of marks.now p.id) }
     ensures lower { AreLower cut.old cut.new }
 {
     for entry in log {
-        keep_if_unmarked(&entry.event, marks, cut);
+        keep_if_unmarked(&entry.event, marks, wanted, cut);
     }
 }
 
-/// Keeps the event where it is a memory operation that is not marked.
-fn keep_if_unmarked(event: &Event, marks: &Marks, cut: &mut Cut)
+/// Keeps the event where it is a memory operation whose mark lacks one of the places.
+fn keep_if_unmarked(event: &Event, marks: &Marks, wanted: u32, cut: &mut Cut)
     ensures marked { IsMemory event.now → IsTrue (is_past cut.new event.now.id) →
-        IsTrue (is_marked marks.now event.now.id) }
+        HasPlaces wanted (mark_of marks.now event.now.id) }
     ensures lower { AreLower cut.old cut.new }
 {
-    if event.is_memory() && !marks.has(event.id) {
+    if event.is_memory() && !has_places(marks.of(event.id), wanted) {
         cut.keep(event.id);
     }
+}
+
+/// Whether the mark has all of these places.
+fn has_places(mark: u32, wanted: u32) -> bool
+    ensures { IsTrue result → HasPlaces wanted mark }
+{
+    mark & wanted == wanted
 }

@@ -1,5 +1,5 @@
 -- Events of the hart are marked where they stand there.
-use Rattle.std.proofs.Common.{subst, sym, ℕ}
+use Rattle.std.proofs.Common.{subst, sym}
 use Rattle.rv_event.specs.Log.{events}
 use Rattle.rv_cut.proofs.Entries.{contained-at}
 use Rattle.rv_cut.proofs.bars.mark_bars.Goals.{else-entry-hart, then-entry-hart}
@@ -7,20 +7,15 @@ use Rattle.rv_cut.specs.Marked.{AreMarked}
 use Rattle.rv_cut.proofs.bars.mark_bars.Goals as goal
 
 pub loop-entry-preserved : goal.loop-entry-preserved
-loop-entry-preserved c = λ marked. elim c.if-entry-hart.branch [
-  | then-entry-hart w ↦
-      let log = events c.args.log.now in
-      let own = contained-at c.args.log.now c.loop-entry.entry-index c.entry-item.result c.loop-entry-test.true
-      c.entry-item.is in
-      let event = c.entry-item.result.event in
-      let with_event = w.mark_bar.ensures log c.last_fence-after_loads.ensures c.last_fence-after_stores.ensures own
-      (subst (λ (h : ℕ). AreMarked c.args.model log h c.args.later c.loop-entry.marks) (sym w.if-entry-hart.true)
-      (c.loop-entry.invariant marked)) in
-      let with_sources = w.mark_sources.ensures c.args.model log own with_event in
-      subst (AreMarked c.args.model log c.args.hart c.args.later) (sym w.marks-is)
-      (subst (λ (h : ℕ). AreMarked c.args.model log h c.args.later w.mark_sources.new.marks) w.if-entry-hart.true
-      with_sources)
-  | else-entry-hart w ↦
-      subst (AreMarked c.args.model (events c.args.log.now) c.args.hart c.args.later) (sym w.marks-is)
-      (c.loop-entry.invariant marked)
-]
+loop-entry-preserved c = λ marked.
+    let log = events c.args.log.now in
+    elim c.if-entry-hart.branch [
+      | then-entry-hart w ↦
+          let own = contained-at c.args.log.now c.loop-entry.entry-index c.entry-item.result c.loop-entry-test.true
+          c.entry-item.is in
+          let with_event = w.mark_bar.ensures log c.last_fence-after_loads.ensures c.last_fence-after_stores.ensures
+          own (c.loop-entry.invariant marked) in
+          subst (AreMarked c.args.model log) (sym w.marks-is)
+          (w.mark_sources.ensures c.args.model log own with_event)
+      | else-entry-hart w ↦ subst (AreMarked c.args.model log) (sym w.marks-is) (c.loop-entry.invariant marked)
+    ]

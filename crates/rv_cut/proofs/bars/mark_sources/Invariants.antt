@@ -7,4 +7,4 @@ use Rattle.rv_cut.proofs.bars.mark_sources.Given as goal
 
 abbrev pub invariant-loop-dep : goal.invariant-loop-dep
 invariant-loop-dep l = (model : MemoryModel) (log : List Event) → Contains log l.event →
-    AreMarked model log l.event.id.hart l.later l.fn.marks → AreMarked model log l.event.id.hart l.later l.marks
+    AreMarked model log l.fn.marks → AreMarked model log l.marks

@@ -1,6 +1,6 @@
 -- A hart's reservation is told by its last event of the past that opens or ends one.
-use Rattle.std.proofs.Common.{Bool, List, ap, arith, false, filter, get_or, if◌then◌else◌, sym, take, ◌&&◌}
-use Rattle.std.proofs.Common.{◌==◌, ◌∙◌}
+use Rattle.std.proofs.Common.{Bool, List, ap, arith, false, filter, get_or, if◌then◌else◌, sym, take, ◌&&◌, ◌==◌}
+use Rattle.std.proofs.Common.{◌∙◌}
 use Rattle.std.proofs.lemmas.Grind.{common_steps}
 use Rattle.std.proofs.lemmas.List.{take_all}
 use Rattle.rv_event.specs.Faults.{is_lr, is_reserved}
@@ -8,8 +8,8 @@ use Rattle.rv_event.specs.Log.{events}
 use Rattle.rv_event.specs.Operations.{is_exclusive}
 use Rattle.rv_event.specs.declared.event.Entry.{Entry}
 use Rattle.rv_event.specs.declared.event.Event.{Event}
-use Rattle.rv_cut.proofs.Entries.{contained-at, events-more}
 use Rattle.rv_settle.proofs.Reserved.{reserved-in, reserved-out}
+use Rattle.rv_cut.proofs.Entries.{contained-at, events-more}
 use Rattle.rv_cut.proofs.closing.closes_pairs.Goals.{else-is_past, then-is_past}
 use Rattle.rv_cut.specs.Cuts.{is_past}
 use Rattle.rv_cut.proofs.closing.closes_pairs.Goals as goal

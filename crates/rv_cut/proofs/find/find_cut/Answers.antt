@@ -26,8 +26,8 @@ pub closes_pairs-requires : goal.closes_pairs-requires
 closes_pairs-requires c = indexed_from_WellFormed c.log-log.result.now
     (subst WellFormed (sym c.log-log.ensures.value) c.log-log.ensures.well_formed)
 
-pub keep_unsettled-requires : goal.keep_unsettled-requires
-keep_unsettled-requires c = λ t own.
+pub keep_unsettled-requires-clause-edges : goal.keep_unsettled-requires-clause-edges
+keep_unsettled-requires-clause-edges c = λ t own.
     let sorted = c.sort_unstable_by_key.new.self.items in
     let listed = Contains-permutation sorted c.in_ok-ties.ties.items t
     (IsPermutation-sym c.in_ok-ties.ties.items sorted c.sort_unstable_by_key.ensures.permutation)
@@ -76,5 +76,9 @@ returns-then-closes_pairs c =
 
 pub returns : goal.returns
 returns c =
-    found-none c.args.book.now.model (events c.args.book.now.log) c.args.active.now c.new.result
-    c.in_ok-ties.ties.items c.in_ok-ties.ensures c.new.ensures
+    found-none c.args.book.now.model (events c.args.book.now.log) c.args.active.now c.new-else-is_closed.result
+    c.new-else-is_closed.ensures
+
+pub returns-then-any : goal.returns-then-any
+returns-then-any c =
+    found-none c.args.book.now.model (events c.args.book.now.log) c.args.active.now c.new.result c.new.ensures

@@ -1,4 +1,4 @@
--- An operation that is not marked is kept.
+-- An operation whose mark lacks a place is kept.
 use Rattle.std.proofs.Common.{IsTrue, List, inl, inr, subst, sym}
 use Rattle.std.proofs.lemmas.List.{take_all}
 use Rattle.std.specs.List.{Contains}
@@ -9,7 +9,7 @@ use Rattle.rv_event.specs.declared.event.Event.{Event}
 use Rattle.rv_cut.proofs.Entries.{event-more}
 use Rattle.rv_cut.proofs.Lowered.{lower-trans, past-lower}
 use Rattle.rv_cut.specs.Cuts.{is_past}
-use Rattle.rv_cut.specs.Marked.{is_marked}
+use Rattle.rv_cut.specs.Marked.{HasPlaces, mark_of}
 use Rattle.rv_cut.proofs.reach.keep_unmarked.Goals as goal
 
 pub loop-entry-preserved : goal.loop-entry-preserved
@@ -21,7 +21,7 @@ loop-entry-preserved c = (
             (past-lower c.loop-entry.cut c.keep_if_unmarked.new.cut c.keep_if_unmarked.ensures.lower p.id past)
         | inr is ↦
             subst (λ (e : Event). IsMemory e → IsTrue (is_past c.keep_if_unmarked.new.cut e.id) →
-            IsTrue (is_marked c.args.marks.now e.id)) is c.keep_if_unmarked.ensures.marked memory past
+            HasPlaces c.args.wanted (mark_of c.args.marks.now e.id)) is c.keep_if_unmarked.ensures.marked memory past
       ],
   lower-trans c.args.cut.now c.loop-entry.cut c.keep_if_unmarked.new.cut c.loop-entry.invariant.1
       c.keep_if_unmarked.ensures.lower,

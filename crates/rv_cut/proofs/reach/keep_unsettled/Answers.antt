@@ -1,34 +1,21 @@
--- What is left of the past is settled for the harts that were looked at.
-use Rattle.std.proofs.Common.{List, inl, inr, subst, sym, ℕ}
-use Rattle.std.proofs.lemmas.List.{take_all}
-use Rattle.std.specs.List.{Contains}
+-- What is left of the past has all places of the active harts.
+use Rattle.std.proofs.Common.{IsTrue, subst, ℕ}
 use Rattle.rv_event.specs.Log.{events}
-use Rattle.rv_settle.specs.Settled.{IsSettledFor}
-use Rattle.rv_cut.proofs.Entries.{contained-more}
-use Rattle.rv_cut.proofs.Lowered.{lower-trans, past-lower}
+use Rattle.rv_cut.proofs.Places.{none-there}
+use Rattle.rv_cut.specs.Marked.{AreMarked, has_place, place_for}
+use Rattle.rv_cut.specs.declared.bars.Later.TheVariants.{Loads, Stores}
 use Rattle.rv_cut.proofs.reach.keep_unsettled.Goals as goal
-
-pub loop-hart-preserved : goal.loop-hart-preserved
-loop-hart-preserved c =
-    let first = c.keep_unmarked in
-    let second = c.keep_unmarked-in-loop-hart in
-    let lower = lower-trans c.loop-hart.cut first.new.cut second.new.cut first.ensures.lower second.ensures.lower in (
-      λ p own memory past hart is.
-          let once = past-lower first.new.cut second.new.cut second.ensures.lower p.id past in
-          elim (contained-more c.args.active.now c.loop-hart.hart-index 0 hart c.loop-hart-test.true is) [
-            | inl before ↦ c.loop-hart.invariant.0 p own memory
-                (past-lower c.loop-hart.cut second.new.cut lower p.id past) hart before
-            | inr same ↦
-                subst (λ (h : ℕ). IsSettledFor c.args.model (events c.args.log.now) h p) same
-                (record {
-                  loads = c.in_ok-before_loads.ensures p own memory (first.ensures.marked p own memory once);
-                  stores = c.in_ok-before_stores.ensures p own memory (second.ensures.marked p own memory past);
-                })
-          ],
-      lower-trans c.args.cut.now c.loop-hart.cut second.new.cut c.loop-hart.invariant.1 lower,
-    )
 
 pub returns-clause-settled : goal.returns-clause-settled
 returns-clause-settled c = λ p own memory past hart is.
-    c.loop-hart.invariant.0 p own memory past hart (subst (λ (hs : List ℕ). Contains hs hart)
-    (sym (take_all c.loop-hart.hart-index c.args.active.now c.loop-hart-test.false)) is)
+    let none : AreMarked c.args.model (events c.args.log.now) c.in_ok-marks.marks = λ h later q of_log is_memory has.
+    absurd (none-there (place_for h later)
+    (subst (λ (n : ℕ). IsTrue (has_place n (place_for h later))) (c.in_ok-marks.ensures q.id) has)) in
+    let are = c.mark_sources.ensures c.args.model (events c.args.log.now) c.requires.edges
+    (c.mark_all-wanted.ensures.marked none) in
+    let has = c.keep_unmarked.ensures.marked p own memory past in
+    record {
+      loads = are hart Loads p own memory (has (place_for hart Loads) (c.mark_all-wanted.ensures.all hart Loads is));
+      stores = are hart Stores p own memory
+          (has (place_for hart Stores) (c.mark_all-wanted.ensures.all hart Stores is));
+    }
