@@ -1,5 +1,5 @@
 //! A cut of a log: a number for each hart.
-ghost use Rattle.std.specs.Prelude.{◌≡◌, ◌≤◌, ℕ, IsFalse, length};
+ghost use Rattle.std.specs.Prelude.{◌≡◌, ◌==◌, ℕ, IsFalse, if◌then◌else◌, length, min};
 ghost use Rattle.rv_event.specs.Log.{events, of_hart};
 ghost use Rattle.rv_event.proofs.Indexed.{Indexed};
 ghost use Rattle.rv_cut.specs.Cuts.{AreLower, first_of, is_past};
@@ -33,13 +33,13 @@ impl Cut {
     }
 
     /// The cut whose past is all of the log.
-    pub fn behind(log: &[Entry]) -> Cut
+    pub(crate) fn behind(log: &[Entry]) -> Cut
         requires { Indexed (events log.now) }
-        ensures { (hart : ℕ) → first_of result hart ≤ length (of_hart hart (events log.now)) }
+        ensures { (hart : ℕ) → first_of result hart ≡ length (of_hart hart (events log.now)) }
     {
         let mut firsts = [0; 16];
         for entry in log {
-            firsts[entry.event.id.hart as usize] = entry.event.id.seq + 1;
+            firsts[entry.event.id.hart as usize] += 1;
         }
         Cut { firsts }
     }
@@ -62,7 +62,9 @@ impl Cut {
     }
 
     /// Keeps the event of this id, and all that come after it on its hart.
-    pub fn keep(&mut self, id: Id)
+    pub(crate) fn keep(&mut self, id: Id)
+        ensures numbers { (hart : ℕ) → first_of self.new hart
+            ≡ (if hart == id.hart then min (first_of self.old hart) id.seq else first_of self.old hart) }
         ensures kept { IsFalse (is_past self.new id) }
         ensures lower { AreLower self.old self.new }
     {

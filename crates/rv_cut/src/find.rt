@@ -15,7 +15,7 @@ use std::alloc::Global;
 /// from what is kept, and no LR of the past waits for its SC.
 ///
 /// The cut is as high as it may be: an event is kept only where it or one that pulls it with it is
-/// not settled. That is not proved; what is proved holds of any cut that is answered.
+/// not settled. That is not proved: a cut with no past would keep the contract too.
 ///
 /// It costs three passes over the log for each active hart, one over the book's links, and a sort
 /// of these.

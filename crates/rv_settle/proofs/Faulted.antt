@@ -2,7 +2,7 @@
 use Rattle.std.proofs.Common.{Bool, Contains, IsFalse, List, None, Option, Some, ap, arith, eq-eqb, false, filter}
 use Rattle.std.proofs.Common.{find, inl, inr, length, not, option_map, refl, reverse, subst, sym, true, unwrap_or}
 use Rattle.std.proofs.Common.{ℕ, [], ◌&&◌, ◌++◌, ◌+◌, ◌-◌, ◌<◌, ◌==◌, ◌||◌, ◌∙◌, ◌∷◌, ◌≡◌, ◌≤◌, ◌⊎◌}
-use Rattle.std.proofs.lemmas.Bool.{cases_lt, eqb-true, false≢true}
+use Rattle.std.proofs.lemmas.Bool.{cases_lt, eqb-true, false≢true, le-leb, lt-leb}
 use Rattle.std.proofs.lemmas.Grind.{common_steps}
 use Rattle.std.proofs.lemmas.List.{length-map, reverse-append}
 use Rattle.std.proofs.lemmas.List.Folds.{find-append}
@@ -30,7 +30,6 @@ use Rattle.rv_event.specs.declared.fault.Fault.TheVariants.{VersionTaken, Versio
 use Rattle.rv_settle.proofs.Decided.{comes-back}
 use Rattle.rv_settle.proofs.Formed.{CountsFrom, count-high, ends-behind, ends-renumbered, ends_reserved, is_high}
 use Rattle.rv_settle.proofs.Formed.{is_low, low-high, own-forgotten, own-window, shorter, window-formed}
-use Rattle.rv_settle.proofs.Nested.{le-no, le-yes}
 use Rattle.rv_settle.proofs.Windows.{into-window, onto-window}
 use Rattle.rv_settle.specs.Fitting.{FitsPast, in_full}
 use Rattle.rv_settle.specs.Windows.{ClosesPairs, IsKept, KeepsFew, deps_from, renumbered, window}
@@ -208,9 +207,9 @@ module _ (limit : ℕ) (log : List Entry) (x : Entry) (first : ℕ → ℕ) (ok 
           list_any (is_bad_dependency es x.event) deps ≡ list_any (is_bad_dependency w new) (deps_from n deps) →
           list_any (is_bad_dependency es x.event) (d ∷ deps)
           ≡ list_any (is_bad_dependency w new) (deps_from n (d ∷ deps))
-      go (inl low) rest = rw (good d (Contains-here d deps d refl) low, le-no n d.seq low) rest
+      go (inl low) rest = rw (good d (Contains-here d deps d refl) low, lt-leb n d.seq low) rest
       go (inr high) rest =
-          rw (bad-same d high, le-yes n d.seq high)
+          rw (bad-same d high, le-leb n d.seq high)
           (ap (λ (b : Bool). is_bad_dependency w new (record { kind = d.kind; seq = d.seq - n }) || b) rest)
 
   dependency : dependency_fault es x.event ≡ option_map full (dependency_fault w new)
@@ -290,7 +289,7 @@ module _ (limit : ℕ) (log : List Entry) (x : Entry) (first : ℕ → ℕ) (ok 
       let below = fits.below in
       let low : length own < limit = omega (arith, below, next) in
       let less : expected w new < 4096 = omega (arith, counted, room, next) in
-      rw (le-no limit (length own) low, le-no 4096 (expected w new) less) refl
+      rw (lt-leb limit (length own) low, lt-leb 4096 (expected w new) less) refl
 
   -- an event of its hart from another source is kept
   abbrev is_other : Entry → Bool
@@ -308,9 +307,9 @@ module _ (limit : ℕ) (log : List Entry) (x : Entry) (first : ℕ → ℕ) (ok 
           list_any is_other xs ≡ list_any is_other (window first xs) →
           list_any is_other (y ∷ xs) ≡ list_any is_other (window first (y ∷ xs))
       go (inl low) rest =
-          rw (own-source y (Contains-here y xs y refl) low, le-no (first y.event.id.hart) y.event.id.seq low) rest
+          rw (own-source y (Contains-here y xs y refl) low, lt-leb (first y.event.id.hart) y.event.id.seq low) rest
       go (inr high) rest =
-          rw (le-yes (first y.event.id.hart) y.event.id.seq high) (ap (λ (b : Bool). is_other y || b) rest)
+          rw (le-leb (first y.event.id.hart) y.event.id.seq high) (ap (λ (b : Bool). is_other y || b) rest)
 
   source : source_fault log x ≡ option_map full (source_fault (window first log) (record x { event = new }))
   source =

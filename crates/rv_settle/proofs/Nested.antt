@@ -2,8 +2,7 @@
 use Rattle.std.proofs.Common.{Bool, IsTrue, List, ap, append-nil, append_assoc, arith, false, filter}
 use Rattle.std.proofs.Common.{if◌then◌else◌, inl, inr, map, refl, subst, sym, true, ℕ, [], ◌&&◌, ◌++◌, ◌+◌, ◌-◌}
 use Rattle.std.proofs.Common.{◌<◌, ◌==◌, ◌∙◌, ◌∷◌, ◌≡◌, ◌≤◌, ◌⊎◌}
-use Rattle.std.proofs.lemmas.Bool.{cases_lt, false≢true}
-use Rattle.std.proofs.lemmas.Grind.{common_steps}
+use Rattle.std.proofs.lemmas.Bool.{cases_lt, false≢true, le-leb, le-ltb, lt-leb, lt-ltb}
 use Rattle.std.proofs.lemmas.List.{map-append}
 use Rattle.std.proofs.lemmas.List.Elements.{filter-append}
 use Rattle.std.specs.Prelude.{nat_le, nat_lt}
@@ -19,19 +18,6 @@ use Rattle.rv_settle.proofs.Windows.{into-window}
 use Rattle.rv_settle.specs.Windows.{AreBoth, IsBelow, both_firsts, deps_from}
 use Rattle.rv_settle.specs.Windows.{renumbered, window}
 
--- whether a number passes
-pub le-yes : (n m : ℕ) → n ≤ m → nat_le n m ≡ true
-le-yes n m least = grind (arith, common_steps)
-
-pub le-no : (n m : ℕ) → m < n → nat_le n m ≡ false
-le-no n m less = grind (arith, common_steps)
-
-lt-yes : (n m : ℕ) → n < m → nat_lt n m ≡ true
-lt-yes n m less = grind (arith, common_steps)
-
-lt-no : (n m : ℕ) → m ≤ n → nat_lt n m ≡ false
-lt-no n m least = grind (arith, common_steps)
-
 -- dependencies counted from one number and then from another
 deps-twice : (n m : ℕ) (deps : List Dep) → deps_from m (deps_from n deps) ≡ deps_from (n + m) deps
 deps-twice n m [] = refl
@@ -40,12 +26,12 @@ deps-twice n m (d ∷ deps) = go (cases_lt d.seq n) (cases_lt (d.seq - n) m) (de
     go : (d.seq < n) ⊎ (n ≤ d.seq) → (d.seq - n < m) ⊎ (m ≤ d.seq - n) →
         deps_from m (deps_from n deps) ≡ deps_from (n + m) deps →
         deps_from m (deps_from n (d ∷ deps)) ≡ deps_from (n + m) (d ∷ deps)
-    go (inl low) _ rest = rw (le-no n d.seq low, le-no (n + m) d.seq (omega (arith, low))) rest
+    go (inl low) _ rest = rw (lt-leb n d.seq low, lt-leb (n + m) d.seq (omega (arith, low))) rest
     go (inr high) (inl low) rest =
-        rw (le-yes n d.seq high, le-no (n + m) d.seq (omega (arith, high, low)), le-no m (d.seq - n) low) rest
+        rw (le-leb n d.seq high, lt-leb (n + m) d.seq (omega (arith, high, low)), lt-leb m (d.seq - n) low) rest
     go (inr high) (inr more) rest =
         let number : (d.seq - n) - m ≡ d.seq - (n + m) = omega arith in
-        rw (le-yes n d.seq high, le-yes (n + m) d.seq (omega (arith, high, more)), le-yes m (d.seq - n) more)
+        rw (le-leb n d.seq high, le-leb (n + m) d.seq (omega (arith, high, more)), le-leb m (d.seq - n) more)
         (λ i. record { kind = d.kind; seq = number i } ∷ rest i)
 
 -- an event counted from one number and then from another
@@ -76,11 +62,11 @@ window-twice (x ∷ log) first next =
     go : (seq < n) ⊎ (n ≤ seq) → (seq - n < m) ⊎ (m ≤ seq - n) →
         window next (window first log) ≡ window (both_firsts first next) log →
         window next (window first (x ∷ log)) ≡ window (both_firsts first next) (x ∷ log)
-    go (inl low) _ rest = rw (le-no n seq low, le-no (n + m) seq (omega (arith, low))) rest
+    go (inl low) _ rest = rw (lt-leb n seq low, lt-leb (n + m) seq (omega (arith, low))) rest
     go (inr high) (inl low) rest =
-        rw (le-yes n seq high, le-no (n + m) seq (omega (arith, high, low)), le-no m (seq - n) low) rest
+        rw (le-leb n seq high, lt-leb (n + m) seq (omega (arith, high, low)), lt-leb m (seq - n) low) rest
     go (inr high) (inr more) rest =
-        rw (le-yes n seq high, le-yes (n + m) seq (omega (arith, high, more)), le-yes m (seq - n) more)
+        rw (le-leb n seq high, le-leb (n + m) seq (omega (arith, high, more)), le-leb m (seq - n) more)
         (λ i. record x { event = event-twice first next x.event i } ∷ rest i)
 
 -- the past of a window's past is below both numbers
@@ -164,9 +150,9 @@ module _ (first next : ℕ → ℕ) (hart : ℕ) where
     unfolding on
     claim-log low is =
         let both = reserved-in by_both es e hart
-        (lt-yes e.id.seq (both_firsts first next e.id.hart) (omega (arith, low))) in
-        let own = reserved-in by_log es e hart (lt-yes e.id.seq (first e.id.hart) low) in
-        let same = windowed-out es e (le-no (first e.id.hart) e.id.seq low) in
+        (lt-ltb e.id.seq (both_firsts first next e.id.hart) (omega (arith, low))) in
+        let own = reserved-in by_log es e hart (lt-ltb e.id.seq (first e.id.hart) low) in
+        let same = windowed-out es e (lt-leb (first e.id.hart) e.id.seq low) in
         elim (either-in on (is_lr e.op) (is_reserved (filter by_both es) hart) (is_reserved (filter by_log es) hart)
         (is_reserved (filter by_window (windowed es)) hart) before (subst IsTrue both is)) [
           | inl log ↦ inl (subst IsTrue (sym own) log)
@@ -178,11 +164,11 @@ module _ (first next : ℕ → ℕ) (hart : ℕ) where
     claim-window : first e.id.hart ≤ e.id.seq → e.id.seq < both_firsts first next e.id.hart → Claim (es ++ e ∷ [])
     unfolding on
     claim-window high low is =
-        let both = reserved-in by_both es e hart (lt-yes e.id.seq (both_firsts first next e.id.hart) low) in
-        let log = reserved-out by_log es e hart (lt-no e.id.seq (first e.id.hart) high) in
-        let same = windowed-in es e (le-yes (first e.id.hart) e.id.seq high) in
+        let both = reserved-in by_both es e hart (lt-ltb e.id.seq (both_firsts first next e.id.hart) low) in
+        let log = reserved-out by_log es e hart (le-ltb e.id.seq (first e.id.hart) high) in
+        let same = windowed-in es e (le-leb (first e.id.hart) e.id.seq high) in
         let own = reserved-in by_window (windowed es) (renumbered first e) hart
-        (lt-yes (e.id.seq - first e.id.hart) (next e.id.hart) (omega (arith, high, low))) in
+        (lt-ltb (e.id.seq - first e.id.hart) (next e.id.hart) (omega (arith, high, low))) in
         elim (either-in on (is_lr e.op) (is_reserved (filter by_both es) hart)
         (is_reserved (filter by_window (windowed es)) hart) (is_reserved (filter by_log es) hart)
         (λ r. turned (before r)) (subst IsTrue both is)) [
@@ -199,11 +185,11 @@ module _ (first next : ℕ → ℕ) (hart : ℕ) where
     -- forgotten by none
     claim-none : both_firsts first next e.id.hart ≤ e.id.seq → Claim (es ++ e ∷ [])
     claim-none high is =
-        let both = reserved-out by_both es e hart (lt-no e.id.seq (both_firsts first next e.id.hart) high) in
-        let log = reserved-out by_log es e hart (lt-no e.id.seq (first e.id.hart) (omega (arith, high))) in
-        let same = windowed-in es e (le-yes (first e.id.hart) e.id.seq (omega (arith, high))) in
+        let both = reserved-out by_both es e hart (le-ltb e.id.seq (both_firsts first next e.id.hart) high) in
+        let log = reserved-out by_log es e hart (le-ltb e.id.seq (first e.id.hart) (omega (arith, high))) in
+        let same = windowed-in es e (le-leb (first e.id.hart) e.id.seq (omega (arith, high))) in
         let window = reserved-out by_window (windowed es) (renumbered first e) hart
-        (lt-no (e.id.seq - first e.id.hart) (next e.id.hart) (omega (arith, high))) in
+        (le-ltb (e.id.seq - first e.id.hart) (next e.id.hart) (omega (arith, high))) in
         elim (before (subst IsTrue both is)) [
           | inl old ↦ inl (subst IsTrue (sym log) old)
           | inr old ↦

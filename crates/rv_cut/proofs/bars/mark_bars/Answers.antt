@@ -1,7 +1,7 @@
 -- Events of the hart are marked where they stand there.
 use Rattle.std.proofs.Common.{subst, sym}
+use Rattle.rv_event.proofs.Scans.{event-at}
 use Rattle.rv_event.specs.Log.{events}
-use Rattle.rv_cut.proofs.Entries.{contained-at}
 use Rattle.rv_cut.proofs.bars.mark_bars.Goals.{else-entry-hart, then-entry-hart}
 use Rattle.rv_cut.specs.Marked.{AreMarked}
 use Rattle.rv_cut.proofs.bars.mark_bars.Goals as goal
@@ -11,7 +11,7 @@ loop-entry-preserved c = λ marked.
     let log = events c.args.log.now in
     elim c.if-entry-hart.branch [
       | then-entry-hart w ↦
-          let own = contained-at c.args.log.now c.loop-entry.entry-index c.entry-item.result c.loop-entry-test.true
+          let own = event-at c.args.log.now c.loop-entry.entry-index c.loop-entry-test.true c.entry-item.result
           c.entry-item.is in
           let with_event = w.mark_bar.ensures log c.last_fence-after_loads.ensures c.last_fence-after_stores.ensures
           own (c.loop-entry.invariant marked) in

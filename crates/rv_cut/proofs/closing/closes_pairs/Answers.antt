@@ -3,13 +3,13 @@ use Rattle.std.proofs.Common.{Bool, List, ap, arith, false, filter, get_or, if�
 use Rattle.std.proofs.Common.{◌∙◌}
 use Rattle.std.proofs.lemmas.Grind.{common_steps}
 use Rattle.std.proofs.lemmas.List.{take_all}
+use Rattle.rv_event.proofs.Scans.{event-at, events-more}
 use Rattle.rv_event.specs.Faults.{is_lr, is_reserved}
 use Rattle.rv_event.specs.Log.{events}
 use Rattle.rv_event.specs.Operations.{is_exclusive}
 use Rattle.rv_event.specs.declared.event.Entry.{Entry}
 use Rattle.rv_event.specs.declared.event.Event.{Event}
 use Rattle.rv_settle.proofs.Reserved.{reserved-in, reserved-out}
-use Rattle.rv_cut.proofs.Entries.{contained-at, events-more}
 use Rattle.rv_cut.proofs.closing.closes_pairs.Goals.{else-is_past, then-is_past}
 use Rattle.rv_cut.specs.Cuts.{is_past}
 use Rattle.rv_cut.proofs.closing.closes_pairs.Goals as goal
@@ -17,7 +17,7 @@ use Rattle.rv_cut.proofs.closing.closes_pairs.Goals as goal
 pub note_reservation-requires : goal.note_reservation-requires
 note_reservation-requires c =
     c.requires.harts c.entry-item.result.event
-    (contained-at c.args.log.now c.loop-entry.entry-index c.entry-item.result c.loop-entry-test.true c.entry-item.is)
+    (event-at c.args.log.now c.loop-entry.entry-index c.loop-entry-test.true c.entry-item.result c.entry-item.is)
 
 pub loop-entry-preserved : goal.loop-entry-preserved
 loop-entry-preserved c = λ hart.
@@ -25,7 +25,7 @@ loop-entry-preserved c = λ hart.
     let is_gone : Event → Bool = λ x. is_past c.args.cut.now x.id in
     let before = events (take c.loop-entry.entry-index c.args.log.now) in
     let more = ap (λ (es : List Event). is_reserved (filter is_gone es) hart)
-    (events-more c.args.log.now c.loop-entry.entry-index c.entry-item.result c.loop-entry-test.true
+    (events-more c.args.log.now c.loop-entry.entry-index c.loop-entry-test.true c.entry-item.result
     c.entry-item.is) in
     elim c.if-is_past.branch [
       | then-is_past w ↦
