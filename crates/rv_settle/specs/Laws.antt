@@ -164,9 +164,9 @@ PastsAdd =
     IsBelow (events log) past first → IsBelow (events (window first log)) more next →
     AreBoth first (events log) past more both → IsBelow (events log) both (both_firsts first next)
 
--- The fault of an entry over a log is its fault over the window, where the event fits what was forgotten,
--- and its number is one of 4,096 of the window. What is forgotten leaves no hart with a reservation, and no hart
--- keeps more than 4,096 events.
+-- The fault of an entry over a log is its fault over the window, where the event fits what was
+-- forgotten, and its number is one of 4,096 of the window. What is forgotten leaves no hart with a
+-- reservation, and is no more of the entry's hart than it has. No hart keeps more than 4,096 events.
 abbrev pub WindowsHaveTheFaults : Type 0
 WindowsHaveTheFaults =
     (limit : ℕ) (log : List Entry) (x : Entry) (first : ℕ → ℕ) →

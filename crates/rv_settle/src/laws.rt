@@ -98,7 +98,8 @@ pub fn pasts_add()
 
 /// The fault of an entry over a log is its fault over the window, in the log's numbers, where the
 /// event fits what was forgotten (`FitsPast`) and its number is one of 4,096 of the window. What is
-/// forgotten leaves no hart with a reservation, and no hart keeps more than 4,096 events.
+/// forgotten leaves no hart with a reservation, and is no more of the entry's hart than it has. No
+/// hart keeps more than 4,096 events.
 pub fn windows_have_the_faults()
     ensures { WindowsHaveTheFaults }
 {}
