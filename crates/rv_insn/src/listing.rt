@@ -2,6 +2,7 @@
 //! dependencies (section 14.3).
 ghost use Rattle.std.specs.Prelude.{◌≡◌};
 ghost use Rattle.rv_insn.specs.Listing.{listing};
+ghost use Rattle.rv_insn.specs.declared.operation.Operation.TheVariants.{Jalr, ScW};
 
 use crate::operation::Operation;
 use crate::operation::Operation::*;
@@ -84,6 +85,34 @@ const NOTHING: Usage = Usage {
     csr: NoCsr,
 };
 
+/// Something new in an x register.
+const LINKS: Usage = Usage {
+    to: ToX,
+    carries: false,
+    ..NOTHING
+};
+
+/// Of an indirect jump: rd has the address of what follows, and nothing that is read goes on to it.
+fn indirect_jump() -> Usage
+    ensures { result ≡ listing Jalr }
+{
+    Usage { first: X, ..LINKS }
+}
+
+/// Of an SC or an AMO: rd has the success code, or the value that memory had.
+fn conditional_store() -> Usage
+    ensures { result ≡ listing ScW }
+{
+    let answer = ToX;
+    Usage {
+        first: AddressX,
+        second: DataX,
+        to: answer,
+        carries: false,
+        ..NOTHING
+    }
+}
+
 /// What the operation reads and writes.
 pub fn usage_of(operation: Operation) -> Usage
     ensures { result ≡ listing operation }
@@ -94,12 +123,7 @@ pub fn usage_of(operation: Operation) -> Usage
             second: X,
             ..NOTHING
         },
-        Jalr => Usage {
-            first: X,
-            to: ToX,
-            carries: false,
-            ..NOTHING
-        },
+        Jalr => indirect_jump(),
         Jal | Lui | Auipc => Usage { to: ToX, ..NOTHING },
         Lb | Lh | Lw | Ld | Lbu | Lhu | Lwu | LrW | LrD => Usage {
             first: AddressX,
@@ -210,13 +234,7 @@ pub fn usage_of(operation: Operation) -> Usage
         | AmominD
         | AmomaxD
         | AmominuD
-        | AmomaxuD => Usage {
-            first: AddressX,
-            second: DataX,
-            to: ToX,
-            carries: false,
-            ..NOTHING
-        },
+        | AmomaxuD => conditional_store(),
         Flw | Fld => Usage {
             first: AddressX,
             to: ToF,

@@ -247,7 +247,7 @@ fn carries_over(usage: Usage, insn: Insn, from: Unit, to: Unit) -> bool
     ensures { IsTrue result ↔ CarriesOver insn from to }
 {
     let is_from = is_operand(usage, insn, from);
-    (usage.carries && is_from && is_unit(written(usage.to, insn.rd), to))
+    (is_from && is_carried_rd(usage, insn, to))
         || (is_raised(usage, insn, to) && (is_from || from == to))
 }
 
