@@ -31,7 +31,7 @@ use Rattle.rv_settle.proofs.Decided.{comes-back}
 use Rattle.rv_settle.proofs.Formed.{CountsFrom, count-high, ends-behind, ends-renumbered, ends_reserved, is_high}
 use Rattle.rv_settle.proofs.Formed.{is_low, low-high, own-forgotten, own-window, shorter, window-formed}
 use Rattle.rv_settle.proofs.Windows.{into-window, onto-window}
-use Rattle.rv_settle.specs.Fitting.{FitsPast, in_full}
+use Rattle.rv_settle.specs.Fitting.{DependsWell, FitsPast, HasOldSource, IsUntaken, in_full}
 use Rattle.rv_settle.specs.Windows.{ClosesPairs, IsKept, KeepsFew, deps_from, renumbered, window}
 
 -- two tests that pass for each other are one
@@ -91,7 +91,7 @@ ends-last xs ys reserved = go (find (λ (m : Event). is_exclusive m.op) (reverse
 
 module _ (limit : ℕ) (log : List Entry) (x : Entry) (first : ℕ → ℕ) (ok : WellFormedWithin limit log)
     (closed : ClosesPairs first (events log)) (few : KeepsFew first (events log))
-    (within : first x.event.id.hart ≤ length (of_hart x.event.id.hart (events log))) (fits : FitsPast limit log first x)
+    (within : first x.event.id.hart ≤ length (of_hart x.event.id.hart (events log))) (kept : IsKept first x.event)
     (room : x.event.id.seq < first x.event.id.hart + 4096) where
   abbrev h : ℕ
   h = x.event.id.hart
@@ -137,10 +137,9 @@ module _ (limit : ℕ) (log : List Entry) (x : Entry) (first : ℕ → ℕ) (ok 
       (λ is. eq-eqb new.id.seq (expected w new)
       (let at = eqb-true x.event.id.seq (length own) is in omega (arith, at, counted)))
       (λ is. eq-eqb x.event.id.seq (length own)
-      (let at = eqb-true new.id.seq (expected w new) is in let kept = fits.kept in
-      omega (arith, at, counted, within, kept)))
+      (let at = eqb-true new.id.seq (expected w new) is in omega (arith, at, counted, within, kept)))
 
-  sequence : sequence_fault es x.event ≡ option_map full (sequence_fault w new)
+  pub sequence : sequence_fault es x.event ≡ option_map full (sequence_fault w new)
   sequence = go (x.event.id.seq == expected es x.event) refl
     where
       go : (b : Bool) → (x.event.id.seq == expected es x.event) ≡ b →
@@ -161,12 +160,12 @@ module _ (limit : ℕ) (log : List Entry) (x : Entry) (first : ℕ → ℕ) (ok 
           let hart : h ≡ y.id.hart = ap (λ (i : Id). i.hart) there.1 in
           let seq : k ≡ y.id.seq = ap (λ (i : Id). i.seq) there.1 in
           let base = ap first hart in
-          let kept : IsKept first y = omega (arith, seq, base, least) in
+          let kept-y : IsKept first y = omega (arith, seq, base, least) in
           let id : (renumbered first y).id ≡ record { hart = h; seq = k - n } =
           (let number : y.id.seq - first y.id.hart ≡ k - n = omega (arith, seq, base) in grind arith) in
           let found : named w (record { hart = h; seq = k - n }) ≡ Some (renumbered first y) =
           subst (λ (i : Id). named w i ≡ Some (renumbered first y)) id
-          (known-window.own (renumbered first y) (into-window first log y there.0 kept)) in
+          (known-window.own (renumbered first y) (into-window first log y there.0 kept-y)) in
           rw (is, found) refl
       go None is = none (named w (record { hart = h; seq = k - n })) refl
         where
@@ -181,8 +180,8 @@ module _ (limit : ℕ) (log : List Entry) (x : Entry) (first : ℕ → ℕ) (ok 
               let hart : h ≡ from.0.id.hart = ap (λ (i : Id). i.hart) same in
               let seq : k - n ≡ from.0.id.seq - first from.0.id.hart = ap (λ (i : Id). i.seq) same in
               let base = ap first hart in
-              let kept = from.2 in
-              let back : k ≡ from.0.id.seq = omega (arith, seq, base, least, kept) in
+              let kept-y = from.2 in
+              let back : k ≡ from.0.id.seq = omega (arith, seq, base, least, kept-y) in
               let id : from.0.id ≡ record { hart = h; seq = k } = grind arith in
               absurd (none-some from.0 (sym is ∙ sym (ap (named es) id) ∙ known.own from.0 from.1))
 
@@ -190,7 +189,6 @@ module _ (limit : ℕ) (log : List Entry) (x : Entry) (first : ℕ → ℕ) (ok 
   bad-same : (d : Dep) → n ≤ d.seq →
       is_bad_dependency es x.event d ≡ is_bad_dependency w new (record { kind = d.kind; seq = d.seq - n })
   bad-same d least =
-      let kept = fits.kept in
       let less : nat_lt d.seq x.event.id.seq ≡ nat_lt (d.seq - n) (x.event.id.seq - n) =
       same-bool (nat_lt d.seq x.event.id.seq) (nat_lt (d.seq - n) (x.event.id.seq - n))
       (λ is. grind (arith, common_steps)) (λ is. grind (arith, common_steps)) in
@@ -212,29 +210,29 @@ module _ (limit : ℕ) (log : List Entry) (x : Entry) (first : ℕ → ℕ) (ok 
           rw (bad-same d high, le-leb n d.seq high)
           (ap (λ (b : Bool). is_bad_dependency w new (record { kind = d.kind; seq = d.seq - n }) || b) rest)
 
-  dependency : dependency_fault es x.event ≡ option_map full (dependency_fault w new)
-  dependency =
-      ap (λ (b : Bool). fault_if b Dependency) (any-bad x.event.deps fits.depends)
+  pub dependency : DependsWell es first x.event → dependency_fault es x.event ≡ option_map full (dependency_fault w new)
+  dependency depends =
+      ap (λ (b : Bool). fault_if b Dependency) (any-bad x.event.deps depends)
       ∙ told full (list_any (is_bad_dependency w new) new.deps) Dependency refl
 
   -- the writer of its version is kept
-  writer-same : IsStore x.event →
+  writer-same : IsUntaken es first x.event → IsStore x.event →
       option_map (λ (y : Event). VersionTaken y.id) (writer es x.event.word x.event.wrote)
       ≡ option_map full (option_map (λ (y : Event). VersionTaken y.id) (writer w x.event.word x.event.wrote))
-  writer-same store = go (writer es x.event.word x.event.wrote) refl
+  writer-same free store = go (writer es x.event.word x.event.wrote) refl
     where
       go : (o : Option Event) → writer es x.event.word x.event.wrote ≡ o →
           option_map (λ (y : Event). VersionTaken y.id) (writer es x.event.word x.event.wrote)
           ≡ option_map full (option_map (λ (y : Event). VersionTaken y.id) (writer w x.event.word x.event.wrote))
-      go (Some y) is = kept (cases_lt y.id.seq (first y.id.hart))
+      go (Some y) is = placed (cases_lt y.id.seq (first y.id.hart))
         where
-          kept : (y.id.seq < first y.id.hart) ⊎ (first y.id.hart ≤ y.id.seq) →
+          placed : (y.id.seq < first y.id.hart) ⊎ (first y.id.hart ≤ y.id.seq) →
               option_map (λ (z : Event). VersionTaken z.id) (writer es x.event.word x.event.wrote)
               ≡ option_map full (option_map (λ (z : Event). VersionTaken z.id) (writer w x.event.word x.event.wrote))
-          kept (inl low) =
+          placed (inl low) =
               let found = writer-is es x.event.word x.event.wrote y is in
-              absurd (fits.free y found.of_log low found.store store (sym found.word) (sym found.version))
-          kept (inr high) =
+              absurd (free y found.of_log low found.store store (sym found.word) (sym found.version))
+          placed (inr high) =
               let found = writer-is es x.event.word x.event.wrote y is in
               let there : writer w x.event.word x.event.wrote ≡ Some (renumbered first y) =
               ap (λ (k : ℕ). writer w k x.event.wrote) found.word
@@ -258,11 +256,11 @@ module _ (limit : ℕ) (log : List Entry) (x : Entry) (first : ℕ → ℕ) (ok 
               ∙ ap (λ (k : ℕ). writer es from.0.word k) version ∙ known.written from.0 from.1 store-a in
               absurd (none-some from.0 (sym is ∙ old))
 
-  taken : taken_fault es x.event ≡ option_map full (taken_fault w new)
-  taken = go (is_store x.event.op) refl
+  pub taken : IsUntaken es first x.event → taken_fault es x.event ≡ option_map full (taken_fault w new)
+  taken free = go (is_store x.event.op) refl
     where
       go : (b : Bool) → is_store x.event.op ≡ b → taken_fault es x.event ≡ option_map full (taken_fault w new)
-      go true is = rw is (writer-same is)
+      go true is = rw is (writer-same free is)
       go false is = rw is refl
 
   -- the hart's reservation is told by what is kept
@@ -279,14 +277,13 @@ module _ (limit : ℕ) (log : List Entry) (x : Entry) (first : ℕ → ℕ) (ok 
       none : ends_reserved (filter (is_low n) own) ≡ false
       none = ap ends_reserved (sym (own-forgotten first h es)) ∙ closed h
 
-  reservation : reservation_fault es x.event ≡ option_map full (reservation_fault w new)
+  pub reservation : reservation_fault es x.event ≡ option_map full (reservation_fault w new)
   reservation =
       ap (λ (b : Bool). fault_if (is_sc x.event.op && not b) NoReservation) reserved-same
       ∙ told full (is_sc x.event.op && not (is_reserved w h)) NoReservation refl
 
-  full-none : x.event.id.seq ≡ length own → full_fault limit es x.event ≡ option_map full (full_fault 4096 w new)
-  full-none next =
-      let below = fits.below in
+  pub full-none : x.event.id.seq < limit → x.event.id.seq ≡ length own → full_fault limit es x.event ≡ option_map full (full_fault 4096 w new)
+  full-none below next =
       let low : length own < limit = omega (arith, below, next) in
       let less : expected w new < 4096 = omega (arith, counted, room, next) in
       rw (lt-leb limit (length own) low, lt-leb 4096 (expected w new) less) refl
@@ -311,8 +308,9 @@ module _ (limit : ℕ) (log : List Entry) (x : Entry) (first : ℕ → ℕ) (ok 
       go (inr high) rest =
           rw (le-leb (first y.event.id.hart) y.event.id.seq high) (ap (λ (b : Bool). is_other y || b) rest)
 
-  source : source_fault log x ≡ option_map full (source_fault (window first log) (record x { event = new }))
-  source =
+  pub source : HasOldSource log first x →
+      source_fault log x ≡ option_map full (source_fault (window first log) (record x { event = new }))
+  source same-source =
       ap (λ (b : Bool). fault_if b OtherSource) (any-other log old)
       ∙ told full (list_any is_other (window first log)) OtherSource refl
     where
@@ -322,12 +320,11 @@ module _ (limit : ℕ) (log : List Entry) (x : Entry) (first : ℕ → ℕ) (ok 
           go : (b : Bool) → (y.event.id.hart == h) ≡ b → is_other y ≡ false
           go false is = rw is refl
           go true is =
-              let same = fits.source y c low (eqb-true y.event.id.hart h is) in
+              let same = same-source y c low (eqb-true y.event.id.hart h is) in
               rw (is, eq-eqb y.source x.source same) refl
 
-  too-many : deps_fault x.event ≡ option_map full (deps_fault new)
-  too-many =
-      let most = fits.few in
+  pub too-many : length x.event.deps ≤ 8 → deps_fault x.event ≡ option_map full (deps_fault new)
+  too-many most =
       let short = shorter (λ (e : Dep). nat_le n e.seq) x.event.deps in
       let same : length new.deps ≡ length (filter (λ (e : Dep). nat_le n e.seq) x.event.deps) =
       length-map {B = Dep} (filter (λ (e : Dep). nat_le n e.seq) x.event.deps)
@@ -345,8 +342,8 @@ module _ (limit : ℕ) (log : List Entry) (x : Entry) (first : ℕ → ℕ) (ok 
       ++ source_fault (window first log) (record x { event = new }) ∷ deps_fault new ∷ []
 
   -- the first of them is the same
-  pub fault-same : lowest faults ≡ option_map full (lowest window-faults)
-  fault-same = go (x.event.id.seq == expected es x.event) refl
+  pub fault-same : FitsPast limit log first x → lowest faults ≡ option_map full (lowest window-faults)
+  fault-same fits = go (x.event.id.seq == expected es x.event) refl
     where
       hart : hart_fault x.event ≡ option_map full (hart_fault new)
       hart = told full (nat_lt 15 h) Hart refl
@@ -359,14 +356,17 @@ module _ (limit : ℕ) (log : List Entry) (x : Entry) (first : ℕ → ℕ) (ok 
             (
               sequence,
               (
-                dependency,
+                dependency fits.depends,
                 (
                   told full (is_store x.event.op && (x.event.wrote == 0)) VersionZero refl,
                   (
-                    taken,
+                    taken fits.free,
                     (
                       reservation,
-                      (full-none (eqb-true x.event.id.seq (length own) is), (source, (too-many, tt))),
+                      (
+                        full-none fits.below (eqb-true x.event.id.seq (length own) is),
+                        (source fits.source, (too-many fits.few, tt)),
+                      ),
                     ),
                   ),
                 ),
