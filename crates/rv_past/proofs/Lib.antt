@@ -1,2 +1,4 @@
+pub mod Misfits
+pub mod Noted
 pub mod Stored
 pub mod Told

@@ -1,7 +1,7 @@
 -- What a summary says of the events that were forgotten. These are this project's own.
 use Rattle.std.specs.Prelude.{ℕ, ◌≡◌, ◌≢◌, ◌<◌, ◌≤◌, ◌⊎◌, ◌&&◌, ◌==◌, Bool, Contains, List, None, Option, Some}
 use Rattle.std.specs.Prelude.{if◌then◌else◌, nat_eq}
-use Rattle.std.specs.HashMap.{get}
+use Rattle.std.specs.HashMap.{get, spare}
 use Rattle.rv_event.specs.Operations.{IsLoad, IsStore}
 use Rattle.rv_event.specs.declared.event.Event.{Event}
 use Rattle.rv_event.specs.declared.event.Id.{Id}
@@ -60,6 +60,11 @@ pub record AreGoneBy (gone : List Event) (newest : ℕ → Option Newest) (await
 -- the summary stands for the events
 abbrev pub AreGone : List Event → Past → Type 0
 AreGone gone past = AreGoneBy gone (get nat_eq past.newest) (get same_version past.awaited)
+
+-- so many events more can be taken
+pub record HasPlaces (past : Past) (more : ℕ) : Type 0 where
+  pub words : more ≤ spare past.newest
+  pub loads : more ≤ spare past.awaited
 
 -- the newest version that a store of another hart than this one wrote; 0 where none did
 abbrev pub by_others : ℕ → Option Newest → ℕ

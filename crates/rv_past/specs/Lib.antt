@@ -1,3 +1,4 @@
 pub mod Before
+pub mod Facts
 pub mod Gone
 pub mod Laws

@@ -12,8 +12,10 @@
 //! It stands on `rv_event` and `rv_settle`. No program stands on it yet.
 #![tactic(auto)]
 
+mod facts;
 mod laws;
 mod past;
 
+pub use facts::{Facts, Misfit};
 pub use laws::versions_tell_the_past;
 pub use past::{Newest, Past};

@@ -1,12 +1,12 @@
 //! The summary of the events that were forgotten.
-ghost use Rattle.std.specs.Prelude.{ℕ, ◌≡◌, ◌<◌, ◌++◌, ◌∷◌, ◌↔◌, [], IsSome, IsTrue, List};
+ghost use Rattle.std.specs.Prelude.{ℕ, ◌≡◌, ◌<◌, ◌≤◌, ◌+◌, ◌++◌, ◌∷◌, ◌↔◌, [], IsSome, IsTrue, List};
 ghost use Rattle.std.specs.Prelude.{OnErr, OnOk, nat_eq};
-ghost use Rattle.std.specs.HashMap.{get};
+ghost use Rattle.std.specs.HashMap.{get, spare};
 ghost use Rattle.std.specs.Option.{option_copied};
 ghost use Rattle.rv_event.specs.declared.event.Event.{Event};
 ghost use Rattle.rv_past.specs.Before.{ComesBefore, IsFree};
 ghost use Rattle.rv_event.specs.Operations.{IsLoad, IsStore};
-ghost use Rattle.rv_past.specs.Gone.{AreGone, IsLate, IsNewest, IsNewestOf, IsNoted, by_others, same_version};
+ghost use Rattle.rv_past.specs.Gone.{AreGone, HasPlaces, IsLate, IsNewest, IsNewestOf, IsNoted, by_others, same_version};
 ghost use Rattle.rv_past.specs.Gone.{version_of};
 
 use rv_event::{Event, Id, NoMemory};
@@ -54,6 +54,19 @@ impl Past {
         self.newest.get(&word).copied()
     }
 
+    /// Makes room for so many events.
+    ///
+    /// # Errors
+    /// `NoMemory` where it could not be had; what is kept stays as it is.
+    pub fn reserve(&mut self, more: usize) -> Result<(), NoMemory>
+        ensures same { (gone : List Event) → AreGone gone self.old → AreGone gone self.new }
+        ensures room { OnOk result (HasPlaces self.new more) }
+    {
+        self.newest.reserve(more)?;
+        self.awaited.reserve(more)?;
+        Ok(())
+    }
+
     /// Takes an event that is forgotten. Stores are to be added before the loads that returned what
     /// they wrote, else the loads take a place each. It costs two look-ups for each side of an
     /// operation.
@@ -66,16 +79,25 @@ impl Past {
         ensures unchanged { (gone : List Event) → AreGone gone self.old →
             OnErr result (AreGone gone self.new) }
     {
-        self.newest.reserve(1)?;
+        self.reserve(1)?;
+        self.add_reserved(event);
+        Ok(())
+    }
+
+    /// Takes an event that is forgotten, and for which room was made, as [`add`](Past::add) does.
+    pub fn add_reserved(&mut self, event: &Event)
+        requires { HasPlaces self.old 1 }
+        ensures added { (gone : List Event) → AreGone gone self.old → AreGone (gone ++ event.now ∷ []) self.new }
+        ensures room { (more : ℕ) → HasPlaces self.old (more + 1) → HasPlaces self.new more }
+    {
         let version = self.version(event.word);
-        note_load(&mut self.awaited, event, version)?;
+        note_load(&mut self.awaited, event, version);
         if event.is_store() {
             let newest = newest_with(self.newest_of(event.word), event);
             let Ok(_) = self.newest.insert(event.word, newest) else {
                 unreachable!()
             };
         }
-        Ok(())
     }
 
     /// Whether the event comes before the events that were forgotten: in each lawful order it would
@@ -155,24 +177,16 @@ impl Past {
 
 /// Notes the version that the event returned, where it is a load and the version is newer than the
 /// newest that was written.
-fn note_load(
-    awaited: &mut HashMap<(u32, u32), Id>,
-    event: &Event,
-    version: u32,
-) -> Result<(), NoMemory>
-    ensures noted { OnOk result
-        (IsNoted event.now version (get same_version awaited.old) (get same_version awaited.new)) }
-    ensures unchanged { OnErr result
-        ((w v : ℕ) → get same_version awaited.new (w, v) ≡ get same_version awaited.old (w, v)) }
+fn note_load(awaited: &mut HashMap<(u32, u32), Id>, event: &Event, version: u32)
+    requires { 0 < spare awaited.old }
+    ensures noted { IsNoted event.now version (get same_version awaited.old) (get same_version awaited.new) }
+    ensures room { spare awaited.old ≤ spare awaited.new + 1 }
 {
-    if !event.is_load() {
-        return Ok(());
+    if event.is_load() && event.read > version {
+        let Ok(_) = awaited.insert((event.word, event.read), event.id) else {
+            unreachable!()
+        };
     }
-    if event.read <= version {
-        return Ok(());
-    }
-    awaited.insert((event.word, event.read), event.id)?;
-    Ok(())
 }
 
 /// The newest stores of a word, with one store more.
