@@ -1,1 +1,4 @@
+pub mod Answers
 pub mod Partners
+pub mod Runs
+pub mod Steps

@@ -57,9 +57,8 @@ fn renumber_deps(alloc: Global, deps: &Deps, first: u32) -> Result<Deps, NoMemor
 /// The LR with which the event is paired that comes after all of its hart's in the log, where it is
 /// an SC with one. It costs a pass over the log for an SC, and nothing for another event.
 pub fn find_partner<'a>(log: &'a [Entry], event: &Event) -> Option<&'a Event>
-    requires indexed { Indexed (events log.now) }
-    requires last { length (of_hart event.now.id.hart (events log.now)) ≤ event.now.id.seq }
-    ensures { IsPartner (events log.now ++ event.now ∷ []) event.now (option_copied result) }
+    ensures { Indexed (events log.now) → length (of_hart event.now.id.hart (events log.now)) ≤ event.now.id.seq →
+        IsPartner (events log.now ++ event.now ∷ []) event.now (option_copied result) }
 {
     if event.op != Op::Sc {
         return None;

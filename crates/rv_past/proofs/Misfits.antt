@@ -1,5 +1,6 @@
 -- How an entry fits those that were forgotten.
-use Rattle.std.proofs.Common.{ℕ, ◌≡◌, ◌≢◌, ◌∙◌, ◌<◌, ◌==◌, ◌||◌, Bool, Contains, IsFalse, List, None, Option}
+use Rattle.std.proofs.Common.{ℕ, ◌≡◌, ◌≢◌, ◌∙◌, ◌<◌, ◌==◌, ◌||◌, Bool, Contains, IsFalse, List}
+use Rattle.std.proofs.Common.{None, Option}
 use Rattle.std.proofs.Common.{Some, ap, arith, false, not, refl, subst, sym, true}
 use Rattle.std.proofs.lemmas.Bool.{eq-eqb, eqb-true, false≢true, lt-ltb}
 use Rattle.std.proofs.lemmas.Grind.{common_steps}
@@ -13,7 +14,8 @@ use Rattle.rv_event.specs.declared.event.Dep.{Dep}
 use Rattle.rv_event.specs.declared.event.Entry.{Entry}
 use Rattle.rv_event.specs.declared.event.Event.{Event}
 use Rattle.rv_event.specs.declared.event.Id.{Id}
-use Rattle.rv_past.specs.Facts.{AreFactsBy, DependsBadly, DependsOnValues, HasSource, IsSourceOf, differs, is_bad_in}
+use Rattle.rv_past.specs.Facts.{AreFactsBy, DependsBadly, DependsOnValues, HasSource, IsSourceOf}
+use Rattle.rv_past.specs.Facts.{differs, is_bad_in}
 use Rattle.rv_past.specs.Facts.{is_named, is_other, named_by}
 
 -- a test that stands first may stand second
@@ -35,7 +37,8 @@ module _ (gone : List Entry) (sources : List (Option ℕ)) (values : ℕ × ℕ 
       (swapped (not (nat_lt d.seq e.id.seq)) (not (admits e.op d.kind)) (can_be_named y.event.op))
 
   -- one that is
-  pub depends-badly : (first : ℕ) (e : Event) → list_any (is_bad_in values first e) e.deps ≡ true → DependsBadly gone first e
+  pub depends-badly : (first : ℕ) (e : Event) → list_any (is_bad_in values first e) e.deps ≡ true →
+      DependsBadly gone first e
   depends-badly first e is =
       let found = Any-contains (λ d. is_bad_in values first e d ≡ true) e.deps
       (Any-from_list_any (is_bad_in values first e) e.deps is) in
@@ -65,7 +68,8 @@ module _ (gone : List Entry) (sources : List (Option ℕ)) (values : ℕ × ℕ 
       go : (o : Option ℕ) → slice_index_or sources x.event.id.hart None ≡ o → IsSourceOf gone x.event.id.hart o →
           (y : Entry) × Contains gone y × (y.event.id.hart ≡ x.event.id.hart) × (y.source ≢ x.source)
       go None at none = absurd (false≢true (sym (ap (λ (o : Option ℕ). differs o x.source) at) ∙ is))
-      go (Some s) at of = let y = of.0 in (y.0, y.1, y.2, (λ same. told (ap not (eq-eqb s x.source (sym (of.1 y.0 y.1 y.2) ∙ same)))))
+      go (Some s) at of = let y = of.0 in
+          (y.0, y.1, y.2, (λ same. told (ap not (eq-eqb s x.source (sym (of.1 y.0 y.1 y.2) ∙ same)))))
         where
           told : not (s == x.source) ≡ false → ⊥
           told none = false≢true (sym none ∙ sym (ap (λ (o : Option ℕ). differs o x.source) at) ∙ is)

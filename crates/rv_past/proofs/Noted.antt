@@ -1,11 +1,14 @@
 -- What is known of the events that were forgotten, with one more.
-use Rattle.std.proofs.Common.{ℕ, ◌≡◌, ◌≢◌, ◌∙◌, ◌||◌, ◌==◌, ◌%◌, ◌/◌, ◌+◌, ◌++◌, ◌∷◌, ◌<◌, ◌≤◌, ◌↔◌, ◌⊎◌, [], Bool}
-use Rattle.std.proofs.Common.{Contains, IsTrue, List, None, Option, Some, ap, arith, false, if◌then◌else◌, inl, inr}
+use Rattle.std.proofs.Common.{ℕ, ◌≡◌, ◌≢◌, ◌∙◌, ◌||◌, ◌==◌, ◌%◌, ◌/◌, ◌+◌, ◌++◌, ◌∷◌, ◌<◌, ◌≤◌, ◌↔◌}
+use Rattle.std.proofs.Common.{◌⊎◌, [], Bool}
+use Rattle.std.proofs.Common.{Contains, IsTrue, List, None, Option, Some, ap, arith, false}
+use Rattle.std.proofs.Common.{if◌then◌else◌, inl, inr}
 use Rattle.std.proofs.Common.{length, refl, slice_set, subst, sym, true}
 use Rattle.std.proofs.lemmas.Bool.{cases_eq, eq-eqb, eqb-true, false≢true, ne_eqb}
 use Rattle.std.proofs.lemmas.Grind.{common_steps, get_or-set_at}
 use Rattle.std.proofs.lemmas.List.{get_or-set_other, length-set}
-use Rattle.std.proofs.lemmas.List.Elements.{Contains-append_left, Contains-append_right, Contains-push_cases}
+use Rattle.std.proofs.lemmas.List.Elements.{Contains-append_left, Contains-append_right}
+use Rattle.std.proofs.lemmas.List.Elements.{Contains-push_cases}
 use Rattle.std.specs.Prelude.{slice_index_or}
 use Rattle.rv_rows.specs.Bits.{has_bit}
 use Rattle.rv_event.proofs.Names.{Contains-here}
@@ -13,7 +16,8 @@ use Rattle.rv_event.specs.Faults.{can_be_named}
 use Rattle.rv_event.specs.Operations.{IsStore}
 use Rattle.rv_event.specs.declared.event.Entry.{Entry}
 use Rattle.rv_event.specs.declared.event.Id.{Id}
-use Rattle.rv_past.specs.Facts.{AreFactsBy, Follows, IsSourceOf, IsWrittenBy, has_number, is_named, is_written, last_of}
+use Rattle.rv_past.specs.Facts.{AreFactsBy, Follows, IsSourceOf, IsWrittenBy, has_number, is_named}
+use Rattle.rv_past.specs.Facts.{is_written, last_of}
 
 -- what is known of some entries goes by what the tables answer
 pub facts-same : (gone : List Entry) (sources : List (Option ℕ)) (values values' : ℕ × ℕ → Option (List ℕ))
@@ -135,7 +139,9 @@ module _ (old between new : ℕ × ℕ → Bool) (word version last : ℕ) (leas
     | inl next ↦ (
         let w-is = next.0 in let v-is = next.1 in (
           (λ _. inr (sym w-is, omega (arith, least, v-is), omega (arith, v-is))),
-          (λ _. (before w v).1 (inl (subst (λ (k : ℕ × ℕ). IsTrue (between k)) (ap (λ (h : ℕ). (h, last + 1)) w-is ∙ ap (λ (k : ℕ). (w, k)) v-is) there))),
+          (λ _. (before w v).1 (inl
+              (subst (λ (k : ℕ × ℕ). IsTrue (between k)) (ap (λ (h : ℕ). (h, last + 1)) w-is ∙ ap
+              (λ (k : ℕ). (w, k)) v-is) there))),
         ))
     | inr not ↦ (
       (λ is. elim ((before w v).0 is) [
@@ -218,7 +224,8 @@ module _ (gone : List Entry) (x : Entry) (follows : Follows gone x) where
     where
       go : (hart ≡ x.event.id.hart) ⊎ (hart ≢ x.event.id.hart) → IsSourceOf more hart (slice_index_or new hart None)
       go (inl own) =
-          subst (IsSourceOf more hart) (sym (told hart ∙ ap (λ (b : Bool). if b then Some x.source else slice_index_or old hart None)
+          subst (IsSourceOf more hart)
+          (sym (told hart ∙ ap (λ (b : Bool). if b then Some x.source else slice_index_or old hart None)
           (eq-eqb hart x.event.id.hart own))) (
             (x, new-entry, sym own),
             (λ y c same. elim (Contains-push_cases gone x y c) [
@@ -227,7 +234,8 @@ module _ (gone : List Entry) (x : Entry) (follows : Follows gone x) where
             ]),
           )
       go (inr apart) =
-          subst (IsSourceOf more hart) (sym (told hart ∙ ap (λ (b : Bool). if b then Some x.source else slice_index_or old hart None)
+          subst (IsSourceOf more hart)
+          (sym (told hart ∙ ap (λ (b : Bool). if b then Some x.source else slice_index_or old hart None)
           (ne_eqb hart x.event.id.hart apart)))
           (stays (slice_index_or old hart None) (of hart))
         where

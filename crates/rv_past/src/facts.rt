@@ -1,5 +1,6 @@
 //! What the faults of new events ask of the events that were forgotten.
-ghost use Rattle.std.specs.Prelude.{ℕ, ◌≡◌, ◌+◌, ◌<◌, ◌++◌, ◌∷◌, ◌≤◌, ◌/◌, ◌↔◌, ◌⊎◌, [], IfOk, IsTrue, List, MatchOption};
+ghost use Rattle.std.specs.Prelude.{ℕ, ◌≡◌, ◌+◌, ◌<◌, ◌++◌, ◌∷◌, ◌≤◌, ◌/◌, ◌↔◌, ◌⊎◌, [], IfOk};
+ghost use Rattle.std.specs.Prelude.{IsTrue, List, MatchOption};
 ghost use Rattle.std.specs.Prelude.{OnOk, Some, nat_eq, slice_set};
 ghost use Rattle.std.specs.HashMap.{get, spare};
 ghost use Rattle.std.specs.List.{list_any};
@@ -166,7 +167,8 @@ impl Facts {
 
     /// Whether a forgotten store wrote the version.
     fn is_written(&self, word: u32, version: u32) -> bool
-        ensures { result ≡ is_written (get nat_eq self.now.through) (contains same_version self.now.above) word version }
+        ensures { result ≡ is_written (get nat_eq self.now.through)
+            (contains same_version self.now.above) word version }
     {
         (version > 0 && version <= last_of(&self.through, word))
             || self.above.contains(&(word, version))

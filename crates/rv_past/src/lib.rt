@@ -5,11 +5,13 @@
 //! it, in a few look-ups, without the events.
 //!
 //! - [`past`]: the summary, and whether an event comes before what was forgotten.
+//! - [`facts`]: what the faults of new events ask of it: sources, numbers that returned a value, and
+//!   versions that were written.
 //! - [`laws`]: it tells just what `rv_settle` says of a cut's past.
 //! - `specs/`: what the summary says of the events (`Gone`), how an event comes before them
-//!   (`Before`), the law (`Laws`).
+//!   (`Before`), what the facts say (`Facts`), the law (`Laws`).
 //!
-//! It stands on `rv_event` and `rv_settle`. No program stands on it yet.
+//! It stands on `rv_event` and `rv_settle`, and on `rv_rows` for sets of numbers.
 #![tactic(auto)]
 
 mod facts;

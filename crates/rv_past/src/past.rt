@@ -6,7 +6,8 @@ ghost use Rattle.std.specs.Option.{option_copied};
 ghost use Rattle.rv_event.specs.declared.event.Event.{Event};
 ghost use Rattle.rv_past.specs.Before.{ComesBefore, IsFree};
 ghost use Rattle.rv_event.specs.Operations.{IsLoad, IsStore};
-ghost use Rattle.rv_past.specs.Gone.{AreGone, HasPlaces, IsLate, IsNewest, IsNewestOf, IsNoted, by_others, same_version};
+ghost use Rattle.rv_past.specs.Gone.{AreGone, HasPlaces, IsLate, IsNewest, IsNewestOf, IsNoted};
+ghost use Rattle.rv_past.specs.Gone.{by_others, same_version};
 ghost use Rattle.rv_past.specs.Gone.{version_of};
 
 use rv_event::{Event, Id, NoMemory};

@@ -1,6 +1,8 @@
 -- The faults of a new event over the log are those over the window.
-use Rattle.std.proofs.Common.{Bool, Contains, IsFalse, List, None, Option, Some, ap, arith, eq-eqb, false, filter}
-use Rattle.std.proofs.Common.{find, inl, inr, length, not, option_map, refl, reverse, subst, sym, true, unwrap_or}
+use Rattle.std.proofs.Common.{Bool, Contains, IsFalse, List, None, Option, Some, ap, arith, eq-eqb}
+use Rattle.std.proofs.Common.{false, filter}
+use Rattle.std.proofs.Common.{find, inl, inr, length, not, option_map, refl, reverse, subst, sym}
+use Rattle.std.proofs.Common.{true, unwrap_or}
 use Rattle.std.proofs.Common.{ℕ, [], ◌&&◌, ◌++◌, ◌+◌, ◌-◌, ◌<◌, ◌==◌, ◌||◌, ◌∙◌, ◌∷◌, ◌≡◌, ◌≤◌, ◌⊎◌}
 use Rattle.std.proofs.lemmas.Bool.{cases_lt, eqb-true, false≢true, le-leb, lt-leb}
 use Rattle.std.proofs.lemmas.Grind.{common_steps}
@@ -15,7 +17,8 @@ use Rattle.rv_event.proofs.Indexed.{IndexedWithin, indexed_from_WellFormed, inde
 use Rattle.rv_event.proofs.Names.{Contains-here, Contains-there, named-is, writer-is}
 use Rattle.rv_event.specs.Faults.{dependency_fault, deps_fault, expected, fault_if}
 use Rattle.rv_event.specs.Faults.{first_faults_within, full_fault, hart_fault, is_bad_dependency, is_lr}
-use Rattle.rv_event.specs.Faults.{is_reserved, is_sc, lowest, names_no_value, reservation_fault, sequence_fault}
+use Rattle.rv_event.specs.Faults.{is_reserved, is_sc, lowest, names_no_value, reservation_fault}
+use Rattle.rv_event.specs.Faults.{sequence_fault}
 use Rattle.rv_event.specs.Faults.{source_fault, taken_fault}
 use Rattle.rv_event.specs.Log.{events, named, of_hart, writer}
 use Rattle.rv_event.specs.Operations.{IsStore, is_exclusive, is_store}
@@ -25,10 +28,12 @@ use Rattle.rv_event.specs.declared.event.Entry.{Entry}
 use Rattle.rv_event.specs.declared.event.Event.{Event}
 use Rattle.rv_event.specs.declared.event.Id.{Id}
 use Rattle.rv_event.specs.declared.fault.Fault.{Fault}
-use Rattle.rv_event.specs.declared.fault.Fault.TheVariants.{Dependency, Hart, NoReservation, OtherSource, Sequence}
+use Rattle.rv_event.specs.declared.fault.Fault.TheVariants.{Dependency, Hart, NoReservation}
+use Rattle.rv_event.specs.declared.fault.Fault.TheVariants.{OtherSource, Sequence}
 use Rattle.rv_event.specs.declared.fault.Fault.TheVariants.{VersionTaken, VersionZero}
 use Rattle.rv_settle.proofs.Decided.{comes-back}
-use Rattle.rv_settle.proofs.Formed.{CountsFrom, count-high, ends-behind, ends-renumbered, ends_reserved, is_high}
+use Rattle.rv_settle.proofs.Formed.{CountsFrom, count-high, ends-behind, ends-renumbered}
+use Rattle.rv_settle.proofs.Formed.{ends_reserved, is_high}
 use Rattle.rv_settle.proofs.Formed.{is_low, low-high, own-forgotten, own-window, shorter, window-formed}
 use Rattle.rv_settle.proofs.Windows.{into-window, onto-window}
 use Rattle.rv_settle.specs.Fitting.{DependsWell, FitsPast, HasOldSource, IsUntaken, in_full}
@@ -42,14 +47,14 @@ same-bool true false to from = absurd (false≢true (to refl))
 same-bool false true to from = absurd (false≢true (from refl))
 
 -- faults side by side, each of the first list told as the other one is
-abbrev SameFaults : (Fault → Fault) → List (Option Fault) → List (Option Fault) → Type 0
+abbrev pub SameFaults : (Fault → Fault) → List (Option Fault) → List (Option Fault) → Type 0
 SameFaults f [] [] = Unit {0}
 SameFaults f (a ∷ xs) (b ∷ ys) = (a ≡ option_map f b) × SameFaults f xs ys
 SameFaults f [] (b ∷ ys) = ⊥
 SameFaults f (a ∷ xs) [] = ⊥
 
 -- so is the first one that holds
-lowest-same : (f : Fault → Fault) (xs ys : List (Option Fault)) → SameFaults f xs ys →
+pub lowest-same : (f : Fault → Fault) (xs ys : List (Option Fault)) → SameFaults f xs ys →
     lowest xs ≡ option_map f (lowest ys)
 lowest-same f [] [] same = refl
 lowest-same f [] (b ∷ ys) same = absurd same
@@ -65,7 +70,7 @@ lowest-early f a (Some b) c d g xs ys first second is = rw first refl
 lowest-early f a None c d g xs ys first second is = rw (first, second, is) refl
 
 -- a fault that reads the same
-told : (f : Fault → Fault) (b : Bool) (g : Fault) → f g ≡ g → fault_if b g ≡ option_map f (fault_if b g)
+pub told : (f : Fault → Fault) (b : Bool) (g : Fault) → f g ≡ g → fault_if b g ≡ option_map f (fault_if b g)
 told f true g same = ap Some (sym same)
 told f false g same = refl
 
@@ -124,7 +129,7 @@ module _ (limit : ℕ) (log : List Entry) (x : Entry) (first : ℕ → ℕ) (ok 
   own-counts k d low = let at = numbered_within limit log ok h k d low in omega (arith, at)
 
   -- so many events of the hart are in the window
-  counted : expected w new ≡ length own - n
+  pub counted : expected w new ≡ length own - n
   counted =
       ap (λ (xs : List Event). length xs) (own-window first h log) ∙
       length-map (filter (is_high n) own) (renumbered first) ∙
@@ -282,7 +287,8 @@ module _ (limit : ℕ) (log : List Entry) (x : Entry) (first : ℕ → ℕ) (ok 
       ap (λ (b : Bool). fault_if (is_sc x.event.op && not b) NoReservation) reserved-same
       ∙ told full (is_sc x.event.op && not (is_reserved w h)) NoReservation refl
 
-  pub full-none : x.event.id.seq < limit → x.event.id.seq ≡ length own → full_fault limit es x.event ≡ option_map full (full_fault 4096 w new)
+  pub full-none : x.event.id.seq < limit → x.event.id.seq ≡ length own → full_fault limit es x.event
+      ≡ option_map full (full_fault 4096 w new)
   full-none below next =
       let low : length own < limit = omega (arith, below, next) in
       let less : expected w new < 4096 = omega (arith, counted, room, next) in

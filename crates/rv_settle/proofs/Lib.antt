@@ -1,5 +1,6 @@
 pub mod Bars
 pub mod Composed
+pub mod CutStays
 pub mod Cuts
 pub mod Decided
 pub mod Faulted
@@ -12,4 +13,5 @@ pub mod Nested
 pub mod Reserved
 pub mod Seen
 pub mod Stays
+pub mod WindowDecides
 pub mod Windows

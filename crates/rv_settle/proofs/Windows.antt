@@ -198,7 +198,7 @@ module _ {limit other : ℕ} (log : List Event) (w : List Event) (first : ℕ �
       All-from_contains P log (λ m c. over m (λ kept. All-contains Q w (renumbered first m) all (into m c kept)))
 
   -- pairs stay
-  paired-in : (lr sc : Event) → IsKept first lr → IsKept first sc → Paired log lr sc →
+  pub paired-in : (lr sc : Event) → IsKept first lr → IsKept first sc → Paired log lr sc →
       Paired w (renumbered first lr) (renumbered first sc)
   paired-in lr sc kept kept' p = record {
     is_lr = p.is_lr;
@@ -209,7 +209,7 @@ module _ {limit other : ℕ} (log : List Event) (w : List Event) (first : ℕ �
         (λ m kept-m none between. none (between-back first lr m sc kept kept-m kept' between)) p.none_between;
   }
 
-  paired-back : (lr sc : Event) → IsKept first lr → IsKept first sc →
+  pub paired-back : (lr sc : Event) → IsKept first lr → IsKept first sc →
       Paired w (renumbered first lr) (renumbered first sc) → Paired log lr sc
   paired-back lr sc kept kept' p = record {
     is_lr = p.is_lr;

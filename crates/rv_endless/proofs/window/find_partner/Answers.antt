@@ -9,19 +9,19 @@ use Rattle.rv_endless.proofs.Exclusives.{partner-never, partner-none, partner-so
 use Rattle.rv_endless.proofs.window.find_partner.Goals as goal
 
 pub returns-in_err-last : goal.returns-in_err-last
-returns-in_err-last c =
+returns-in_err-last c = λ indexed last.
     subst (λ (o : Option (Bor Event)). IsPartner (events c.args.log.now ++ c.args.event.now ∷ []) c.args.event.now
     (option_copied o)) (sym c.from_residual.ensures)
-    (partner-never (events c.args.log.now) c.args.event.now c.requires.indexed c.requires.last c.in_err-last.ensures)
+    (partner-never (events c.args.log.now) c.args.event.now indexed last c.in_err-last.ensures)
 
 pub returns-then-eq : goal.returns-then-eq
-returns-then-eq c =
+returns-then-eq c = λ indexed last.
     let sc : c.args.event.now.op ≡ Sc = search rules in
     let lr : c.in_ok-last.last.now.op ≡ Lr = search rules in
-    partner-some (events c.args.log.now) c.args.event.now c.requires.indexed c.requires.last c.in_ok-last.last.now
+    partner-some (events c.args.log.now) c.args.event.now indexed last c.in_ok-last.last.now
     c.in_ok-last.ensures sc lr
 
 pub returns-else-eq : goal.returns-else-eq
-returns-else-eq c =
-    partner-none (events c.args.log.now) c.args.event.now c.requires.indexed c.requires.last c.in_ok-last.last.now
+returns-else-eq c = λ indexed last.
+    partner-none (events c.args.log.now) c.args.event.now indexed last c.in_ok-last.last.now
     c.in_ok-last.ensures (λ lr. search rules)

@@ -15,7 +15,8 @@ returns-clause-noted c = λ i.
     (λ h k apart. c.in-Ok.ensures.updates.2 (h, k) (other-key c.args.id.hart h (c.args.id.seq / 4096) k apart)) i
   where
     bits : (j : ℕ) → has_bit c.insert.new.self j
-        ≡ (has_number (get same_version c.args.values.now (c.args.id.hart, c.args.id.seq / 4096)) j || (c.args.id.seq % 4096 == j))
+        ≡ (has_number (get same_version c.args.values.now (c.args.id.hart, c.args.id.seq / 4096)) j
+        || (c.args.id.seq % 4096 == j))
     bits j = c.insert.ensures j ∙ ap (λ (b : Bool). b || (c.args.id.seq % 4096 == j)) before
       where
         before : has_bit c.match-get.row j

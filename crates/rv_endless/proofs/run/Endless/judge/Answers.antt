@@ -1,0 +1,9 @@
+use Rattle.std.proofs.Common.{arith}
+use Rattle.rv_endless.proofs.run.Endless.judge.Goals as goal
+
+pub judge_next-requires : goal.judge_next-requires
+judge_next-requires c = record {
+  hart = let low = c.if-event-gt15.false in omega (arith, low);
+  within = c.in_default.ensures c.args.entry.now.source;
+  seq = c.if-event-count.false;
+}

@@ -1,0 +1,252 @@
+//! A run of any length, judged by a window of its events and by what is known of its past.
+ghost use Rattle.std.specs.Prelude.{ℕ, Bool, ◌≡◌, ◌++◌, ◌∷◌, [], IsFalse, List, MatchOption, None};
+ghost use Rattle.std.specs.Prelude.{Some, ◌<◌, length};
+ghost use Rattle.std.specs.Prelude.{◌^◌, ◌↔◌, IsTrue, slice_index_or};
+ghost use Rattle.rv_event.specs.Faults.{fault_of, fault_within};
+ghost use Rattle.rv_event.specs.declared.event.Entry.{Entry};
+ghost use Rattle.rv_endless.specs.Answers.{IfBeyond, IfForbidden, IfMalformed, OnAccepted};
+ghost use Rattle.rv_endless.specs.Answers.{OnBeforePast, OnRefused};
+ghost use Rattle.rv_endless.specs.Answers.{OnTaken, OnUnjudged};
+ghost use Rattle.rv_endless.specs.Runs.{HasStopped, IsAnswered, IsBeyond, IsForbidden, IsNext};
+ghost use Rattle.rv_endless.specs.Runs.{IsTakenBefore, IsWithin};
+ghost use Rattle.rv_endless.specs.Runs.{StandsFor, limit, misfit_answer, misfit_number, in_window};
+ghost use Rattle.rv_endless.specs.Runs.{AreForgotten};
+ghost use Rattle.rv_endless.specs.Steps.{IsExplained, IsOffered, IsPastOf, Joins};
+ghost use Rattle.rv_cut.specs.Cuts.{first_of};
+ghost use Rattle.rv_event.specs.Log.{events};
+ghost use Rattle.rv_event.specs.declared.event.Event.{Event};
+ghost use Rattle.rv_past.specs.Before.{IsFree};
+ghost use Rattle.rv_settle.specs.Past.{ComesBeforePast};
+ghost use Rattle.rv_settle.specs.Windows.{window};
+ghost use Rattle.rv_book.specs.Booked.{IsForbiddenOn};
+
+use crate::answer::{Answer, Beyond};
+use crate::numbers::full_fault;
+use crate::window::{find_partner, renumber};
+use rv_book::{Book, Offer};
+use rv_cut::Cut;
+use rv_event::{Entry, Event, Fault, MemoryModel, Op, find_fault};
+use rv_past::{Facts, Misfit, Past};
+use std::alloc::Global;
+
+/// A run of any length: a window of the events that were accepted last, and what is known of those
+/// before, which were forgotten.
+///
+/// Contracts see the fields, and say for which logs it stands (`StandsFor`): the log itself is in no
+/// value.
+#[derive(Drop)]
+pub struct Endless {
+    alloc: Global,
+    /// The window's book.
+    pub book: Book,
+    /// Of each hart the number of its first event in the window.
+    pub firsts: Cut,
+    /// How many events each hart has.
+    pub counts: [u32; 16],
+    /// The versions of what was forgotten.
+    pub past: Past,
+    /// What the faults of new events ask of it.
+    pub facts: Facts,
+    /// The harts that are active.
+    pub active: Vec<u8>,
+    /// Whether an entry was refused.
+    pub stopped: bool,
+}
+
+impl Endless {
+    /// The run before any event, under a memory model, where these harts are active. It takes no
+    /// memory; the allocator serves the calls to come.
+    pub fn new(alloc: Global, model: MemoryModel, active: Vec<u8>) -> Endless
+        ensures stands { StandsFor result [] }
+        ensures model { result.book.model ≡ model }
+        ensures active { result.active ≡ active }
+        ensures going { IsFalse result.stopped }
+    {
+        let book = Book::new(alloc, model);
+        // For the proof alone, which has a lawful order from this call.
+        let _ = book.model();
+        Endless {
+            alloc,
+            book,
+            firsts: Cut::new(),
+            counts: [0; 16],
+            past: Past::new(alloc),
+            facts: Facts::new(alloc),
+            active,
+            stopped: false,
+        }
+    }
+
+    /// Takes the entry exactly where it has no fault over the log, and some order is lawful for the
+    /// log with it; or answers why it can't be judged.
+    ///
+    /// Faults are looked at before consistency. A refusal stops the run, and leaves its window. It
+    /// costs what the window's book takes, and a look-up or two for what was forgotten.
+    pub fn offer(&mut self, entry: &Entry) -> Answer
+        ensures accepted { (log : List Entry) → StandsFor self.old log → OnAccepted result
+            ((fault_within limit log entry.now ≡ None) × StandsFor self.new (log ++ entry.now ∷ [])) }
+        ensures malformed { (log : List Entry) → StandsFor self.old log → IfMalformed result (λ fault.
+            fault_within limit log entry.now ≡ Some fault) }
+        ensures taken { (log : List Entry) → StandsFor self.old log →
+            OnTaken result (IsTakenBefore self.old log entry.now) }
+        ensures forbidden { (log : List Entry) → StandsFor self.old log → IfForbidden result (λ refusal.
+            IsForbidden self.old log entry.now
+            × IsForbiddenOn self.old.book.model self.old.book.log (in_window self.old entry.now) refusal) }
+        ensures before_past { (log : List Entry) → StandsFor self.old log →
+            OnBeforePast result (IsForbidden self.old log entry.now) }
+        ensures beyond { (log : List Entry) → StandsFor self.old log →
+            IfBeyond result (IsBeyond self.old entry.now) }
+        ensures refused { (log : List Entry) → StandsFor self.old log →
+            OnRefused result (HasStopped self.old self.new) }
+        ensures unjudged { (log : List Entry) → StandsFor self.old log →
+            OnUnjudged result (self.new ≡ self.old) }
+    {
+        if self.stopped {
+            return Answer::Stopped;
+        }
+        self.judge(entry)
+    }
+
+    /// Judges an entry offered to a run that goes on.
+    fn judge(&mut self, entry: &Entry) -> Answer
+        ensures { (log : List Entry) → StandsFor self.old log →
+            IsAnswered self.old self.new log entry.now result }
+    {
+        let event = &entry.event;
+        if event.id.hart > 15 {
+            self.stopped = true;
+            return Answer::Malformed(Fault::Hart);
+        }
+        if let Some(beyond) = self.find_beyond(event) {
+            return Answer::Beyond(beyond);
+        }
+        let count = self.counts[event.id.hart as usize];
+        if event.id.seq != count {
+            self.stopped = true;
+            return Answer::Malformed(Fault::Sequence(count));
+        }
+        self.judge_next(entry)
+    }
+
+    /// Why the event can't be judged, where it can't.
+    fn find_beyond(&self, event: &Event) -> Option<Beyond>
+        requires { event.now.id.hart < 16 }
+        ensures { (source : ℕ) → MatchOption result
+            (IsWithin self.now (record { source = source; event = event.now }))
+            (IsBeyond self.now (record { source = source; event = event.now })) }
+    {
+        if !self.active.contains(&event.id.hart) {
+            return Some(Beyond::Inactive);
+        }
+        if event.op == Op::Carrier {
+            return Some(Beyond::Carrier);
+        }
+        let count = self.counts[event.id.hart as usize];
+        if count as usize >= self.firsts.first(event.id.hart) as usize + 4096 {
+            return Some(Beyond::WindowFull);
+        }
+        if count == u32::MAX {
+            return Some(Beyond::LastNumber);
+        }
+        None
+    }
+
+    /// Judges an entry whose number is the next one of its hart.
+    fn judge_next(&mut self, entry: &Entry) -> Answer
+        requires { IsNext self.old entry.now }
+        ensures { (log : List Entry) → StandsFor self.old log →
+            IsAnswered self.old self.new log entry.now result }
+    {
+        let first = self.firsts.first(entry.event.id.hart);
+        let Ok(moved) = renumber(self.alloc, entry, first) else {
+            return Answer::NoMemory;
+        };
+        let misfit = self.facts.find_misfit(first, entry);
+        if misfit.is_some() || self.is_before(entry, &moved) {
+            self.stopped = true;
+            return explain(self.book.log(), &self.firsts, misfit, &moved);
+        }
+        self.judge_moved(&moved)
+    }
+
+    /// Whether the entry comes before what was forgotten, where it has no fault.
+    fn is_before(&self, entry: &Entry, moved: &Entry) -> bool
+        ensures { (log gone : List Entry) (past : Event → Bool) → self.now.book.log ≡ window
+            (first_of self.now.firsts) log →
+            moved.now ≡ in_window self.now entry.now → AreForgotten self.now log gone → IsPastOf self.now log past →
+            IsFree (events gone) entry.now.event → Joins self.now log entry.now →
+            IsTrue result ↔ ComesBeforePast (events (log ++ entry.now ∷ [])) past entry.now.event }
+    {
+        let lr = find_partner(self.book.log(), &moved.event);
+        self.past.is_before(&entry.event, lr)
+    }
+
+    /// Judges an entry that fits what was forgotten, by the window.
+    fn judge_moved(&mut self, moved: &Entry) -> Answer
+        requires hart { moved.now.event.id.hart < 16 }
+        requires numbers { slice_index_or self.old.counts moved.now.event.id.hart 0 < 4294967295 }
+        ensures { IsOffered self.old self.new moved.now result }
+    {
+        match self.book.offer(moved) {
+            Offer::Accepted => {
+                self.counts[moved.event.id.hart as usize] += 1;
+                Answer::Accepted
+            }
+            Offer::Malformed(malformed) => {
+                self.stopped = true;
+                Answer::Malformed(full_fault(&self.firsts, moved.event.id.hart, malformed.fault()))
+            }
+            Offer::Forbidden(forbidden) => {
+                self.stopped = true;
+                Answer::Forbidden(forbidden)
+            }
+            Offer::Stopped => Answer::Stopped,
+            Offer::NoMemory => Answer::NoMemory,
+        }
+    }
+}
+
+/// What is wrong with an entry that doesn't fit what was forgotten, or comes before it: the first of
+/// the faults that the window and the past have.
+fn explain(window: &[Entry], firsts: &Cut, misfit: Option<Misfit>, moved: &Entry) -> Answer
+    requires { length window.now < 2 ^ 32 }
+    ensures { IsExplained firsts.now moved.now.event.id.hart misfit (fault_of window.now moved.now) result }
+{
+    let found = find_fault(window, moved);
+    match misfit {
+        Some(misfit) => match found {
+            Some(fault) if fault.number() < number_of(misfit) => {
+                Answer::Malformed(full_fault(firsts, moved.event.id.hart, fault))
+            }
+            _ => answer_of(misfit),
+        },
+        None => match found {
+            Some(fault) => Answer::Malformed(full_fault(firsts, moved.event.id.hart, fault)),
+            None => Answer::BeforePast,
+        },
+    }
+}
+
+/// The number of the fault that an entry has which doesn't fit what was forgotten.
+fn number_of(misfit: Misfit) -> u8
+    ensures { result ≡ misfit_number misfit }
+{
+    match misfit {
+        Misfit::Depends => 3,
+        Misfit::Taken => 5,
+        Misfit::OtherSource => 8,
+        Misfit::TooManyDeps => 9,
+    }
+}
+
+/// The fault, as a run answers it.
+fn answer_of(misfit: Misfit) -> Answer
+    ensures { result ≡ misfit_answer misfit }
+{
+    match misfit {
+        Misfit::Depends => Answer::Malformed(Fault::Dependency),
+        Misfit::Taken => Answer::Taken,
+        Misfit::OtherSource => Answer::Malformed(Fault::OtherSource),
+        Misfit::TooManyDeps => Answer::Malformed(Fault::TooManyDeps),
+    }
+}
