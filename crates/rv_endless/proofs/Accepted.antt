@@ -184,6 +184,13 @@ module _ (run : Endless) (log : List Entry) (x : Entry) (stands : StandsFor run 
           ∙ stands.counts_are hart ∙ sym (count-other hart apart)
     ]
 
+    numbers-more : (hart : ℕ) → length (of_hart hart (events more)) < limit
+    numbers-more hart = elim (cases_eq hart h) [
+      | inl own ↦ subst (λ (k : ℕ). length (of_hart k (events more)) < limit) (sym own)
+          (let low = next.within.numbers in let count = stands.counts_are h in omega (arith, low, count, count-own))
+      | inr apart ↦ (let few' = stands.numbers hart in let same = count-other hart apart in omega (arith, few', same))
+    ]
+
     within-more : (hart : ℕ) → first hart ≤ length (of_hart hart (events more))
     within-more hart = elim (cases_eq hart h) [
       | inl own ↦ subst (λ (k : ℕ). first k ≤ length (of_hart k (events more))) (sym own)
@@ -194,11 +201,12 @@ module _ (run : Endless) (log : List Entry) (x : Entry) (stands : StandsFor run 
     forgotten : AreForgotten grown-run more stands.gone.0
     forgotten = record {
       each = λ y. (
-        (λ c. let there = (stands.gone.1.each y).0 c in (Contains-append_left log (x ∷ []) y there.0, there.1)),
-        (λ both. elim (Contains-push_cases log x y both.0) [
-          | inl old ↦ (stands.gone.1.each y).1 (old, both.1)
+        (λ c. let there = (stands.gone.1.each y).0 c in
+            (there.0, Contains-append_left log (x ∷ []) there.0 there.1, there.2, there.3)),
+        (λ from. elim (Contains-push_cases log x from.0 from.1) [
+          | inl old ↦ (stands.gone.1.each y).1 (from.0, old, from.2, from.3)
           | inr same ↦ absurd (let low = subst (λ (z : Entry). z.event.id.seq < first
-              z.event.id.hart) (sym same) both.1 in
+              z.event.id.hart) (sym same) from.2 in
               let high = is-kept in omega (arith, low, high))
         ]),
       );
@@ -217,6 +225,7 @@ module _ (run : Endless) (log : List Entry) (x : Entry) (stands : StandsFor run 
       window_is = log-is ∙ sym whole;
       harts = length-set run.counts h (slice_index_or run.counts h 0 + 1) ∙ stands.harts;
       counts_are = counts-more;
+      numbers = numbers-more;
       within = within-more;
       few = few;
       closes = closes;

@@ -9,6 +9,7 @@ use Rattle.rv_event.proofs.Common.{filter-append, map-append}
 use Rattle.rv_event.proofs.Indexed.{IndexedWithin, indexed_from_WellFormed, indexed_within}
 use Rattle.rv_event.proofs.Names.{Contains-map, Contains-mapped}
 use Rattle.rv_event.specs.Log.{events}
+use Rattle.rv_event.specs.Operations.{IsLoad, IsStore}
 use Rattle.rv_event.specs.Relations.{Paired}
 use Rattle.rv_event.specs.declared.event.Entry.{Entry}
 use Rattle.rv_event.specs.declared.event.Event.{Event}
@@ -21,7 +22,7 @@ use Rattle.rv_settle.proofs.Windows.{into-window, onto-window, paired-back, pair
 use Rattle.rv_settle.specs.Past.{ComesBeforePast}
 use Rattle.rv_settle.specs.Past as settled
 use Rattle.rv_settle.specs.Windows.{IsKept, KeepsPairs, renumbered, window}
-use Rattle.rv_endless.specs.Runs.{AreForgotten, limit}
+use Rattle.rv_endless.specs.Runs.{AreForgotten, bare, limit}
 use Rattle.rv_endless.specs.Steps.{IsPastOf, Joins}
 use Rattle.rv_endless.specs.declared.run.Endless.{Endless}
 
@@ -52,22 +53,25 @@ module _ (run : Endless) (log gone : List Entry) (x : Entry) (past : Event → B
   abbrev w : List Event
   w = events (window first (log ++ x ∷ []))
 
-  -- what was forgotten is of the past
-  gone-past : (p : Event) → Contains (events gone) p → IsTrue (past p)
+  -- what was forgotten is of the past, but for its dependencies
+  gone-past : (p : Event) → Contains (events gone) p →
+      (q : Event) × IsTrue (past q) × (record q { deps = [] } ≡ p)
   gone-past p c =
       let y = Contains-map (λ (z : Entry). z.event) gone p c in
-      let there = (forgotten.each y.0).0 y.1 in
-      subst (λ (e : Event). IsTrue (past e)) y.2
-      ((of.below y.0.event (Contains-mapped (λ (z : Entry). z.event) log y.0 there.0)).1 there.1)
+      let there = (forgotten.each y.0).0 y.1 in (
+        there.0.event,
+        (of.below there.0.event (Contains-mapped (λ (z : Entry). z.event) log there.0 there.1)).1 there.2,
+        ap (λ (z : Entry). z.event) there.3 ∙ y.2,
+      )
 
   -- and the other way round
-  past-gone : (p : Event) → IsTrue (past p) → Contains (events gone) p
+  past-gone : (p : Event) → IsTrue (past p) → Contains (events gone) (record p { deps = [] })
   past-gone p is =
       let there = of.of_log p is in
-      let y = Contains-map (λ (z : Entry). z.event) log p there in
-      let low = subst (λ (e : Event). e.id.seq < first e.id.hart) (sym y.2) ((of.below p there).0 is) in
-      subst (λ (e : Event). Contains (events gone) e) y.2
-      (Contains-mapped (λ (z : Entry). z.event) gone y.0 ((forgotten.each y.0).1 (y.1, low)))
+      let z = Contains-map (λ (z : Entry). z.event) log p there in
+      let low = subst (λ (e : Event). e.id.seq < first e.id.hart) (sym z.2) ((of.below p there).0 is) in
+      subst (λ (e : Event). Contains (events gone) (record e { deps = [] })) z.2
+      (Contains-mapped (λ (z : Entry). z.event) gone (bare z.0) ((forgotten.each (bare z.0)).1 (z.0, z.1, low, refl)))
 
   known : IndexedWithin limit new
   known = indexed_within limit (log ++ x ∷ []) joined.formed
@@ -82,27 +86,41 @@ module _ (run : Endless) (log gone : List Entry) (x : Entry) (past : Event → B
   module _ (lr : Option Event) (partner : IsPartner w (renumbered first x.event) lr) where
     -- what comes before what was forgotten comes before the past
     before-past : ComesBefore (events gone) lr x.event → ComesBeforePast new past x.event
-    before-past (loads_below p c s load word less) = settled.loads_below p (gone-past p c) s load word less
-    before-past (stores_below p c s store word less) = settled.stores_below p (gone-past p c) s store word less
+    before-past (loads_below p c s load word less) =
+        let q = gone-past p c in
+        settled.loads_below q.0 q.1 (subst IsStore (sym q.2) s) load (ap (λ (e : Event). e.word) q.2 ∙ word)
+        (subst (λ (e : Event). x.event.read < e.wrote) (sym q.2) less)
+    before-past (stores_below p c s store word less) =
+        let q = gone-past p c in
+        settled.stores_below q.0 q.1 (subst IsStore (sym q.2) s) store (word ∙ sym (ap (λ (e : Event). e.word) q.2))
+        (subst (λ (e : Event). x.event.wrote < e.wrote) (sym q.2) less)
     before-past (stores_what_was_returned p c load store word same) =
-        settled.stores_what_was_returned p (gone-past p c) load store word same
+        let q = gone-past p c in
+        settled.stores_what_was_returned q.0 q.1 (subst IsLoad (sym q.2) load) store
+        (ap (λ (e : Event). e.word) q.2 ∙ word) (ap (λ (e : Event). e.read) q.2 ∙ same)
     before-past (stores_too_late r p is c s word apart less) =
         let own = subst (λ (o : Option Event). IsPartner w (renumbered first x.event) o) is partner in
         let from = onto-window first (log ++ x ∷ []) r own.0 in
         let paired : Paired w (renumbered first from.0) (renumbered first x.event) =
         subst (λ (e : Event). Paired w e (renumbered first x.event)) (sym from.3) own.1 in
-        settled.stores_too_late from.0 p from.1
+        let q = gone-past p c in
+        settled.stores_too_late from.0 q.0 from.1
         (paired-back new w first known known-window (into-window first (log ++ x ∷ []))
         (onto-window first (log ++ x ∷ [])) from.0 x.event from.2 joined.kept paired)
-        (gone-past p c) s (word ∙ ap (λ (e : Event). e.word) (sym from.3)) apart
-        (subst (λ (e : Event). e.read < p.wrote) (sym from.3) less)
+        q.1 (subst IsStore (sym q.2) s)
+        (ap (λ (e : Event). e.word) q.2 ∙ word ∙ ap (λ (e : Event). e.word) (sym from.3))
+        (λ same. apart (sym (ap (λ (e : Event). e.id.hart) q.2) ∙ same))
+        (subst (λ (e : Event). e.read < q.0.wrote) (sym from.3)
+        (subst (λ (e : Event). r.read < e.wrote) (sym q.2) less))
 
     -- and the other way round
     past-before : ComesBeforePast new past x.event → ComesBefore (events gone) lr x.event
-    past-before (settled.loads_below p is s load word less) = loads_below p (past-gone p is) s load word less
-    past-before (settled.stores_below p is s store word less) = stores_below p (past-gone p is) s store word less
+    past-before (settled.loads_below p is s load word less) =
+        loads_below (record p { deps = [] }) (past-gone p is) s load word less
+    past-before (settled.stores_below p is s store word less) =
+        stores_below (record p { deps = [] }) (past-gone p is) s store word less
     past-before (settled.stores_what_was_returned p is load store word same) =
-        stores_what_was_returned p (past-gone p is) load store word same
+        stores_what_was_returned (record p { deps = [] }) (past-gone p is) load store word same
     past-before (settled.stores_too_late r p c paired is s word apart less) = go lr refl partner
       where
         kept : IsKept first r
@@ -120,7 +138,8 @@ module _ (run : Endless) (log gone : List Entry) (x : Entry) (past : Event → B
         go None is' none = absurd (none (renumbered first r) there pair)
         go (Some q) is' own =
             let same = own.2 (renumbered first r) there pair in
-            stores_too_late q p is' (past-gone p is) s (word ∙ ap (λ (e : Event). e.word) same) apart
+            stores_too_late q (record p { deps = [] }) is' (past-gone p is) s
+            (word ∙ ap (λ (e : Event). e.word) same) apart
             (subst (λ (e : Event). e.read < p.wrote) same less)
 
     -- so they are the same

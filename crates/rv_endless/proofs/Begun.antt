@@ -40,6 +40,7 @@ begun run none order lawful firsts counts past facts going book-going = record {
   window_is = none;
   harts = ap (λ (xs : List ℕ). length xs) counts;
   counts_are = λ hart. ap (λ (xs : List ℕ). slice_index_or xs hart 0) counts ∙ zero-at 16 hart;
+  numbers = λ hart. omega arith;
   within = λ hart. let first = firsts hart in omega (arith, first);
   few = λ hart. omega arith;
   closes = λ hart. refl;
@@ -56,7 +57,7 @@ begun run none order lawful firsts counts past facts going book-going = record {
   gone = (
     [],
     record {
-      each = λ y. ((λ c. absurd (Contains-none y c)), (λ both. both.0));
+      each = λ y. ((λ c. absurd (Contains-none y c)), (λ from. absurd (Contains-none from.0 from.1)));
       past = past;
       facts = facts;
     },

@@ -1,8 +1,10 @@
 -- The last LR, SC or failed SC of a hart, and the LR with which an SC is paired.
-use Rattle.std.proofs.Common.{Bool, IsFalse, IsTrue, List, None, Option, Some, ap, arith, false, inl, inr, length}
+use Rattle.std.proofs.Common.{Bool, IsFalse, IsTrue, List, None, Option, Some, ap, arith, false}
+use Rattle.std.proofs.Common.{inl, inr, length}
 use Rattle.std.proofs.Common.{refl, subst, sym, true, ℕ, [], ◌++◌, ◌<◌, ◌∙◌, ◌∷◌, ◌≡◌, ◌≤◌, ◌⊎◌}
 use Rattle.std.proofs.lemmas.Bool.{cases_lt, false≢true}
-use Rattle.std.proofs.lemmas.List.Elements.{All-contains, Contains-append_left, Contains-push, Contains-push_cases}
+use Rattle.std.proofs.lemmas.List.Elements.{All-contains, Contains-append_left, Contains-push}
+use Rattle.std.proofs.lemmas.List.Elements.{Contains-push_cases}
 use Rattle.std.proofs.lemmas.Option.{same_Some}
 use Rattle.std.specs.List.{Contains}
 use Rattle.rv_event.proofs.Growing.{All-from_contains}

@@ -1,8 +1,12 @@
 pub mod Accepted
 pub mod Before
 pub mod Begun
+pub mod Cutting
+pub mod Ended
 pub mod Exclusives
 pub mod Faulty
+pub mod Forgotten
 pub mod Judged
 pub mod Misfits
 pub mod Next
+pub mod Sources

@@ -1,4 +1,5 @@
 -- The first fault of an entry that doesn't fit what was forgotten.
+use Rattle.rv_endless.specs.Runs.{bare}
 use Rattle.std.proofs.Common.{if◌then◌else◌, ℕ, ◌≡◌, ◌≢◌, ◌∙◌, ◌<◌, ◌≤◌, ◌∷◌, ◌==◌, ◌&&◌, ◌⊎◌, []}
 use Rattle.std.proofs.Common.{Bool, Contains, List}
 use Rattle.std.proofs.Common.{None, Option, Some, ap, arith, eq-eqb, false, inl, inr, length, not}
@@ -11,7 +12,6 @@ use Rattle.std.specs.Prelude.{nat_le, nat_lt}
 use Rattle.rv_event.proofs.Growing.{Any-from_contains}
 use Rattle.rv_event.proofs.Indexed.{IndexedWithin, indexed_within}
 use Rattle.rv_event.proofs.Names.{Contains-mapped, writer-is}
-use Rattle.rv_event.specs.Contexts.{is_bad_on}
 use Rattle.rv_event.specs.Faults.{dependency_fault, deps_fault, expected, fault_if, fault_of}
 use Rattle.rv_event.specs.Faults.{fault_within, full_fault, hart_fault}
 use Rattle.rv_event.specs.Faults.{is_bad_dependency, is_reserved, is_sc, lowest, reservation_fault}
@@ -173,29 +173,49 @@ module _ (run : Endless) (log : List Entry) (x : Entry) (stands : StandsFor run 
     where
       is : is_bad_dependency es e bad.dep ≡ true
       is = let y = named-gone run log x stands next bad.dep bad.before in
-          subst (λ (o : Option Event). is_bad_on e bad.dep o ≡ true) (sym y.2) (bad.bad y.0 y.1 y.3)
+          y.2 ∙ bad.bad y.0 y.1 y.3
+
+  -- the store of a version that was written before is one of the log
+  store-of : (by : IsWrittenBy forgotten e.word e.wrote) →
+      (z : Entry) × Contains log z × (z.event.id.seq < fst z.event.id.hart) × (bare z ≡ by.store)
+  store-of by = gone-entry run log x stands next by.store by.of_gone
 
   was-taken : (store : IsStore e) (by : IsWrittenBy forgotten e.word e.wrote) →
-      taken_fault es e ≡ Some (VersionTaken by.store.event.id)
+      taken_fault es e ≡ Some (VersionTaken (store-of by).0.event.id)
   was-taken store by =
       ap (λ (b : Bool). if b then option_map (λ (y : Event). VersionTaken y.id)
       (writer es e.word e.wrote) else None) store
       ∙ ap (option_map (λ (y : Event). VersionTaken y.id)) writer-is-it
     where
-      there : Contains es by.store.event
-      there = Contains-mapped (λ (z : Entry). z.event) log by.store
-          (gone-entry run log x stands next by.store by.of_gone).0
+      z : Entry
+      z = (store-of by).0
 
-      writer-is-it : writer es e.word e.wrote ≡ Some by.store.event
-      writer-is-it = ap (λ (k : ℕ). writer es k e.wrote) (sym by.word)
-          ∙ ap (λ (k : ℕ). writer es by.store.event.word k) (sym by.wrote) ∙ known.written
-          by.store.event there by.is_store
+      same : bare z ≡ by.store
+      same = (store-of by).3
+
+      there : Contains es z.event
+      there = Contains-mapped (λ (y : Entry). y.event) log z (store-of by).1
+
+      word : z.event.word ≡ e.word
+      word = ap (λ (y : Entry). y.event.word) same ∙ by.word
+
+      wrote : z.event.wrote ≡ e.wrote
+      wrote = ap (λ (y : Entry). y.event.wrote) same ∙ by.wrote
+
+      writer-is-it : writer es e.word e.wrote ≡ Some z.event
+      writer-is-it = ap (λ (k : ℕ). writer es k e.wrote) (sym word)
+          ∙ ap (λ (k : ℕ). writer es z.event.word k) (sym wrote)
+          ∙ known.written z.event there (subst (λ (y : Entry). IsStore y.event) (sym same) by.is_store)
 
   other-source : (y : Entry) → Contains forgotten y → y.event.id.hart ≡ h → y.source ≢ x.source →
       source_fault log x ≡ Some OtherSource
-  other-source y c same apart = ap (λ (b : Bool). fault_if b OtherSource) (list_any-from_Any is_other log
-      (Any-from_contains (λ z. is_other z ≡ true) log y (gone-entry run log x stands next y c).0
-      (rw (eq-eqb y.event.id.hart h same, ne_eqb y.source x.source apart) refl)))
+  other-source y c same apart =
+      let z = gone-entry run log x stands next y c in
+      let hart' : z.0.event.id.hart ≡ h = ap (λ (w' : Entry). w'.event.id.hart) z.3 ∙ same in
+      let apart' : z.0.source ≢ x.source = λ is. apart (sym (ap (λ (w' : Entry). w'.source) z.3) ∙ is) in
+      ap (λ (b : Bool). fault_if b OtherSource) (list_any-from_Any is_other log
+      (Any-from_contains (λ y'. is_other y' ≡ true) log z.0 z.1
+      (rw (eq-eqb z.0.event.id.hart h hart', ne_eqb z.0.source x.source apart') refl)))
 
   too-many : 8 < length e.deps → deps_fault e ≡ Some TooManyDeps
   too-many more = ap (λ (b : Bool). fault_if b TooManyDeps) (lt-ltb 8 (length e.deps) more)
@@ -277,13 +297,13 @@ module _ (run : Endless) (log : List Entry) (x : Entry) (stands : StandsFor run 
       (dependency_fault es e) _ (dependency_fault w new) _ from-three Dependency (bad-dependency bad))
 
   first-taken : DependsOnValues forgotten n e → IsStore e → (by : IsWrittenBy forgotten e.word e.wrote) →
-      IsFirst 5 (VersionTaken by.store.event.id)
-  first-taken good store by = over-window 5 (VersionTaken by.store.event.id) (first-told to-log
+      IsFirst 5 (VersionTaken (store-of by).0.event.id)
+  first-taken good store by = over-window 5 (VersionTaken (store-of by).0.event.id) (first-told to-log
       (hart_fault e ∷ sequence_fault es e ∷ dependency_fault es e ∷ zero_fault e ∷ [])
       (hart_fault new ∷ sequence_fault w new ∷ dependency_fault w new ∷ zero_fault new ∷ [])
       (same-hart, (same-sequence, (same-dependency good, (same-zero, tt))))
       (from-hart, (from-sequence, (from-three.0, (from-three.1.0, tt)))) 5 refl
-      (taken_fault es e) _ (taken_fault w new) _ from-five (VersionTaken by.store.event.id) (was-taken store by))
+      (taken_fault es e) _ (taken_fault w new) _ from-five (VersionTaken (store-of by).0.event.id) (was-taken store by))
 
   first-source : DependsOnValues forgotten n e → IsUnwritten forgotten e → (y : Entry) → Contains forgotten y →
       y.event.id.hart ≡ h → y.source ≢ x.source → IsFirst 8 OtherSource
@@ -390,16 +410,16 @@ module _ (run : Endless) (log : List Entry) (x : Entry) (stands : StandsFor run 
             (sym (last misfit.Depends most explained)) (whole, stopped)
     misfit-answered misfit.Taken (good, store, by) explained = go (first-taken good store by)
       where
-        go : IsFirst 5 (VersionTaken by.store.event.id) → IsAnswered run after log x answer
+        go : IsFirst 5 (VersionTaken (store-of by).0.event.id) → IsAnswered run after log x answer
         go (inl (f, is, less, whole)) =
             by-window f whole ((subst (λ (o : Option Fault). IsExplained run.firsts h (Some misfit.Taken) o answer) is
             explained).0 less)
-        go (inr (whole, most)) = let there = gone-entry run log x stands next by.store by.of_gone in
+        go (inr (whole, most)) = let there = store-of by in
             subst (IsAnswered run after log x) (sym (last misfit.Taken most explained)) (
               record {
-                store = by.store;
-                of_log = there.0;
-                forgotten = there.1;
+                store = there.0;
+                of_log = there.1;
+                forgotten = there.2;
                 fault = whole;
               },
               stopped,

@@ -1,6 +1,8 @@
 -- What is known of the next entry of a hart, over a log for which a run stands.
-use Rattle.std.proofs.Common.{ℕ, ◌≡◌, ◌∙◌, ◌<◌, ◌+◌, Contains, IsFalse}
-use Rattle.std.proofs.Common.{List, Option, Some, ap, arith, length, option_map, subst, sym}
+use Rattle.rv_event.specs.Faults.{is_bad_dependency}
+use Rattle.std.proofs.Common.{[], refl}
+use Rattle.std.proofs.Common.{ℕ, ◌≡◌, ◌∙◌, ◌<◌, ◌+◌, Contains}
+use Rattle.std.proofs.Common.{List, Some, ap, arith, length, option_map, subst, sym}
 use Rattle.rv_cut.specs.Cuts.{first_of}
 use Rattle.rv_event.proofs.Indexed.{IndexedWithin, indexed_within}
 use Rattle.rv_event.proofs.Names.{Contains-map, named-is}
@@ -17,7 +19,7 @@ use Rattle.rv_past.specs.Facts.{DependsOnValues, Fits, HasSource, IsUnwritten, n
 use Rattle.rv_settle.proofs.Faulted.{fault-same}
 use Rattle.rv_settle.specs.Fitting.{DependsWell, FitsPast, HasOldSource, IsUntaken, in_full}
 use Rattle.rv_settle.specs.Windows.{IsKept}
-use Rattle.rv_endless.specs.Runs.{IsNext, StandsFor, in_window, limit}
+use Rattle.rv_endless.specs.Runs.{IsNext, StandsFor, bare, in_window, limit}
 use Rattle.rv_endless.specs.declared.run.Endless.{Endless}
 
 module _ (run : Endless) (log : List Entry) (x : Entry) (stands : StandsFor run log) (next : IsNext run x) where
@@ -52,21 +54,24 @@ module _ (run : Endless) (log : List Entry) (x : Entry) (stands : StandsFor run 
 
   -- a forgotten event of the log is that of an entry that was forgotten
   pub entry-gone : (p : Event) → Contains (events log) p → p.id.seq < first p.id.hart →
-      (y : Entry) × Contains gone y × (y.event ≡ p)
+      (y : Entry) × Contains gone y × (y.event ≡ record p { deps = [] })
   entry-gone p c low =
-      let y = Contains-map (λ (z : Entry). z.event) log p c in (
-        y.0,
-        (stands.gone.1.each y.0).1 (y.1, subst (λ (e : Event). e.id.seq < first e.id.hart) (sym y.2) low),
-        y.2,
+      let z = Contains-map (λ (z : Entry). z.event) log p c in (
+        bare z.0,
+        (stands.gone.1.each (bare z.0)).1
+            (z.0, z.1, subst (λ (e : Event). e.id.seq < first e.id.hart) (sym z.2) low, refl),
+        ap (λ (e : Event). record e { deps = [] }) z.2,
       )
 
   -- and the other way round
-  pub gone-entry : (y : Entry) → Contains gone y → Contains log y × (y.event.id.seq < first y.event.id.hart)
+  pub gone-entry : (y : Entry) → Contains gone y →
+      (z : Entry) × Contains log z × (z.event.id.seq < first z.event.id.hart) × (bare z ≡ y)
   gone-entry y c = (stands.gone.1.each y).0 c
 
-  -- a dependency on what was forgotten names an event that was
+  -- a dependency on what was forgotten is as bad as the entry that was tells
   pub named-gone : (d : Dep) → d.seq < first hart → (y : Entry) × Contains gone y
-      × (named (events log) (named_by x.event d) ≡ Some y.event) × (y.event.id ≡ named_by x.event d)
+      × (is_bad_dependency (events log) x.event d ≡ is_bad_on x.event d (Some y.event))
+      × (y.event.id ≡ named_by x.event d)
   named-gone d low =
       let within = stands.within hart in
       let found = known.filled (named_by x.event d) (omega (arith, low, within)) in
@@ -74,14 +79,14 @@ module _ (run : Endless) (log : List Entry) (x : Entry) (stands : StandsFor run 
       let y = entry-gone found.0 there.0 (subst (λ (i : Id). i.seq < first i.hart) there.1 low) in (
         y.0,
         y.1,
-        found.1 ∙ ap Some (sym y.2),
+        ap (is_bad_on x.event d) {x = named (events log) (named_by x.event d)} found.1
+            ∙ ap (λ (e : Event). is_bad_on x.event d (Some e)) {x = record found.0 { deps = [] }} (sym y.2),
         ap (λ (e : Event). e.id) y.2 ∙ sym there.1,
       )
 
   pub depends-well : DependsOnValues gone (first hart) x.event → DependsWell (events log) first x.event
   depends-well good d of low =
-      let y = named-gone d low in
-      subst (λ (o : Option Event). IsFalse (is_bad_on x.event d o)) (sym y.2) (good d y.0 of low y.1 y.3)
+      let y = named-gone d low in y.2 ∙ good d y.0 of low y.1 y.3
 
   pub untaken : IsUnwritten gone x.event → IsUntaken (events log) first x.event
   untaken free p c low store-p store word same =
@@ -95,7 +100,7 @@ module _ (run : Endless) (log : List Entry) (x : Entry) (stands : StandsFor run 
       })
 
   pub old-source : HasSource gone x → HasOldSource log first x
-  old-source own y c low same = own y ((stands.gone.1.each y).1 (c, low)) same
+  old-source own y c low same = own (bare y) ((stands.gone.1.each (bare y)).1 (y, c, low, refl)) same
 
   -- an entry that fits what was forgotten fits the past
   pub fits-past : Fits gone (first hart) x → FitsPast limit log first x

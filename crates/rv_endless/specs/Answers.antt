@@ -3,7 +3,8 @@ use Rattle.std.specs.Prelude.{⊤}
 use Rattle.rv_cert.specs.Refusals.{Refusal}
 use Rattle.rv_event.specs.declared.fault.Fault.{Fault}
 use Rattle.rv_endless.specs.declared.answer.Answer.{Answer}
-use Rattle.rv_endless.specs.declared.answer.Answer.TheVariants.{Accepted, BeforePast, Beyond, Forbidden, Malformed}
+use Rattle.rv_endless.specs.declared.answer.Answer.TheVariants.{Accepted, BeforePast, Beyond}
+use Rattle.rv_endless.specs.declared.answer.Answer.TheVariants.{Forbidden, Malformed}
 use Rattle.rv_endless.specs.declared.answer.Answer.TheVariants.{NoMemory, Stopped, Taken}
 use Rattle.rv_endless.specs.declared.answer.Beyond as why
 

@@ -1,4 +1,5 @@
 pub mod Answers
+pub mod Forgetting
 pub mod Partners
 pub mod Runs
 pub mod Steps

@@ -40,9 +40,17 @@ limit = 4294967296
 abbrev pub IsForgotten : List ℕ → Entry → Type 0
 IsForgotten firsts y = y.event.id.seq < first_of firsts y.event.id.hart
 
+-- the entry without its dependencies: what is known of the past has none
+abbrev pub bare : Entry → Entry
+bare y = record y { event = record y.event { deps = [] } }
+
+-- the entry is one of the log that was forgotten, without its dependencies
+abbrev pub IsForgottenOf : List ℕ → List Entry → Entry → Type 0
+IsForgottenOf firsts log y = (z : Entry) × Contains log z × IsForgotten firsts z × (bare z ≡ y)
+
 -- these are the entries of the log that were forgotten, and what is known of them
 pub record AreForgotten (run : Endless) (log gone : List Entry) : Type 0 where
-  pub each : (y : Entry) → Contains gone y ↔ (Contains log y × IsForgotten run.firsts y)
+  pub each : (y : Entry) → Contains gone y ↔ IsForgottenOf run.firsts log y
   pub past : AreGone (events gone) run.past
   pub facts : AreFacts gone run.facts
 
@@ -64,6 +72,7 @@ pub record StandsFor (run : Endless) (log : List Entry) : Type 0 where
   pub window_is : run.book.log ≡ window (first_of run.firsts) log
   pub harts : length run.counts ≡ 16
   pub counts_are : (hart : ℕ) → slice_index_or run.counts hart 0 ≡ length (of_hart hart (events log))
+  pub numbers : (hart : ℕ) → length (of_hart hart (events log)) < limit
   pub within : (hart : ℕ) → first_of run.firsts hart ≤ length (of_hart hart (events log))
   pub few : KeepsFew (first_of run.firsts) (events log)
   pub closes : ClosesPairs (first_of run.firsts) (events log)

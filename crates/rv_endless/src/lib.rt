@@ -3,20 +3,25 @@
 //!
 //! [`Endless`] stands for a log that is in no value. [`offer`](Endless::offer) answers for each such
 //! log whether an entry has a fault over it, whether some order is lawful for the log with the entry,
-//! or why it can't be judged ([`Answer`]).
+//! or why it can't be judged ([`Answer`]). [`cut`](Endless::cut) forgets what no active hart can come
+//! before any more, and [`end`](Endless::end) tells that a hart is active no more: the run goes on to
+//! stand for the same log.
 //!
 //! - `run`: the run, and how an entry is judged.
 //! - `answer`: what an offer came to.
+//! - `forget`: what a cut forgets, and the book of what it keeps.
 //! - `window`: an entry as its window has it, and the LR with which an SC of the window is paired.
 //! - `numbers`: faults of the window in the numbers of the log.
 //! - `specs/`: for which logs a run stands, and what an answer tells of them (`Runs`, `Answers`); what
-//!   the steps of a judgement tell (`Steps`); the last LR, SC or failed SC of a hart (`Partners`).
+//!   the steps of a judgement tell (`Steps`); what a cut forgets (`Forgetting`); the last LR, SC or
+//!   failed SC of a hart (`Partners`).
 //!
 //! It stands on `rv_book` for the window, on `rv_settle` for what may be forgotten, and on `rv_past`
-//! for what is known of it. Nothing is forgotten yet, and no program stands on it.
+//! for what is known of it. `rv_cut` finds what may be forgotten. No program stands on it yet.
 #![tactic(auto)]
 
 mod answer;
+mod forget;
 mod numbers;
 mod run;
 mod window;

@@ -1,5 +1,6 @@
 //! A run of any length, judged by a window of its events and by what is known of its past.
-ghost use Rattle.std.specs.Prelude.{ℕ, Bool, ◌≡◌, ◌++◌, ◌∷◌, [], IsFalse, List, MatchOption, None};
+ghost use Rattle.std.specs.Prelude.{ℕ, Bool, ◌≡◌, ◌++◌, ◌∷◌, ◌≢◌, [], Contains, IsFalse, OnErr};
+ghost use Rattle.std.specs.Prelude.{List, MatchOption, None};
 ghost use Rattle.std.specs.Prelude.{Some, ◌<◌, length};
 ghost use Rattle.std.specs.Prelude.{◌^◌, ◌↔◌, IsTrue, slice_index_or};
 ghost use Rattle.rv_event.specs.Faults.{fault_of, fault_within};
@@ -21,11 +22,12 @@ ghost use Rattle.rv_settle.specs.Windows.{window};
 ghost use Rattle.rv_book.specs.Booked.{IsForbiddenOn};
 
 use crate::answer::{Answer, Beyond};
+use crate::forget::{book_of_kept, forget};
 use crate::numbers::full_fault;
 use crate::window::{find_partner, renumber};
 use rv_book::{Book, Offer};
-use rv_cut::Cut;
-use rv_event::{Entry, Event, Fault, MemoryModel, Op, find_fault};
+use rv_cut::{Cut, find_cut};
+use rv_event::{Entry, Event, Fault, MemoryModel, NoMemory, Op, find_fault};
 use rv_past::{Facts, Misfit, Past};
 use std::alloc::Global;
 
@@ -105,6 +107,48 @@ impl Endless {
             return Answer::Stopped;
         }
         self.judge(entry)
+    }
+
+    /// Takes that the hart has ended: it is active no more, so that no more is kept for its sake.
+    pub fn end(&mut self, hart: u8)
+        ensures stands { (log : List Entry) → StandsFor self.old log → StandsFor self.new log }
+        ensures ended { (h : ℕ) → Contains self.new.active.items h
+            ↔ (Contains self.old.active.items h × (h ≢ hart)) }
+        ensures window { self.new.book ≡ self.old.book }
+    {
+        self.active.retain(|active| *active != hart);
+    }
+
+    /// Forgets what no active hart can come before any more, where something is: these events leave the
+    /// window. So a run whose harts synchronise again and again keeps a window of bounded size.
+    ///
+    /// It costs what it takes to find the cut, and to judge anew what is kept.
+    ///
+    /// # Errors
+    /// `NoMemory` where it could not be had; nothing is forgotten.
+    pub fn cut(&mut self) -> Result<(), NoMemory>
+        ensures stands { (log : List Entry) → StandsFor self.old log → StandsFor self.new log }
+        ensures kept { OnErr result ((self.new.book ≡ self.old.book) × (self.new.firsts ≡ self.old.firsts)) }
+        ensures harts { self.new.active ≡ self.old.active }
+    {
+        let cut = find_cut(self.alloc, &self.book, self.active.as_slice())?;
+        let Some(book) = book_of_kept(self.alloc, &self.book, &cut)? else {
+            return Ok(());
+        };
+        let count = self.book.log().len();
+        self.past.reserve(count)?;
+        self.facts.reserve(count)?;
+        forget(
+            self.alloc,
+            &mut self.past,
+            &mut self.facts,
+            self.book.log(),
+            &self.firsts,
+            &cut,
+        );
+        self.firsts = self.firsts.then(&cut);
+        self.book = book;
+        Ok(())
     }
 
     /// Judges an entry offered to a run that goes on.

@@ -2,6 +2,7 @@ pub mod Bars
 pub mod Composed
 pub mod CutStays
 pub mod Cuts
+pub mod CutsCompose
 pub mod Decided
 pub mod Faulted
 pub mod Filtered
