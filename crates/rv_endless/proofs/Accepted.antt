@@ -1,16 +1,11 @@
 -- An entry that fits what was forgotten, and has no fault over the window.
-use Rattle.std.proofs.Common.{if◌then◌else◌, ℕ, ◌≡◌, ◌≢◌, ◌∙◌, ◌<◌, ◌≤◌, ◌+◌, ◌++◌, ◌∷◌, ◌==◌, ◌↔◌}
-use Rattle.std.proofs.Common.{[], All, Bool, Contains, IsTrue}
-use Rattle.std.proofs.Common.{List, None, ap, append-nil, arith, eq-eqb, filter, inl, inr, length}
-use Rattle.std.proofs.Common.{refl, rules, subst, sym}
-use Rattle.std.proofs.lemmas.Bool.{cases_eq, le-ltb, ne_eqb}
-use Rattle.std.proofs.lemmas.Grind.{get_or-set_at}
-use Rattle.std.proofs.lemmas.List.{get_or-set_other, length-append, length-set}
-use Rattle.std.proofs.lemmas.List.Elements.{All-push, Contains-append_left, Contains-push_cases}
-use Rattle.std.proofs.lemmas.List.Elements.{filter-append}
-use Rattle.std.specs.Prelude.{nat_lt, slice_index_or, slice_set}
 use Rattle.rv_book.specs.Booked.{SomeLawful}
 use Rattle.rv_cut.specs.Cuts.{first_of}
+use Rattle.rv_endless.proofs.Before.{window-more}
+use Rattle.rv_endless.proofs.Next.{kept, room, seq-is}
+use Rattle.rv_endless.specs.Runs.{AreForgotten, IsForbidden, IsNext, StandsFor, in_window, limit}
+use Rattle.rv_endless.specs.Steps.{IsPastOf, Joins, counted_with}
+use Rattle.rv_endless.specs.declared.run.Endless.{Endless}
 use Rattle.rv_event.proofs.Common.{map-append}
 use Rattle.rv_event.proofs.Indexed.{IndexedWithin, indexed_within}
 use Rattle.rv_event.proofs.Pushed.{split_push}
@@ -29,11 +24,15 @@ use Rattle.rv_settle.proofs.WindowDecides.{window-decides}
 use Rattle.rv_settle.specs.Cuts.{IsCut}
 use Rattle.rv_settle.specs.Past.{ComesBeforePast}
 use Rattle.rv_settle.specs.Windows.{ClosesPairs, IsBelow, IsKept, KeepsFew, window}
-use Rattle.rv_endless.proofs.Before.{window-more}
-use Rattle.rv_endless.proofs.Next.{kept, room, seq-is}
-use Rattle.rv_endless.specs.Runs.{AreForgotten, IsForbidden, IsNext, StandsFor, in_window, limit}
-use Rattle.rv_endless.specs.Steps.{IsPastOf, Joins, counted_with}
-use Rattle.rv_endless.specs.declared.run.Endless.{Endless}
+use Rattle.std.proofs.Common.{if◌then◌else◌, ℕ, ◌≡◌, ◌≢◌, ◌∙◌, ◌<◌, ◌≤◌, ◌+◌, ◌++◌, ◌∷◌, ◌==◌, ◌↔◌}
+use Rattle.std.proofs.Common.{[], All, Bool, Contains, IsTrue, List, None, ap, append-nil, arith}
+use Rattle.std.proofs.Common.{eq-eqb, filter, inl, inr, length, refl, rules, subst, sym}
+use Rattle.std.proofs.lemmas.Bool.{cases_eq, le-ltb, ne_eqb}
+use Rattle.std.proofs.lemmas.Grind.{get_or-set_at}
+use Rattle.std.proofs.lemmas.List.{get_or-set_other, length-append, length-set}
+use Rattle.std.proofs.lemmas.List.Elements.{All-push, Contains-append_left, Contains-push_cases}
+use Rattle.std.proofs.lemmas.List.Elements.{filter-append}
+use Rattle.std.specs.Prelude.{nat_lt, slice_index_or, slice_set}
 
 -- a well formed log stays so with an entry that has no fault
 within-push : (most : ℕ) (log : List Entry) (x : Entry) → WellFormedWithin most log → fault_within most log x ≡ None →

@@ -1,10 +1,9 @@
 -- An entry comes before what was forgotten, as the versions tell, exactly where it comes before the cut's
 -- past.
-use Rattle.std.proofs.Common.{ℕ, ◌≡◌, ◌∙◌, ◌<◌, ◌++◌, ◌∷◌, ◌↔◌, [], Bool, Contains, IsTrue, List}
-use Rattle.std.proofs.Common.{None, Option, Some, ap}
-use Rattle.std.proofs.Common.{filter, map, refl, subst, sym}
-use Rattle.std.proofs.lemmas.Bool.{le-leb}
-use Rattle.std.specs.Prelude.{nat_le}
+use Rattle.rv_cut.specs.Cuts.{first_of}
+use Rattle.rv_endless.specs.Runs.{AreForgotten, bare, limit}
+use Rattle.rv_endless.specs.Steps.{IsPastOf, Joins}
+use Rattle.rv_endless.specs.declared.run.Endless.{Endless}
 use Rattle.rv_event.proofs.Common.{filter-append, map-append}
 use Rattle.rv_event.proofs.Indexed.{IndexedWithin, indexed_from_WellFormed, indexed_within}
 use Rattle.rv_event.proofs.Names.{Contains-map, Contains-mapped}
@@ -13,18 +12,18 @@ use Rattle.rv_event.specs.Operations.{IsLoad, IsStore}
 use Rattle.rv_event.specs.Relations.{Paired}
 use Rattle.rv_event.specs.declared.event.Entry.{Entry}
 use Rattle.rv_event.specs.declared.event.Event.{Event}
-use Rattle.rv_cut.specs.Cuts.{first_of}
 use Rattle.rv_past.specs.Before.{ComesBefore, loads_below, stores_below, stores_too_late}
 use Rattle.rv_past.specs.Before.{stores_what_was_returned}
 use Rattle.rv_past.specs.Laws.{IsPartner}
 use Rattle.rv_settle.proofs.Formed.{pairs-kept, window-formed}
 use Rattle.rv_settle.proofs.Windows.{into-window, onto-window, paired-back, paired-in}
 use Rattle.rv_settle.specs.Past.{ComesBeforePast}
-use Rattle.rv_settle.specs.Past as settled
 use Rattle.rv_settle.specs.Windows.{IsKept, KeepsPairs, renumbered, window}
-use Rattle.rv_endless.specs.Runs.{AreForgotten, bare, limit}
-use Rattle.rv_endless.specs.Steps.{IsPastOf, Joins}
-use Rattle.rv_endless.specs.declared.run.Endless.{Endless}
+use Rattle.std.proofs.Common.{ℕ, ◌≡◌, ◌∙◌, ◌<◌, ◌++◌, ◌∷◌, ◌↔◌, [], Bool, Contains, IsTrue, List}
+use Rattle.std.proofs.Common.{None, Option, Some, ap, filter, map, refl, subst, sym}
+use Rattle.std.proofs.lemmas.Bool.{le-leb}
+use Rattle.std.specs.Prelude.{nat_le}
+use Rattle.rv_settle.specs.Past as settled
 
 -- the window of a log with one entry more, which is kept, has it more
 pub window-more : (first : ℕ → ℕ) (log : List Entry) (x : Entry) → IsKept first x.event →

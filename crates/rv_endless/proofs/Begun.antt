@@ -1,20 +1,20 @@
 -- A run before any event.
-use Rattle.std.proofs.Common.{ℕ, ◌≡◌, ◌∙◌, [], ◌∷◌, List, ap, arith, false, length, refl, suc}
-use Rattle.std.proofs.Common.{slice_index_or, zero}
-use Rattle.std.proofs.lemmas.Bool.{false≢true}
-use Rattle.std.proofs.lemmas.Grind.{common_steps}
-use Rattle.std.specs.Prelude.{replicate}
-use Rattle.std.proofs.lemmas.List.{length-append}
+use Rattle.rv_cut.specs.Cuts.{first_of}
+use Rattle.rv_endless.specs.Runs.{StandsFor, limit}
+use Rattle.rv_endless.specs.declared.run.Endless.{Endless}
 use Rattle.rv_event.proofs.Names.{Contains-none}
 use Rattle.rv_event.specs.Orders.{Lawful}
 use Rattle.rv_event.specs.WellFormed.{WellFormedWithin}
 use Rattle.rv_event.specs.declared.event.Entry.{Entry}
 use Rattle.rv_event.specs.declared.event.Id.{Id}
-use Rattle.rv_cut.specs.Cuts.{first_of}
 use Rattle.rv_past.specs.Facts.{AreFacts}
 use Rattle.rv_past.specs.Gone.{AreGone}
-use Rattle.rv_endless.specs.Runs.{StandsFor, limit}
-use Rattle.rv_endless.specs.declared.run.Endless.{Endless}
+use Rattle.std.proofs.Common.{ℕ, ◌≡◌, ◌∙◌, [], ◌∷◌, List, ap, arith, false, length, refl, suc}
+use Rattle.std.proofs.Common.{slice_index_or, zero}
+use Rattle.std.proofs.lemmas.Bool.{false≢true}
+use Rattle.std.proofs.lemmas.Grind.{common_steps}
+use Rattle.std.proofs.lemmas.List.{length-append}
+use Rattle.std.specs.Prelude.{replicate}
 
 -- each of some zeros is 0
 pub zero-at : (n hart : ℕ) → ◌≡◌ {A = ℕ} (slice_index_or (replicate n 0) hart 0) 0

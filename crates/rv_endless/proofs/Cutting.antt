@@ -1,20 +1,12 @@
 -- A run whose window was cut stands for the same log.
-use Rattle.std.proofs.Common.{ℕ, ◌≡◌, ◌≢◌, ◌∙◌, ◌<◌, ◌≤◌, ◌+◌, ◌-◌, ◌++◌, ◌∷◌, ◌&&◌, ◌||◌, ◌⊎◌, [], Bool}
-use Rattle.std.proofs.Common.{Contains, IsTrue, List, ap, arith, false, filter, inl, inr, None}
-use Rattle.std.proofs.Common.{length, map, refl, subst, sym, true}
-use Rattle.std.proofs.lemmas.Bool.{and_from, and_parts, cases_lt, le-leb, leb-true, lt-ltb}
-use Rattle.std.proofs.lemmas.Bool.{ltb-true, or_cases}
-use Rattle.std.proofs.lemmas.List.{length-map}
-use Rattle.std.proofs.lemmas.List.Elements.{All-contains, Contains-append_cases}
-use Rattle.std.proofs.lemmas.List.Elements.{Contains-append_left, Contains-append_right}
-use Rattle.std.proofs.lemmas.List.Elements.{filter_passes}
-use Rattle.std.proofs.lemmas.List.Folds.{Any-from_list_any, list_any-from_Any}
-use Rattle.std.specs.List.{list_any}
-use Rattle.std.specs.Prelude.{nat_le, nat_lt, slice_index_or}
 use Rattle.rv_cut.specs.Cuts.{IsCutOf, first_of, is_past}
+use Rattle.rv_endless.proofs.Sources.{same-source, source-before}
+use Rattle.rv_endless.specs.Forgetting.{AreFresh, HaveNumbers, IsBookOf, forgotten_of, restored}
+use Rattle.rv_endless.specs.Runs.{IsForgottenOf, StandsFor, bare, limit}
+use Rattle.rv_endless.specs.declared.run.Endless.{Endless}
 use Rattle.rv_event.proofs.Beginnings.{numbered_within}
 use Rattle.rv_event.proofs.Equal.{event_decides}
-use Rattle.rv_event.proofs.Growing.{Any-contains, Any-from_contains}
+use Rattle.rv_event.proofs.Growing.{All-from_contains, Any-contains, Any-from_contains}
 use Rattle.rv_event.proofs.Indexed.{IndexedWithin, SoundWithin, indexed_within, sound_from_none}
 use Rattle.rv_event.proofs.Merged.{Contains-filter, Contains-unfilter}
 use Rattle.rv_event.proofs.Names.{Contains-here, Contains-map, Contains-mapped}
@@ -23,10 +15,10 @@ use Rattle.rv_event.specs.Faults.{deps_fault, fault_within, source_fault}
 use Rattle.rv_event.specs.Log.{events, of_hart}
 use Rattle.rv_event.specs.Orders.{Lawful}
 use Rattle.rv_event.specs.WellFormed.{WellFormed}
-use Rattle.rv_event.specs.contracts.event.EventPartialEq.TheImpl as event
 use Rattle.rv_event.specs.declared.event.Entry.{Entry}
 use Rattle.rv_event.specs.declared.event.Event.{Event}
 use Rattle.rv_event.specs.declared.event.Id.{Id}
+use Rattle.rv_event.specs.declared.event.Op.TheVariants.{Carrier}
 use Rattle.rv_event.specs.declared.memory_model.MemoryModel.{MemoryModel}
 use Rattle.rv_past.specs.Facts.{AreFacts}
 use Rattle.rv_past.specs.Gone.{AreGone}
@@ -36,11 +28,21 @@ use Rattle.rv_settle.proofs.CutsCompose.{cuts-compose}
 use Rattle.rv_settle.proofs.Formed.{CountsFrom, count-high, is_high, own-window}
 use Rattle.rv_settle.proofs.Nested.{below-both, both-closed, window-twice}
 use Rattle.rv_settle.specs.Cuts.{IsCut}
-use Rattle.rv_settle.specs.Windows.{AreBoth, ClosesPairs, IsBelow, IsKept, both_firsts, renumbered, window}
-use Rattle.rv_endless.proofs.Sources.{same-source, source-before}
-use Rattle.rv_endless.specs.Forgetting.{AreFresh, HaveNumbers, IsBookOf, forgotten_of, restored}
-use Rattle.rv_endless.specs.Runs.{IsForgottenOf, StandsFor, bare, limit}
-use Rattle.rv_endless.specs.declared.run.Endless.{Endless}
+use Rattle.rv_settle.specs.Windows.{AreBoth, ClosesPairs, IsBelow, IsKept, both_firsts, renumbered}
+use Rattle.rv_settle.specs.Windows.{window}
+use Rattle.std.proofs.Common.{All, ℕ, ◌≡◌, ◌≢◌, ◌∙◌, ◌<◌, ◌≤◌, ◌+◌, ◌-◌, ◌++◌, ◌∷◌, ◌&&◌, ◌||◌, ◌⊎◌}
+use Rattle.std.proofs.Common.{[], Bool, Contains, IsTrue, List, ap, arith, false, filter, inl, inr}
+use Rattle.std.proofs.Common.{None, length, map, refl, subst, sym, true}
+use Rattle.std.proofs.lemmas.Bool.{and_from, and_parts, cases_lt, le-leb, leb-true, lt-ltb}
+use Rattle.std.proofs.lemmas.Bool.{ltb-true, or_cases}
+use Rattle.std.proofs.lemmas.List.{length-map}
+use Rattle.std.proofs.lemmas.List.Elements.{All-contains, Contains-append_cases}
+use Rattle.std.proofs.lemmas.List.Elements.{Contains-append_left, Contains-append_right}
+use Rattle.std.proofs.lemmas.List.Elements.{filter_passes}
+use Rattle.std.proofs.lemmas.List.Folds.{Any-from_list_any, list_any-from_Any}
+use Rattle.std.specs.List.{list_any}
+use Rattle.std.specs.Prelude.{nat_le, nat_lt, slice_index_or}
+use Rattle.rv_event.specs.contracts.event.EventPartialEq.TheImpl as event
 
 -- a test that passes makes either pass
 or-right : (a b : Bool) → b ≡ true → (a || b) ≡ true
@@ -110,6 +112,15 @@ module _ (run : Endless) (log : List Entry) (stands : StandsFor run log) (cut : 
             (filter_passes (λ (z : Entry). nat_le (f z.event.id.hart) z.event.id.seq) log) from.1),
         from.2,
       )
+
+  -- no event of the window is a carrier
+  pub plain-window : All (λ m. m.op ≢ Carrier) (events w)
+  plain-window = All-from_contains (λ m. m.op ≢ Carrier) (events w) (λ m c.
+      let y = Contains-map (λ (v : Entry). v.event) w m c in
+      let z = entry-of y.0 y.1 in
+      subst (λ (e : Event). e.op ≢ Carrier) (ap (λ (v : Entry). v.event) z.3 ∙ y.2)
+      (All-contains (λ m'. m'.op ≢ Carrier) (events log) z.0.event stands.plain
+      (Contains-mapped (λ (v : Entry). v.event) log z.0 z.1)))
 
   -- and each that is kept is there
   pub entry-in : (z : Entry) → Contains log z → IsKept f z.event →

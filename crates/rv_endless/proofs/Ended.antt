@@ -1,11 +1,11 @@
 -- Where a hart has ended.
+use Rattle.rv_endless.specs.Runs.{StandsFor}
+use Rattle.rv_endless.specs.declared.run.Endless.{Endless}
+use Rattle.rv_event.proofs.Merged.{Contains-filter, Contains-unfilter}
+use Rattle.rv_event.specs.declared.event.Entry.{Entry}
 use Rattle.std.proofs.Common.{ℕ, ◌≡◌, ◌≢◌, ◌∙◌, ◌==◌, Contains, List, ap, filter, not, sym, true}
 use Rattle.std.proofs.lemmas.Bool.{eq-eqb, false≢true, ne_eqb}
 use Rattle.std.proofs.lemmas.List.Elements.{All-contains, filter_passes}
-use Rattle.rv_event.proofs.Merged.{Contains-filter, Contains-unfilter}
-use Rattle.rv_event.specs.declared.event.Entry.{Entry}
-use Rattle.rv_endless.specs.Runs.{StandsFor}
-use Rattle.rv_endless.specs.declared.run.Endless.{Endless}
 
 -- the harts that are left
 abbrev pub left_of : ℕ → List ℕ → List ℕ

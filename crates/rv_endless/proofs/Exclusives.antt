@@ -1,12 +1,5 @@
 -- The last LR, SC or failed SC of a hart, and the LR with which an SC is paired.
-use Rattle.std.proofs.Common.{Bool, IsFalse, IsTrue, List, None, Option, Some, ap, arith, false}
-use Rattle.std.proofs.Common.{inl, inr, length}
-use Rattle.std.proofs.Common.{refl, subst, sym, true, ℕ, [], ◌++◌, ◌<◌, ◌∙◌, ◌∷◌, ◌≡◌, ◌≤◌, ◌⊎◌}
-use Rattle.std.proofs.lemmas.Bool.{cases_lt, false≢true}
-use Rattle.std.proofs.lemmas.List.Elements.{All-contains, Contains-append_left, Contains-push}
-use Rattle.std.proofs.lemmas.List.Elements.{Contains-push_cases}
-use Rattle.std.proofs.lemmas.Option.{same_Some}
-use Rattle.std.specs.List.{Contains}
+use Rattle.rv_endless.specs.Partners.{IsExclusiveOf, IsLastExclusive}
 use Rattle.rv_event.proofs.Growing.{All-from_contains}
 use Rattle.rv_event.proofs.Indexed.{Indexed}
 use Rattle.rv_event.specs.Log.{Between, Earlier, named, of_hart}
@@ -15,7 +8,14 @@ use Rattle.rv_event.specs.Relations.{Paired}
 use Rattle.rv_event.specs.declared.event.Event.{Event}
 use Rattle.rv_event.specs.declared.event.Op.TheVariants.{Lr, Sc}
 use Rattle.rv_past.specs.Laws.{IsPartner}
-use Rattle.rv_endless.specs.Partners.{IsExclusiveOf, IsLastExclusive}
+use Rattle.std.proofs.Common.{Bool, IsFalse, IsTrue, List, None, Option, Some, ap, arith, false}
+use Rattle.std.proofs.Common.{inl, inr, length, refl, subst, sym, true, ℕ, [], ◌++◌, ◌<◌, ◌∙◌, ◌∷◌}
+use Rattle.std.proofs.Common.{◌≡◌, ◌≤◌, ◌⊎◌}
+use Rattle.std.proofs.lemmas.Bool.{cases_lt, false≢true}
+use Rattle.std.proofs.lemmas.List.Elements.{All-contains, Contains-append_left, Contains-push}
+use Rattle.std.proofs.lemmas.List.Elements.{Contains-push_cases}
+use Rattle.std.proofs.lemmas.Option.{same_Some}
+use Rattle.std.specs.List.{Contains}
 
 module _ (log : List Event) (hart : ℕ) (e : Event) where
   -- an event that is not one of them leaves the last as it is

@@ -1,14 +1,14 @@
 -- The first fault over a log, where one of its faults is told by what was forgotten.
-use Rattle.std.proofs.Common.{ℕ, ◌≡◌, ◌∙◌, ◌<◌, ◌≤◌, ◌+◌, ◌++◌, ◌∷◌, ◌⊎◌, [], Bool, List, None}
-use Rattle.std.proofs.Common.{Option, Some, ap, arith, false, inl, inr}
-use Rattle.std.proofs.Common.{length, option_map, refl, suc, sym, true}
-use Rattle.std.proofs.lemmas.Option.{none-some, same_Some}
 use Rattle.rv_event.specs.Faults.{fault_if, lowest}
 use Rattle.rv_event.specs.Texts.{fault_number}
 use Rattle.rv_event.specs.declared.event.Event.{Event}
 use Rattle.rv_event.specs.declared.fault.Fault.{Fault}
 use Rattle.rv_event.specs.declared.fault.Fault.TheVariants.{VersionTaken}
 use Rattle.rv_settle.proofs.Faulted.{SameFaults, lowest-same}
+use Rattle.std.proofs.Common.{ℕ, ◌≡◌, ◌∙◌, ◌<◌, ◌≤◌, ◌+◌, ◌++◌, ◌∷◌, ◌⊎◌, [], Bool, List, None}
+use Rattle.std.proofs.Common.{Option, Some, ap, arith, false, inl, inr, length, option_map, refl}
+use Rattle.std.proofs.Common.{suc, sym, true}
+use Rattle.std.proofs.lemmas.Option.{none-some, same_Some}
 
 -- the faults that hold have the numbers of their places, from this one on
 abbrev pub AreFrom : ℕ → List (Option Fault) → Type 0

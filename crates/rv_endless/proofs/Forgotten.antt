@@ -1,22 +1,22 @@
 -- What a cut forgets of a window, entry by entry.
-use Rattle.std.proofs.Common.{if◌then◌else◌, ℕ, ◌≡◌, ◌∙◌, ◌<◌, ◌≤◌, ◌+◌, ◌++◌, ◌∷◌, [], Bool}
-use Rattle.std.proofs.Common.{Contains, List, ap, arith, drop, false, filter}
-use Rattle.std.proofs.Common.{inl, inr, length, map, subst, sym, take, true}
-use Rattle.std.proofs.lemmas.List.{append-nil, append_assoc, take-append-drop}
-use Rattle.std.proofs.lemmas.List.Elements.{Contains-append_cases, Contains-append_left}
-use Rattle.std.proofs.lemmas.List.Elements.{Contains-append_right, filter-append}
-use Rattle.std.proofs.lemmas.Bool.{lt-leb}
-use Rattle.std.proofs.lemmas.Grind.{common_steps}
-use Rattle.std.specs.Prelude.{nat_le}
 use Rattle.rv_cut.specs.Cuts.{first_of, is_past}
+use Rattle.rv_endless.proofs.Before.{window-more}
+use Rattle.rv_endless.specs.Forgetting.{AreFresh, forgotten_of, restored}
 use Rattle.rv_event.proofs.Common.{get_or, map-append, take_more}
 use Rattle.rv_event.proofs.Merged.{Contains-unfilter}
 use Rattle.rv_event.proofs.Names.{Contains-map, Contains-mapped}
 use Rattle.rv_event.specs.declared.event.Entry.{Entry}
 use Rattle.rv_past.specs.Facts.{Follows}
 use Rattle.rv_settle.specs.Windows.{renumbered, window}
-use Rattle.rv_endless.proofs.Before.{window-more}
-use Rattle.rv_endless.specs.Forgetting.{AreFresh, forgotten_of, restored}
+use Rattle.std.proofs.Common.{if◌then◌else◌, ℕ, ◌≡◌, ◌∙◌, ◌<◌, ◌≤◌, ◌+◌, ◌++◌, ◌∷◌, [], Bool}
+use Rattle.std.proofs.Common.{Contains, List, ap, arith, drop, false, filter, inl, inr, length, map}
+use Rattle.std.proofs.Common.{subst, sym, take, true}
+use Rattle.std.proofs.lemmas.Bool.{lt-leb}
+use Rattle.std.proofs.lemmas.Grind.{common_steps}
+use Rattle.std.proofs.lemmas.List.{append-nil, append_assoc, take-append-drop}
+use Rattle.std.proofs.lemmas.List.Elements.{Contains-append_cases, Contains-append_left}
+use Rattle.std.proofs.lemmas.List.Elements.{Contains-append_right, filter-append}
+use Rattle.std.specs.Prelude.{nat_le}
 
 -- the entries of the window that are forgotten, with one more
 pub forgotten-more : (firsts cut : List ℕ) (ws : List Entry) (w : Entry) → is_past cut w.event.id ≡ true →

@@ -1,8 +1,13 @@
 -- How the next entry of a hart is answered.
-use Rattle.std.proofs.Common.{ℕ, ◌≡◌, ◌∙◌, ◌++◌, ◌∷◌, [], List, MatchOption, None}
-use Rattle.std.proofs.Common.{Option, Some, ap, arith, option_map, refl, subst, sym}
-use Rattle.std.proofs.lemmas.Bool.{false≢true}
-use Rattle.std.proofs.lemmas.Grind.{common_steps}
+use Rattle.rv_endless.proofs.Accepted.{forbidden-by-past, forbidden-by-window, stands-more}
+use Rattle.rv_endless.proofs.Misfits.{by-window, misfit-answered}
+use Rattle.rv_endless.proofs.Next.{fault-fits, first, full, gone, hart}
+use Rattle.rv_endless.specs.Runs.{HasStopped, IsAnswered, IsNext, StandsFor, in_window, limit}
+use Rattle.rv_endless.specs.Steps.{IsExplained, IsOffered}
+use Rattle.rv_endless.specs.declared.answer.Answer.{Answer}
+use Rattle.rv_endless.specs.declared.answer.Answer.TheVariants.{Accepted, BeforePast, Forbidden}
+use Rattle.rv_endless.specs.declared.answer.Answer.TheVariants.{Malformed, NoMemory, Stopped, Taken}
+use Rattle.rv_endless.specs.declared.run.Endless.{Endless}
 use Rattle.rv_event.proofs.Indexed.{SoundWithin, sound_from_none}
 use Rattle.rv_event.proofs.Names.{Contains-map}
 use Rattle.rv_event.specs.Faults.{deps_fault, fault_of, fault_within, source_fault}
@@ -15,17 +20,11 @@ use Rattle.rv_past.specs.Before.{IsFree}
 use Rattle.rv_past.specs.Facts.{Fits, IsMisfit}
 use Rattle.rv_past.specs.declared.facts.Misfit.{Misfit}
 use Rattle.rv_settle.specs.Past.{ComesBeforePast}
-use Rattle.rv_endless.proofs.Accepted.{forbidden-by-past, forbidden-by-window, stands-more}
-use Rattle.rv_endless.proofs.Misfits.{by-window, misfit-answered}
-use Rattle.rv_endless.proofs.Next.{fault-fits, first, full, gone, hart}
-use Rattle.rv_endless.specs.Runs.{HasStopped, IsAnswered, IsNext, StandsFor, in_window, limit}
-use Rattle.rv_endless.specs.Steps.{IsExplained, IsOffered}
-use Rattle.rv_endless.specs.declared.answer.Answer.{Answer}
+use Rattle.std.proofs.Common.{ℕ, ◌≡◌, ◌∙◌, ◌++◌, ◌∷◌, [], List, MatchOption, None, Option, Some, ap}
+use Rattle.std.proofs.Common.{arith, option_map, refl, subst, sym}
+use Rattle.std.proofs.lemmas.Bool.{false≢true}
+use Rattle.std.proofs.lemmas.Grind.{common_steps}
 use Rattle.rv_endless.specs.declared.answer.Answer.TheVariants as answer
-use Rattle.rv_endless.specs.declared.answer.Answer.TheVariants.{Accepted, BeforePast, Forbidden}
-use Rattle.rv_endless.specs.declared.answer.Answer.TheVariants.{Malformed, NoMemory}
-use Rattle.rv_endless.specs.declared.answer.Answer.TheVariants.{Stopped, Taken}
-use Rattle.rv_endless.specs.declared.run.Endless.{Endless}
 
 module _ (run : Endless) (log : List Entry) (x : Entry) (stands : StandsFor run log) (next : IsNext run x) where
   abbrev n : ℕ

@@ -9,4 +9,5 @@ pub mod Forgotten
 pub mod Judged
 pub mod Misfits
 pub mod Next
+pub mod Refused
 pub mod Sources

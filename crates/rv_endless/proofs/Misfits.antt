@@ -1,22 +1,19 @@
 -- The first fault of an entry that doesn't fit what was forgotten.
-use Rattle.rv_endless.specs.Runs.{bare}
-use Rattle.std.proofs.Common.{if◌then◌else◌, ℕ, ◌≡◌, ◌≢◌, ◌∙◌, ◌<◌, ◌≤◌, ◌∷◌, ◌==◌, ◌&&◌, ◌⊎◌, []}
-use Rattle.std.proofs.Common.{Bool, Contains, List}
-use Rattle.std.proofs.Common.{None, Option, Some, ap, arith, eq-eqb, false, inl, inr, length, not}
-use Rattle.std.proofs.Common.{option_map, refl, subst, sym, true}
-use Rattle.std.proofs.lemmas.Bool.{lt-ltb, ne_eqb}
-use Rattle.std.proofs.lemmas.List.Folds.{list_any-from_Any}
-use Rattle.std.proofs.lemmas.Option.{none-some, same_Some}
-use Rattle.std.specs.List.{list_any}
-use Rattle.std.specs.Prelude.{nat_le, nat_lt}
+use Rattle.rv_endless.proofs.Faulty.{AreFrom, first-told, tested, written}
+use Rattle.rv_endless.proofs.Next.{below, depends-well, first, full, gone, gone-entry, hart, kept}
+use Rattle.rv_endless.proofs.Next.{named-gone, old-source, room, seq-is, untaken}
+use Rattle.rv_endless.specs.Runs.{bare, HasNumber, HasStopped, IsAnswered, IsNext, StandsFor}
+use Rattle.rv_endless.specs.Runs.{in_window, limit, misfit_answer, misfit_number}
+use Rattle.rv_endless.specs.Steps.{IsExplained, IsToldInFull}
+use Rattle.rv_endless.specs.declared.answer.Answer.{Answer}
+use Rattle.rv_endless.specs.declared.run.Endless.{Endless}
 use Rattle.rv_event.proofs.Growing.{Any-from_contains}
 use Rattle.rv_event.proofs.Indexed.{IndexedWithin, indexed_within}
 use Rattle.rv_event.proofs.Names.{Contains-mapped, writer-is}
 use Rattle.rv_event.specs.Faults.{dependency_fault, deps_fault, expected, fault_if, fault_of}
-use Rattle.rv_event.specs.Faults.{fault_within, full_fault, hart_fault}
-use Rattle.rv_event.specs.Faults.{is_bad_dependency, is_reserved, is_sc, lowest, reservation_fault}
-use Rattle.rv_event.specs.Faults.{sequence_fault, source_fault}
-use Rattle.rv_event.specs.Faults.{taken_fault, zero_fault}
+use Rattle.rv_event.specs.Faults.{fault_within, full_fault, hart_fault, is_bad_dependency}
+use Rattle.rv_event.specs.Faults.{is_reserved, is_sc, lowest, reservation_fault, sequence_fault}
+use Rattle.rv_event.specs.Faults.{source_fault, taken_fault, zero_fault}
 use Rattle.rv_event.specs.Log.{events, writer}
 use Rattle.rv_event.specs.Operations.{IsStore, is_store}
 use Rattle.rv_event.specs.Texts.{fault_number}
@@ -24,23 +21,23 @@ use Rattle.rv_event.specs.declared.event.Entry.{Entry}
 use Rattle.rv_event.specs.declared.event.Event.{Event}
 use Rattle.rv_event.specs.declared.fault.Fault.{Fault}
 use Rattle.rv_event.specs.declared.fault.Fault.TheVariants.{Dependency, Full, Hart, NoReservation}
-use Rattle.rv_event.specs.declared.fault.Fault.TheVariants.{OtherSource, Sequence}
-use Rattle.rv_event.specs.declared.fault.Fault.TheVariants.{TooManyDeps, VersionTaken, VersionZero}
+use Rattle.rv_event.specs.declared.fault.Fault.TheVariants.{OtherSource, Sequence, TooManyDeps}
+use Rattle.rv_event.specs.declared.fault.Fault.TheVariants.{VersionTaken, VersionZero}
 use Rattle.rv_past.specs.Facts.{DependsBadly, DependsOnValues, HasSource, IsMisfit, IsUnwritten}
 use Rattle.rv_past.specs.Facts.{IsWrittenBy}
 use Rattle.rv_past.specs.declared.facts.Misfit.{Misfit}
-use Rattle.rv_past.specs.declared.facts.Misfit.TheVariants as misfit
-use Rattle.rv_settle.proofs.Faulted.{dependency, full-none, reservation, sequence, source, taken, told}
+use Rattle.rv_settle.proofs.Faulted.{dependency, full-none, reservation, sequence, source, taken}
+use Rattle.rv_settle.proofs.Faulted.{told}
 use Rattle.rv_settle.specs.Windows.{renumbered, window}
-use Rattle.rv_endless.proofs.Faulty.{AreFrom, first-told, tested, written}
-use Rattle.rv_endless.proofs.Next.{below, depends-well, first, full, gone, gone-entry, hart, kept}
-use Rattle.rv_endless.proofs.Next.{named-gone}
-use Rattle.rv_endless.proofs.Next.{old-source, room, seq-is, untaken}
-use Rattle.rv_endless.specs.Runs.{HasNumber, HasStopped, IsAnswered, IsNext, StandsFor, in_window, limit}
-use Rattle.rv_endless.specs.Runs.{misfit_answer, misfit_number}
-use Rattle.rv_endless.specs.Steps.{IsExplained, IsToldInFull}
-use Rattle.rv_endless.specs.declared.answer.Answer.{Answer}
-use Rattle.rv_endless.specs.declared.run.Endless.{Endless}
+use Rattle.std.proofs.Common.{if◌then◌else◌, ℕ, ◌≡◌, ◌≢◌, ◌∙◌, ◌<◌, ◌≤◌, ◌∷◌, ◌==◌, ◌&&◌, ◌⊎◌, []}
+use Rattle.std.proofs.Common.{Bool, Contains, List, None, Option, Some, ap, arith, eq-eqb, false}
+use Rattle.std.proofs.Common.{inl, inr, length, not, option_map, refl, subst, sym, true}
+use Rattle.std.proofs.lemmas.Bool.{lt-ltb, ne_eqb}
+use Rattle.std.proofs.lemmas.List.Folds.{list_any-from_Any}
+use Rattle.std.proofs.lemmas.Option.{none-some, same_Some}
+use Rattle.std.specs.List.{list_any}
+use Rattle.std.specs.Prelude.{nat_le, nat_lt}
+use Rattle.rv_past.specs.declared.facts.Misfit.TheVariants as misfit
 
 -- each fault of the list that holds has the property
 abbrev AllHave : (Fault → Type 0) → List (Option Fault) → Type 0

@@ -1,13 +1,11 @@
 -- What is known of the next entry of a hart, over a log for which a run stands.
-use Rattle.rv_event.specs.Faults.{is_bad_dependency}
-use Rattle.std.proofs.Common.{[], refl}
-use Rattle.std.proofs.Common.{ℕ, ◌≡◌, ◌∙◌, ◌<◌, ◌+◌, Contains}
-use Rattle.std.proofs.Common.{List, Some, ap, arith, length, option_map, subst, sym}
 use Rattle.rv_cut.specs.Cuts.{first_of}
+use Rattle.rv_endless.specs.Runs.{IsNext, StandsFor, bare, in_window, limit}
+use Rattle.rv_endless.specs.declared.run.Endless.{Endless}
 use Rattle.rv_event.proofs.Indexed.{IndexedWithin, indexed_within}
 use Rattle.rv_event.proofs.Names.{Contains-map, named-is}
 use Rattle.rv_event.specs.Contexts.{is_bad_on}
-use Rattle.rv_event.specs.Faults.{fault_of, fault_within}
+use Rattle.rv_event.specs.Faults.{is_bad_dependency, fault_of, fault_within}
 use Rattle.rv_event.specs.Log.{events, named, of_hart}
 use Rattle.rv_event.specs.Operations.{IsStore}
 use Rattle.rv_event.specs.declared.event.Dep.{Dep}
@@ -19,8 +17,8 @@ use Rattle.rv_past.specs.Facts.{DependsOnValues, Fits, HasSource, IsUnwritten, n
 use Rattle.rv_settle.proofs.Faulted.{fault-same}
 use Rattle.rv_settle.specs.Fitting.{DependsWell, FitsPast, HasOldSource, IsUntaken, in_full}
 use Rattle.rv_settle.specs.Windows.{IsKept}
-use Rattle.rv_endless.specs.Runs.{IsNext, StandsFor, bare, in_window, limit}
-use Rattle.rv_endless.specs.declared.run.Endless.{Endless}
+use Rattle.std.proofs.Common.{[], refl, ℕ, ◌≡◌, ◌∙◌, ◌<◌, ◌+◌, Contains, List, Some, ap, arith}
+use Rattle.std.proofs.Common.{length, option_map, subst, sym}
 
 module _ (run : Endless) (log : List Entry) (x : Entry) (stands : StandsFor run log) (next : IsNext run x) where
   abbrev pub first : ℕ → ℕ

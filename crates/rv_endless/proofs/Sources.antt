@@ -1,13 +1,8 @@
 -- All entries of a hart in a well formed log came from one source.
-use Rattle.std.proofs.Common.{ℕ, ◌≡◌, ◌≢◌, ◌∙◌, ◌<◌, ◌+◌, ◌++◌, ◌∷◌, ◌==◌, ◌&&◌, [], Bool, Contains}
-use Rattle.std.proofs.Common.{List, None, Option, Some, ap, arith, drop, eq-eqb, inl, inr, length}
-use Rattle.std.proofs.Common.{not, refl, sym, take, true}
-use Rattle.std.proofs.lemmas.Bool.{cases_eq, cases_lt, ne_eqb}
-use Rattle.std.proofs.lemmas.List.{get_or-take, length-take}
-use Rattle.std.proofs.lemmas.List.Folds.{list_any-from_Any}
-use Rattle.std.proofs.lemmas.Option.{none-some}
-use Rattle.rv_event.proofs.Common.{get_or}
 use Rattle.rv_book.proofs.Common.{get_or_default}
+use Rattle.rv_endless.proofs.Faulty.{parts}
+use Rattle.rv_endless.proofs.Forgotten.{split-at}
+use Rattle.rv_event.proofs.Common.{get_or}
 use Rattle.rv_event.proofs.Growing.{Any-from_contains}
 use Rattle.rv_event.specs.Faults.{deps_fault, fault_if, fault_within, first_faults_within, lowest}
 use Rattle.rv_event.specs.Faults.{source_fault}
@@ -16,8 +11,13 @@ use Rattle.rv_event.specs.WellFormed.{WellFormedWithin}
 use Rattle.rv_event.specs.declared.event.Entry.{Entry}
 use Rattle.rv_event.specs.declared.fault.Fault.{Fault}
 use Rattle.rv_event.specs.declared.fault.Fault.TheVariants.{OtherSource}
-use Rattle.rv_endless.proofs.Faulty.{parts}
-use Rattle.rv_endless.proofs.Forgotten.{split-at}
+use Rattle.std.proofs.Common.{ℕ, ◌≡◌, ◌≢◌, ◌∙◌, ◌<◌, ◌+◌, ◌++◌, ◌∷◌, ◌==◌, ◌&&◌, [], Bool, Contains}
+use Rattle.std.proofs.Common.{List, None, Option, Some, ap, arith, drop, eq-eqb, inl, inr, length}
+use Rattle.std.proofs.Common.{not, refl, sym, take, true}
+use Rattle.std.proofs.lemmas.Bool.{cases_eq, cases_lt, ne_eqb}
+use Rattle.std.proofs.lemmas.List.{get_or-take, length-take}
+use Rattle.std.proofs.lemmas.List.Folds.{list_any-from_Any}
+use Rattle.std.proofs.lemmas.Option.{none-some}
 
 -- where no fault holds, none of the last ones does
 last-none : (xs ys : List (Option Fault)) → lowest (xs ++ ys) ≡ None → lowest ys ≡ None

@@ -1,13 +1,17 @@
 //! What a cut forgets: its events go into what is known of the past, and the others into a new
 //! window.
-ghost use Rattle.std.specs.Prelude.{◌≡◌, ◌<◌, ◌+◌, ◌++◌, IfOk, IfSome, List, length};
+ghost use Rattle.std.specs.Prelude.{◌≡◌, ◌≢◌, ◌<◌, ◌+◌, ◌++◌, All, IfOk, IfSome, IsFalse, IsSome};
+ghost use Rattle.std.specs.Prelude.{IsTrue, List, length};
+ghost use Rattle.rv_book.specs.Booked.{IsTaken};
+ghost use Rattle.rv_event.specs.declared.event.Op.TheVariants.{Carrier};
 ghost use Rattle.rv_event.specs.Log.{events};
 ghost use Rattle.rv_event.specs.declared.event.Entry.{Entry};
 ghost use Rattle.rv_cut.specs.Cuts.{first_of};
 ghost use Rattle.rv_past.specs.Facts.{AreFacts, HasRoom};
 ghost use Rattle.rv_past.specs.Gone.{AreGone, HasPlaces};
-ghost use Rattle.rv_settle.specs.Windows.{window};
-ghost use Rattle.rv_endless.specs.Forgetting.{AreFresh, HaveNumbers, IsBookOf, forgotten_of, restored};
+ghost use Rattle.rv_settle.specs.Windows.{ClosesPairs, window};
+ghost use Rattle.rv_endless.specs.Forgetting.{AreFresh, HaveNumbers, IsBookOf, IsRefusedBy};
+ghost use Rattle.rv_endless.specs.Forgetting.{forgotten_of, restored};
 ghost use Rattle.rv_endless.specs.Runs.{limit};
 
 use crate::window::renumber;
@@ -15,29 +19,46 @@ use rv_book::{Book, Offer};
 use rv_cut::Cut;
 use rv_event::{Deps, Entry, Event, Id, NoMemory};
 use rv_past::{Facts, Past};
+use rv_settle::windows_are_lawful;
 use std::alloc::Global;
 
-/// A new book of what the cut keeps, as its window has it. None where the book refuses an entry.
+/// A new book of what the cut keeps, as its window has it. None where the book refuses an entry, which
+/// it never does of a log without carriers, where what is forgotten leaves no hart with a reservation.
 ///
 /// # Errors
 /// `NoMemory` where it could not be had.
 pub(crate) fn book_of_kept(alloc: Global, book: &Book, cut: &Cut) -> Result<Option<Book>, NoMemory>
-    ensures { IfOk result (λ new. IfSome new (λ kept. IsBookOf kept book.now.model
+    ensures book { IfOk result (λ new. IfSome new (λ kept. IsBookOf kept book.now.model
         (window (first_of cut.now) book.now.log))) }
+    ensures some { All (λ m. m.op ≢ Carrier) (events book.now.log) →
+        ClosesPairs (first_of cut.now) (events book.now.log) → IfOk result IsSome }
 {
+    // For the proof alone, which has from this call that the window has a lawful order.
+    windows_are_lawful();
     let mut kept = Book::new(alloc, book.model());
     'entries: for entry in book.log() {
         if cut.is_past(entry.event.id) {
             continue;
         }
         let moved = renumber(alloc, entry, cut.first(entry.event.id.hart))?;
-        match kept.offer(&moved) {
-            Offer::Accepted => {}
-            Offer::NoMemory => return Err(NoMemory),
-            Offer::Malformed(_) | Offer::Forbidden(_) | Offer::Stopped => return Ok(None),
+        if !take_in(&mut kept, &moved)? {
+            return Ok(None);
         }
     }
     Ok(Some(kept))
+}
+
+/// Whether the book took the entry.
+fn take_in(book: &mut Book, entry: &Entry) -> Result<bool, NoMemory>
+    ensures taken { IfOk result (λ is. IsTrue is → IsTaken book.old book.new entry.now) }
+    ensures refused { IfOk result (λ is. IsFalse is → IsFalse book.old.stopped →
+        IsRefusedBy book.old.model book.old.log entry.now) }
+{
+    match book.offer(entry) {
+        Offer::Accepted => Ok(true),
+        Offer::NoMemory => Err(NoMemory),
+        Offer::Malformed(_) | Offer::Forbidden(_) | Offer::Stopped => Ok(false),
+    }
 }
 
 /// Takes what the cut forgets of the window into what is known of the past.

@@ -1,5 +1,5 @@
 //! A run of any length, judged by a window of its events and by what is known of its past.
-ghost use Rattle.std.specs.Prelude.{ℕ, Bool, ◌≡◌, ◌++◌, ◌∷◌, ◌≢◌, [], Contains, IsFalse, OnErr};
+ghost use Rattle.std.specs.Prelude.{ℕ, Bool, ◌≡◌, ◌++◌, ◌∷◌, ◌≢◌, [], Contains, IsFalse, OnErr, OnOk};
 ghost use Rattle.std.specs.Prelude.{List, MatchOption, None};
 ghost use Rattle.std.specs.Prelude.{Some, ◌<◌, length};
 ghost use Rattle.std.specs.Prelude.{◌^◌, ◌↔◌, IsTrue, slice_index_or};
@@ -12,6 +12,7 @@ ghost use Rattle.rv_endless.specs.Runs.{HasStopped, IsAnswered, IsBeyond, IsForb
 ghost use Rattle.rv_endless.specs.Runs.{IsTakenBefore, IsWithin};
 ghost use Rattle.rv_endless.specs.Runs.{StandsFor, limit, misfit_answer, misfit_number, in_window};
 ghost use Rattle.rv_endless.specs.Runs.{AreForgotten};
+ghost use Rattle.rv_endless.specs.Forgetting.{IsCutBy};
 ghost use Rattle.rv_endless.specs.Steps.{IsExplained, IsOffered, IsPastOf, Joins};
 ghost use Rattle.rv_cut.specs.Cuts.{first_of};
 ghost use Rattle.rv_event.specs.Log.{events};
@@ -128,6 +129,7 @@ impl Endless {
     /// `NoMemory` where it could not be had; nothing is forgotten.
     pub fn cut(&mut self) -> Result<(), NoMemory>
         ensures stands { (log : List Entry) → StandsFor self.old log → StandsFor self.new log }
+        ensures done { (log : List Entry) → StandsFor self.old log → OnOk result (IsCutBy self.old self.new) }
         ensures kept { OnErr result ((self.new.book ≡ self.old.book) × (self.new.firsts ≡ self.old.firsts)) }
         ensures harts { self.new.active ≡ self.old.active }
     {

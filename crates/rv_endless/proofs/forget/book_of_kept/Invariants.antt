@@ -1,7 +1,7 @@
-use Rattle.std.proofs.Common.{take}
 use Rattle.rv_cut.specs.Cuts.{first_of}
-use Rattle.rv_settle.specs.Windows.{window}
 use Rattle.rv_endless.specs.Forgetting.{IsBookOf}
+use Rattle.rv_settle.specs.Windows.{window}
+use Rattle.std.proofs.Common.{take}
 use Rattle.rv_endless.proofs.forget.book_of_kept.Given as goal
 
 abbrev pub invariant-entries : goal.invariant-entries

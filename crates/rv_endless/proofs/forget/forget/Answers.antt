@@ -1,5 +1,6 @@
-use Rattle.std.proofs.Common.{ℕ, ◌∙◌, ◌+◌, ◌++◌, ◌∷◌, [], Contains, List, arith, subst, sym, take}
-use Rattle.std.proofs.lemmas.List.{take_all}
+use Rattle.rv_endless.proofs.Forgotten.{follows-known, known-more, known-same, one-of}
+use Rattle.rv_endless.proofs.forget.forget.Goals.{else-is_past, then-is_past}
+use Rattle.rv_endless.specs.Forgetting.{forgotten_of, restored}
 use Rattle.rv_event.proofs.Common.{map-append}
 use Rattle.rv_event.specs.Log.{events}
 use Rattle.rv_event.specs.declared.event.Entry.{Entry}
@@ -8,10 +9,9 @@ use Rattle.rv_past.specs.Facts.{AreFacts, Follows, HasRoom}
 use Rattle.rv_past.specs.Gone.{AreGone, HasPlaces}
 use Rattle.rv_past.specs.declared.facts.Facts.{Facts}
 use Rattle.rv_past.specs.declared.past.Past.{Past}
-use Rattle.rv_endless.proofs.Forgotten.{follows-known, known-more, known-same, one-of}
-use Rattle.rv_endless.specs.Forgetting.{forgotten_of, restored}
+use Rattle.std.proofs.Common.{ℕ, ◌∙◌, ◌+◌, ◌++◌, ◌∷◌, [], Contains, List, arith, subst, sym, take}
+use Rattle.std.proofs.lemmas.List.{take_all}
 use Rattle.rv_endless.proofs.forget.forget.Goals as goal
-use Rattle.rv_endless.proofs.forget.forget.Goals.{else-is_past, then-is_past}
 
 pub add_reserved-requires : goal.add_reserved-requires
 add_reserved-requires c = let low = c.entries-test.true in c.entries.invariant.places 1 (omega (arith, low))

@@ -1,9 +1,9 @@
-use Rattle.std.proofs.Common.{ℕ, ◌+◌, ◌++◌, ◌≤◌, List, length, take}
+use Rattle.rv_endless.specs.Forgetting.{AreFresh, HaveNumbers, forgotten_of}
 use Rattle.rv_event.specs.Log.{events}
 use Rattle.rv_event.specs.declared.event.Entry.{Entry}
 use Rattle.rv_past.specs.Facts.{AreFacts, HasRoom}
 use Rattle.rv_past.specs.Gone.{AreGone, HasPlaces}
-use Rattle.rv_endless.specs.Forgetting.{AreFresh, HaveNumbers, forgotten_of}
+use Rattle.std.proofs.Common.{ℕ, ◌+◌, ◌++◌, ◌≤◌, List, length, take}
 use Rattle.rv_endless.proofs.forget.forget.Given as goal
 
 -- the entries so far that the cut forgets are known

@@ -1,11 +1,11 @@
-use Rattle.std.proofs.Common.{ℕ, ◌≡◌, ◌∙◌, ◌<◌, List, Option, Some, ap, arith, subst, sym}
-use Rattle.rv_event.specs.Texts.{fault_number}
-use Rattle.rv_event.specs.declared.fault.Fault.{Fault}
-use Rattle.rv_past.specs.declared.facts.Misfit.{Misfit}
 use Rattle.rv_endless.specs.Runs.{misfit_number}
 use Rattle.rv_endless.specs.Steps.{IsExplained, IsToldInFull}
 use Rattle.rv_endless.specs.declared.answer.Answer.{Answer}
 use Rattle.rv_endless.specs.declared.answer.Answer.TheVariants.{Malformed}
+use Rattle.rv_event.specs.Texts.{fault_number}
+use Rattle.rv_event.specs.declared.fault.Fault.{Fault}
+use Rattle.rv_past.specs.declared.facts.Misfit.{Misfit}
+use Rattle.std.proofs.Common.{ℕ, ◌≡◌, ◌∙◌, ◌<◌, List, Option, Some, ap, arith, subst, sym}
 use Rattle.rv_endless.proofs.run.explain.Goals as goal
 
 -- the fault over the window comes first

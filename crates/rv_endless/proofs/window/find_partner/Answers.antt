@@ -1,11 +1,11 @@
 -- The LR is the last of its hart that opens or closes a reservation.
-use Rattle.std.proofs.Common.{Bor, Option, rules, subst, sym, [], ◌++◌, ◌∷◌, ◌≡◌}
-use Rattle.std.specs.Option.{option_copied}
+use Rattle.rv_endless.proofs.Exclusives.{partner-never, partner-none, partner-some}
 use Rattle.rv_event.specs.Log.{events}
 use Rattle.rv_event.specs.declared.event.Event.{Event}
 use Rattle.rv_event.specs.declared.event.Op.TheVariants.{Lr, Sc}
 use Rattle.rv_past.specs.Laws.{IsPartner}
-use Rattle.rv_endless.proofs.Exclusives.{partner-never, partner-none, partner-some}
+use Rattle.std.proofs.Common.{Bor, Option, rules, subst, sym, [], ◌++◌, ◌∷◌, ◌≡◌}
+use Rattle.std.specs.Option.{option_copied}
 use Rattle.rv_endless.proofs.window.find_partner.Goals as goal
 
 pub returns-in_err-last : goal.returns-in_err-last

@@ -1,12 +1,12 @@
 -- The last of the entries so far, and of one more.
-use Rattle.std.proofs.Common.{List, subst, sym}
-use Rattle.std.proofs.lemmas.List.{take_all}
-use Rattle.std.specs.Option.{option_copied}
+use Rattle.rv_endless.specs.Partners.{IsLastExclusive}
 use Rattle.rv_event.proofs.Scans.{events-more}
 use Rattle.rv_event.specs.Log.{events}
 use Rattle.rv_event.specs.declared.event.Entry.{Entry}
 use Rattle.rv_event.specs.declared.event.Event.{Event}
-use Rattle.rv_endless.specs.Partners.{IsLastExclusive}
+use Rattle.std.proofs.Common.{List, subst, sym}
+use Rattle.std.proofs.lemmas.List.{take_all}
+use Rattle.std.specs.Option.{option_copied}
 use Rattle.rv_endless.proofs.window.last_exclusive.Goals as goal
 
 pub loop-entry-preserved : goal.loop-entry-preserved

@@ -1,7 +1,7 @@
+use Rattle.rv_endless.specs.Partners.{IsLastExclusive}
+use Rattle.rv_event.specs.Log.{events}
 use Rattle.std.proofs.Common.{take}
 use Rattle.std.specs.Option.{option_copied}
-use Rattle.rv_event.specs.Log.{events}
-use Rattle.rv_endless.specs.Partners.{IsLastExclusive}
 use Rattle.rv_endless.proofs.window.last_exclusive.Given as goal
 
 abbrev pub invariant-loop-entry : goal.invariant-loop-entry

@@ -1,10 +1,10 @@
 -- The one with the higher number is the last.
+use Rattle.rv_endless.proofs.Exclusives.{last-new}
+use Rattle.rv_endless.specs.Partners.{IsLastExclusive}
+use Rattle.rv_event.specs.declared.event.Event.{Event}
 use Rattle.std.proofs.Common.{Bor, None, Option, Some, subst, sym, ◌≤◌}
 use Rattle.std.proofs.lemmas.Option.{none-some, same_Some}
 use Rattle.std.specs.Option.{option_copied}
-use Rattle.rv_event.specs.declared.event.Event.{Event}
-use Rattle.rv_endless.proofs.Exclusives.{last-new}
-use Rattle.rv_endless.specs.Partners.{IsLastExclusive}
 use Rattle.rv_endless.proofs.window.later_exclusive.Goals as goal
 
 pub returns-in_default : goal.returns-in_default

@@ -1,14 +1,16 @@
-use Rattle.std.proofs.Common.{ℕ, ◌++◌, IfSome, List, Option, refl, subst, sym}
 use Rattle.rv_book.specs.Booked.{Booked}
 use Rattle.rv_cut.specs.Cuts.{IsCutOf, first_of}
+use Rattle.rv_endless.proofs.Cutting.{cut-stands, fresh, numbers, plain-window, stands-with}
+use Rattle.rv_endless.specs.Forgetting.{AreFresh, HaveNumbers, IsBookOf, forgotten_of}
 use Rattle.rv_event.specs.Log.{events}
 use Rattle.rv_event.specs.WellFormed.{WellFormed}
 use Rattle.rv_event.specs.declared.event.Entry.{Entry}
 use Rattle.rv_past.specs.Facts.{AreFacts}
 use Rattle.rv_past.specs.Gone.{AreGone}
 use Rattle.rv_settle.specs.Windows.{window}
-use Rattle.rv_endless.proofs.Cutting.{cut-stands, fresh, numbers, stands-with}
-use Rattle.rv_endless.specs.Forgetting.{AreFresh, HaveNumbers, IsBookOf, forgotten_of}
+use Rattle.std.proofs.Common.{◌∙◌, ap, ℕ, ◌++◌, IfSome, List, Option, refl, subst, sym}
+use Rattle.std.proofs.lemmas.Bool.{false≢true}
+use Rattle.std.specs.Option.{is_some}
 use Rattle.rv_endless.proofs.run.Endless.cut.Goals as goal
 
 pub returns-in_err-reserve-2-clause-stands : goal.returns-in_err-reserve-2-clause-stands
@@ -24,7 +26,7 @@ returns-clause-stands c = λ log stands.
     let book-is : IsBookOf c.in-Some.book c.args.self.now.book.model
     (window (first_of c.in_ok-cut.cut) c.args.self.now.book.log) =
     subst (λ (o : Option Booked). IfSome o (λ kept. IsBookOf kept c.args.self.now.book.model
-    (window (first_of c.in_ok-cut.cut) c.args.self.now.book.log))) c.in-Some.is c.in_ok-book.ensures in
+    (window (first_of c.in_ok-cut.cut) c.args.self.now.book.log))) c.in-Some.is c.in_ok-book.ensures.book in
     let formed : WellFormed c.args.self.now.book.log = c.log.ensures.well_formed in
     let here = c.log.ensures.value in
     let known-numbers = subst (λ (xs : List Entry). HaveNumbers c.args.self.now.firsts xs) (sym here)
@@ -41,3 +43,10 @@ returns-clause-stands c = λ log stands.
     c.forget.new.facts) here
     (c.forget.ensures.facts stands.gone.0 known-numbers known-fresh
     (c.in_ok-reserve-2.ensures.same stands.gone.0 stands.gone.1.facts)))
+
+pub returns-in_default-clause-done : goal.returns-in_default-clause-done
+returns-in_default-clause-done c = λ log stands.
+    let is-cut = subst (λ (xs : List ℕ). IsCutOf c.args.self.now.book.model (events c.args.self.now.book.log) xs
+    c.in_ok-cut.cut) c.as_slice.ensures.value c.in_ok-cut.ensures in
+    absurd (false≢true (ap is_some (sym c.in_default.is)
+    ∙ c.in_ok-book.ensures.some (plain-window c.args.self.now log stands c.in_ok-cut.cut is-cut) is-cut.closes))

@@ -1,6 +1,6 @@
+use Rattle.rv_endless.proofs.Ended.{left-from, left-to, left_of, stands-fewer}
 use Rattle.std.proofs.Common.{◌≡◌, Contains, List, rules, subst, sym, ℕ}
 use Rattle.std.proofs.lemmas.Fn.{filter_same}
-use Rattle.rv_endless.proofs.Ended.{left-from, left-to, left_of, stands-fewer}
 use Rattle.rv_endless.proofs.run.Endless.end.Goals as goal
 
 pub returns-clause-stands : goal.returns-clause-stands

@@ -1,6 +1,8 @@
-use Rattle.std.proofs.Common.{◌≡◌, ◌∙◌, ◌≤◌, ◌++◌, ◌∷◌, [], List, Option, ap, length, subst, sym}
-use Rattle.std.specs.Option.{option_copied}
 use Rattle.rv_cut.specs.Cuts.{first_of}
+use Rattle.rv_endless.proofs.Before.{before-same, window-more}
+use Rattle.rv_endless.specs.Runs.{in_window}
+use Rattle.rv_endless.specs.Steps.{Joins}
+use Rattle.rv_endless.specs.declared.run.Endless.{Endless}
 use Rattle.rv_event.proofs.Common.{map-append}
 use Rattle.rv_event.proofs.Indexed.{Indexed, indexed_from_WellFormed}
 use Rattle.rv_event.specs.Log.{events, of_hart}
@@ -8,10 +10,8 @@ use Rattle.rv_event.specs.declared.event.Entry.{Entry}
 use Rattle.rv_event.specs.declared.event.Event.{Event}
 use Rattle.rv_past.specs.Laws.{IsPartner}
 use Rattle.rv_settle.specs.Windows.{renumbered, window}
-use Rattle.rv_endless.proofs.Before.{before-same, window-more}
-use Rattle.rv_endless.specs.Runs.{in_window}
-use Rattle.rv_endless.specs.Steps.{Joins}
-use Rattle.rv_endless.specs.declared.run.Endless.{Endless}
+use Rattle.std.proofs.Common.{◌≡◌, ◌∙◌, ◌≤◌, ◌++◌, ◌∷◌, [], List, Option, ap, length, subst, sym}
+use Rattle.std.specs.Option.{option_copied}
 use Rattle.rv_endless.proofs.run.Endless.is_before.Goals as goal
 
 -- the LR found in the window with the entry is the one in the window of the log with it

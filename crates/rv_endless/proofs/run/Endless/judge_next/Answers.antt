@@ -1,9 +1,11 @@
-use Rattle.std.proofs.Common.{ℕ, [], ◌++◌, ◌∷◌, ◌≡◌, ◌∙◌, List, MatchOption, None, Option, Some, ap, arith}
-use Rattle.std.proofs.Common.{false, length, refl, subst, sym}
-use Rattle.std.proofs.lemmas.Bool.{false≢true}
-use Rattle.std.proofs.lemmas.Option.{MatchOption-at_none}
-use Rattle.std.specs.Option.{is_some}
 use Rattle.rv_cut.specs.Cuts.{first_of}
+use Rattle.rv_endless.proofs.Accepted.{is-past, joins}
+use Rattle.rv_endless.proofs.Judged.{explained, is-free, offered}
+use Rattle.rv_endless.proofs.run.Endless.judge_next.Goals.{then-is_some-via-then-is_some}
+use Rattle.rv_endless.proofs.run.Endless.judge_next.Goals.{then-is_some-via-else-is_some+then-is_before}
+use Rattle.rv_endless.specs.Runs.{StandsFor, in_window, limit}
+use Rattle.rv_endless.specs.Steps.{IsExplained, IsOffered}
+use Rattle.rv_endless.specs.declared.run.Endless.{Endless}
 use Rattle.rv_event.proofs.Bounded.{length-WellFormed}
 use Rattle.rv_event.specs.Faults.{fault_of, fault_within}
 use Rattle.rv_event.specs.Log.{events}
@@ -12,14 +14,12 @@ use Rattle.rv_past.specs.Facts.{Fits, IsMisfit}
 use Rattle.rv_past.specs.declared.facts.Misfit.{Misfit}
 use Rattle.rv_settle.specs.Past.{ComesBeforePast}
 use Rattle.rv_settle.specs.Windows.{counted_from}
-use Rattle.rv_endless.proofs.Accepted.{is-past, joins}
-use Rattle.rv_endless.proofs.Judged.{explained, is-free, offered}
-use Rattle.rv_endless.specs.Runs.{StandsFor, in_window, limit}
-use Rattle.rv_endless.specs.Steps.{IsExplained, IsOffered}
-use Rattle.rv_endless.specs.declared.run.Endless.{Endless}
+use Rattle.std.proofs.Common.{ℕ, [], ◌++◌, ◌∷◌, ◌≡◌, ◌∙◌, List, MatchOption, None, Option, Some, ap}
+use Rattle.std.proofs.Common.{arith, false, length, refl, subst, sym}
+use Rattle.std.proofs.lemmas.Bool.{false≢true}
+use Rattle.std.proofs.lemmas.Option.{MatchOption-at_none}
+use Rattle.std.specs.Option.{is_some}
 use Rattle.rv_endless.proofs.run.Endless.judge_next.Goals as goal
-use Rattle.rv_endless.proofs.run.Endless.judge_next.Goals.{then-is_some-via-then-is_some}
-use Rattle.rv_endless.proofs.run.Endless.judge_next.Goals.{then-is_some-via-else-is_some+then-is_before}
 
 -- the entry, counted from this number, is as the window has it
 moved-is : (run : Endless) (x moved : Entry) (first : ℕ) → first ≡ first_of run.firsts x.event.id.hart →

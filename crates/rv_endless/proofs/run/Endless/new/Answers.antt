@@ -1,8 +1,8 @@
-use Rattle.std.proofs.Common.{List, refl, subst}
+use Rattle.rv_endless.proofs.Begun.{begun}
 use Rattle.rv_event.specs.Log.{events}
 use Rattle.rv_event.specs.Orders.{Lawful}
 use Rattle.rv_event.specs.declared.event.Entry.{Entry}
-use Rattle.rv_endless.proofs.Begun.{begun}
+use Rattle.std.proofs.Common.{List, refl, subst}
 use Rattle.rv_endless.proofs.run.Endless.new.Goals as goal
 
 pub returns-clause-stands : goal.returns-clause-stands
