@@ -60,9 +60,10 @@ pub record AreCut (run : Endless) (log : List Entry) : Type 0 where
   pub below : IsBelow (events log) past (first_of run.firsts)
   pub cut : IsCut run.book.model (events log) run.active.items past
 
--- The run goes on, and stands for the log: the log is well formed, no event is a carrier, and some order is lawful for
--- it; the window is that of the log, the counts are those of its harts; what was forgotten is the past
--- of a cut, leaves no hart with a reservation, and is known; and no hart keeps more than 4,096 events.
+-- The run goes on, and stands for the log: the log is well formed, no event is a carrier, and some order
+-- is lawful for it; the window is that of the log, the counts are those of its harts; what was forgotten
+-- is the past of a cut, leaves no hart with a reservation, and is known; and no hart keeps more than 4,096
+-- events.
 pub record StandsFor (run : Endless) (log : List Entry) : Type 0 where
   pub going : IsFalse run.stopped
   pub book_going : IsFalse run.book.stopped
@@ -148,6 +149,6 @@ IsAnswered old new log x Taken = IsTakenBefore old log x × HasStopped old new
 IsAnswered old new log x (Forbidden f) =
     IsForbidden old log x × IsForbiddenOn old.book.model old.book.log (in_window old x) f × HasStopped old new
 IsAnswered old new log x BeforePast = IsForbidden old log x × HasStopped old new
-IsAnswered old new log x (answer.Beyond b) = IsBeyond old x b × (new ≡ old)
+IsAnswered old new log x (answer.Beyond b) = (x.event.id.hart < 16) × IsBeyond old x b × (new ≡ old)
 IsAnswered old new log x Stopped = ⊥
 IsAnswered old new log x NoMemory = new ≡ old

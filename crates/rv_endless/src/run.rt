@@ -1,26 +1,23 @@
 //! A run of any length, judged by a window of its events and by what is known of its past.
-ghost use Rattle.std.specs.Prelude.{ℕ, Bool, ◌≡◌, ◌++◌, ◌∷◌, ◌≢◌, [], Contains, IsFalse, OnErr, OnOk};
-ghost use Rattle.std.specs.Prelude.{List, MatchOption, None};
-ghost use Rattle.std.specs.Prelude.{Some, ◌<◌, length};
-ghost use Rattle.std.specs.Prelude.{◌^◌, ◌↔◌, IsTrue, slice_index_or};
-ghost use Rattle.rv_event.specs.Faults.{fault_of, fault_within};
-ghost use Rattle.rv_event.specs.declared.event.Entry.{Entry};
-ghost use Rattle.rv_endless.specs.Answers.{IfBeyond, IfForbidden, IfMalformed, OnAccepted};
-ghost use Rattle.rv_endless.specs.Answers.{OnBeforePast, OnRefused};
-ghost use Rattle.rv_endless.specs.Answers.{OnTaken, OnUnjudged};
-ghost use Rattle.rv_endless.specs.Runs.{HasStopped, IsAnswered, IsBeyond, IsForbidden, IsNext};
-ghost use Rattle.rv_endless.specs.Runs.{IsTakenBefore, IsWithin};
-ghost use Rattle.rv_endless.specs.Runs.{StandsFor, limit, misfit_answer, misfit_number, in_window};
-ghost use Rattle.rv_endless.specs.Runs.{AreForgotten};
-ghost use Rattle.rv_endless.specs.Forgetting.{IsCutBy};
-ghost use Rattle.rv_endless.specs.Steps.{IsExplained, IsOffered, IsPastOf, Joins};
+ghost use Rattle.std.specs.Prelude.{ℕ, Bool, ◌≡◌, ◌≢◌, ◌<◌, ◌^◌, ◌++◌, ◌∷◌, ◌↔◌, [], Contains, IsFalse};
+ghost use Rattle.std.specs.Prelude.{IsTrue, List, MatchOption, None, OnErr, OnOk, Some, length, slice_index_or};
+ghost use Rattle.rv_book.specs.Booked.{IsForbiddenOn};
 ghost use Rattle.rv_cut.specs.Cuts.{first_of};
+ghost use Rattle.rv_event.specs.Faults.{fault_of, fault_within};
 ghost use Rattle.rv_event.specs.Log.{events};
+ghost use Rattle.rv_event.specs.declared.event.Entry.{Entry};
 ghost use Rattle.rv_event.specs.declared.event.Event.{Event};
 ghost use Rattle.rv_past.specs.Before.{IsFree};
 ghost use Rattle.rv_settle.specs.Past.{ComesBeforePast};
 ghost use Rattle.rv_settle.specs.Windows.{window};
-ghost use Rattle.rv_book.specs.Booked.{IsForbiddenOn};
+ghost use Rattle.rv_endless.specs.Answers.{IfBeyond, IfForbidden, IfMalformed, OnAccepted};
+ghost use Rattle.rv_endless.specs.Answers.{OnBeforePast, OnRefused, OnTaken, OnUnjudged};
+ghost use Rattle.rv_endless.specs.Forgetting.{IsCutBy};
+ghost use Rattle.rv_endless.specs.Runs.{AreForgotten, HasStopped, IsAnswered, IsBeyond, IsForbidden, IsNext};
+ghost use Rattle.rv_endless.specs.Runs.{IsTakenBefore, IsWithin, StandsFor, in_window, limit};
+ghost use Rattle.rv_endless.specs.Runs.{misfit_answer, misfit_number};
+ghost use Rattle.rv_endless.specs.Steps.{IsExplained, IsOffered, IsPastOf, Joins};
+ghost use Rattle.rv_endless.specs.declared.answer.Answer.TheVariants as answer;
 
 use crate::answer::{Answer, Beyond};
 use crate::forget::{book_of_kept, forget};
@@ -98,9 +95,11 @@ impl Endless {
         ensures before_past { (log : List Entry) → StandsFor self.old log →
             OnBeforePast result (IsForbidden self.old log entry.now) }
         ensures beyond { (log : List Entry) → StandsFor self.old log →
-            IfBeyond result (IsBeyond self.old entry.now) }
+            IfBeyond result (λ why. (entry.now.event.id.hart < 16) × IsBeyond self.old entry.now why) }
         ensures refused { (log : List Entry) → StandsFor self.old log →
             OnRefused result (HasStopped self.old self.new) }
+        ensures going { (log : List Entry) → StandsFor self.old log → result ≢ answer.Stopped }
+        ensures stopped { IsTrue self.old.stopped → result ≡ answer.Stopped }
         ensures unjudged { (log : List Entry) → StandsFor self.old log →
             OnUnjudged result (self.new ≡ self.old) }
     {

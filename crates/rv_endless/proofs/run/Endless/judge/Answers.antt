@@ -1,4 +1,4 @@
-use Rattle.std.proofs.Common.{arith}
+use Rattle.std.proofs.Common.{arith, refl}
 use Rattle.rv_endless.proofs.run.Endless.judge.Goals as goal
 
 pub judge_next-requires : goal.judge_next-requires
@@ -7,3 +7,10 @@ judge_next-requires c = record {
   within = c.in_default.ensures c.args.entry.now.source;
   seq = c.if-event-count.false;
 }
+
+pub returns-in-Some : goal.returns-in-Some
+returns-in-Some c = λ log stands. (
+  (let low = c.if-event-gt15.false in omega (arith, low)),
+  c.in-Some.ensures c.args.entry.now.source,
+  refl,
+)
