@@ -1,5 +1,5 @@
 //! A cut of a log: a number for each hart.
-ghost use Rattle.std.specs.Prelude.{◌≡◌, ◌==◌, ◌<◌, ◌+◌, ℕ, IsFalse, if◌then◌else◌, length, min};
+ghost use Rattle.std.specs.Prelude.{◌≡◌, ◌==◌, ◌+◌, ℕ, IsFalse, if◌then◌else◌, length, min};
 ghost use Rattle.rv_event.specs.Log.{events, of_hart};
 ghost use Rattle.rv_event.proofs.Indexed.{Indexed};
 ghost use Rattle.rv_cut.specs.Cuts.{AreLower, first_of, is_past};
@@ -64,8 +64,8 @@ impl Cut {
     /// The cut whose window is the next cut's window of this one's: both numbers added. A number that
     /// would be above 2^32 - 1 is that.
     pub fn then(&self, next: &Cut) -> Cut
-        ensures { (hart : ℕ) → first_of self.now hart + first_of next.now hart < 4294967296 →
-            first_of result hart ≡ first_of self.now hart + first_of next.now hart }
+        ensures { (hart : ℕ) → first_of result hart
+            ≡ min (first_of self.now hart + first_of next.now hart) 4294967295 }
     {
         let mut firsts = self.firsts;
         'harts: for hart in 0..16 {

@@ -4,6 +4,7 @@ use Rattle.std.proofs.Common.{◌⊎◌, [], Bool}
 use Rattle.std.proofs.Common.{Contains, IsTrue, List, None, Option, Some, ap, arith, false}
 use Rattle.std.proofs.Common.{if◌then◌else◌, inl, inr}
 use Rattle.std.proofs.Common.{length, refl, slice_set, subst, sym, true}
+use Rattle.std.proofs.Math.Bool.{or-true}
 use Rattle.std.proofs.lemmas.Bool.{cases_eq, eq-eqb, eqb-true, false≢true, ne_eqb}
 use Rattle.std.proofs.lemmas.Grind.{common_steps, get_or-set_at}
 use Rattle.std.proofs.lemmas.List.{get_or-set_other, length-set}
@@ -16,6 +17,7 @@ use Rattle.rv_event.specs.Faults.{can_be_named}
 use Rattle.rv_event.specs.Operations.{IsStore}
 use Rattle.rv_event.specs.declared.event.Entry.{Entry}
 use Rattle.rv_event.specs.declared.event.Id.{Id}
+use Rattle.rv_settle.proofs.Faulted.{same-bool}
 use Rattle.rv_past.specs.Facts.{AreFactsBy, Follows, IsSourceOf, IsWrittenBy, has_number, is_named}
 use Rattle.rv_past.specs.Facts.{is_written, last_of}
 
@@ -41,17 +43,6 @@ facts-same gone sources values values' through through' above above' same-values
   where
     written : (w v : ℕ) → is_written through' above' w v ≡ is_written through above w v
     written w v = rw (same-words w, same-versions w v) refl
-
--- two tests that pass for each other are one
-same-bool : (a b : Bool) → (a ≡ true → b ≡ true) → (b ≡ true → a ≡ true) → a ≡ b
-same-bool true true to from = refl
-same-bool false false to from = refl
-same-bool true false to from = absurd (false≢true (to refl))
-same-bool false true to from = absurd (false≢true (from refl))
-
-or-true : (b : Bool) → (b || true) ≡ true
-or-true true = refl
-or-true false = refl
 
 module _ (old new : ℕ × ℕ → Option (List ℕ)) (id : Id) (row : List ℕ)
     (here : new (id.hart, id.seq / 4096) ≡ Some row)

@@ -40,7 +40,7 @@ use Rattle.rv_settle.specs.Fitting.{DependsWell, FitsPast, HasOldSource, IsUntak
 use Rattle.rv_settle.specs.Windows.{ClosesPairs, IsKept, KeepsFew, deps_from, renumbered, window}
 
 -- two tests that pass for each other are one
-same-bool : (a b : Bool) → (a ≡ true → b ≡ true) → (b ≡ true → a ≡ true) → a ≡ b
+pub same-bool : (a b : Bool) → (a ≡ true → b ≡ true) → (b ≡ true → a ≡ true) → a ≡ b
 same-bool true true to from = refl
 same-bool false false to from = refl
 same-bool true false to from = absurd (false≢true (to refl))

@@ -8,7 +8,7 @@ use Rattle.rv_event.specs.declared.event.Entry.{Entry}
 use Rattle.rv_past.specs.Facts.{AreFacts}
 use Rattle.rv_past.specs.Gone.{AreGone}
 use Rattle.rv_settle.specs.Windows.{window}
-use Rattle.std.proofs.Common.{◌∙◌, ap, ℕ, ◌++◌, IfSome, List, Option, refl, subst, sym}
+use Rattle.std.proofs.Common.{◌∙◌, ap, arith, ℕ, ◌++◌, IfSome, List, Option, refl, subst, sym}
 use Rattle.std.proofs.lemmas.Bool.{false≢true}
 use Rattle.std.specs.Option.{is_some}
 use Rattle.rv_endless.proofs.run.Endless.cut.Goals as goal
@@ -33,7 +33,8 @@ returns-clause-stands c = λ log stands.
     (numbers c.args.self.now log stands c.in_ok-cut.cut is-cut) in
     let known-fresh = subst (λ (xs : List Entry). AreFresh c.args.self.now.firsts stands.gone.0 xs) (sym here)
     (fresh c.args.self.now log stands c.in_ok-cut.cut is-cut formed) in
-    cut-stands c.args.self.now log stands c.in_ok-cut.cut is-cut _ book-is c.then-self.ensures refl refl refl
+    cut-stands c.args.self.now log stands c.in_ok-cut.cut is-cut _ book-is
+    (λ hart low. let same = c.then-self.ensures hart in omega (arith, same, low)) refl refl refl
     (subst (λ (xs : List Entry). AreGone
     (events (stands.gone.0 ++ forgotten_of c.args.self.now.firsts c.in_ok-cut.cut xs))
     c.forget.new.past) here
