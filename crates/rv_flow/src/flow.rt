@@ -1,10 +1,10 @@
 //! What each unit of a hart holds, by the events from which it was computed, and what depends on
 //! them.
 ghost use Rattle.std.specs.Prelude.{ℕ, ◌≡◌, ◌<◌, ◌+◌, ◌↔◌, ◌⊎◌, [], List, Option, None, IsTrue, length};
-ghost use Rattle.std.specs.Prelude.{Some, ◌≢◌, IfSome, MatchOption, OnErr, OnOk, slice_get};
+ghost use Rattle.std.specs.Prelude.{Some, ◌≢◌, IfSome, MatchOption, OnErr, OnOk, false, slice_get};
 ghost use Rattle.std.specs.List.{AllPairs};
 ghost use Rattle.rv_insn.specs.Roles.{destinations, is_branch};
-ghost use Rattle.rv_rows.specs.Bits.{Has};
+ghost use Rattle.rv_rows.specs.Bits.{Has, has_bit};
 
 use crate::step::Step;
 use rv_insn::{
@@ -18,8 +18,9 @@ use std::alloc::{AllocError, Global};
 /// of the next instruction hold are the events on which it depends.
 ///
 /// It keeps one row of bits for each unit that was written, and one for the branches so far, so
-/// that a hart's flow is as large as the registers that it uses, however long it runs. Contracts see
-/// the fields.
+/// that a hart's flow is as large as the registers that it uses, however long it runs. What a unit
+/// holds is lent as it stands; a row is made only of what an instruction writes. Contracts see the
+/// fields.
 #[derive(Drop)]
 pub struct Flow {
     alloc: Global,
@@ -29,10 +30,13 @@ pub struct Flow {
     pub rows: Vec<Row>,
     /// The events on which a branch so far depends.
     pub tested: Row,
+    /// What a unit holds that was not written: nothing.
+    nothing: Row,
     /// Where units are looked for first; a hint may be wrong.
     hints: [u8; 64],
     ghost same: { length units.items ≡ length rows.items },
     ghost distinct: { AllPairs (λ u v. u ≢ v) units.items },
+    ghost empty: { (n : ℕ) → has_bit nothing n ≡ false },
 }
 
 /// Which hint is the unit's: each register has one of its own.
@@ -60,21 +64,22 @@ impl Flow {
             units: Vec::new(alloc),
             rows: Vec::new(alloc),
             tested: Row::new(),
+            nothing: Row::new(),
             hints: [0; 64],
         }
     }
 
     /// The events on which the address of the hart's next instruction depends (manual, section
     /// 14.1, "Syntactic Dependencies").
-    pub fn address(&self, insn: Insn) -> Row
-        ensures { OfNext HasAddress self.now insn result }
+    pub fn address(&self, insn: Insn) -> &Row
+        ensures { OfNext HasAddress self.now insn result.now }
     {
         self.held(address_source(insn))
     }
 
     /// The events on which the value depends that the hart's next instruction stores (as above).
-    pub fn data(&self, insn: Insn) -> Row
-        ensures { OfNext HasData self.now insn result }
+    pub fn data(&self, insn: Insn) -> &Row
+        ensures { OfNext HasData self.now insn result.now }
     {
         self.held(data_source(insn))
     }
@@ -87,14 +92,23 @@ impl Flow {
     }
 
     /// The events from which the unit's value was computed, where there is a unit.
-    fn held(&self, unit: Option<Unit>) -> Row
-        ensures { (n : ℕ) → Has result n ↔ ((u : Unit) × (unit ≡ Some u) × Holds self.now u n) }
+    fn held(&self, unit: Option<Unit>) -> &Row
+        ensures { (n : ℕ) → Has result.now n ↔ ((u : Unit) × (unit ≡ Some u) × Holds self.now u n) }
     {
-        let mut row = Row::new();
-        if let Some(unit) = unit {
-            self.gather(unit, &mut row);
+        match unit {
+            Some(unit) => self.held_by(unit),
+            None => &self.nothing,
         }
-        row
+    }
+
+    /// The events from which the unit's value was computed.
+    fn held_by(&self, unit: Unit) -> &Row
+        ensures { (n : ℕ) → Has result.now n ↔ Holds self.now unit n }
+    {
+        match self.place(unit) {
+            Some(place) => &self.rows[place],
+            None => &self.nothing,
+        }
     }
 
     /// The events on which the instruction depends by any of its sources.
@@ -142,9 +156,7 @@ impl Flow {
     pub fn gather(&self, unit: Unit, row: &mut Row)
         ensures { (n : ℕ) → Has row.new n ↔ (Has row.old n ⊎ Holds self.now unit n) }
     {
-        if let Some(place) = self.place(unit) {
-            row.join(&self.rows[place]);
-        }
+        row.join(self.held_by(unit));
     }
 
     /// The events from which the instruction computes what it puts into the unit.
@@ -226,7 +238,19 @@ impl Flow {
         ensures units { (self.new.units ≡ self.old.units) × (self.new.rows ≡ self.old.rows) }
         ensures tested { Tests self.old insn self.new }
     {
-        let row = self.tested_by(insn);
+        if is_branch(insn) {
+            self.test_sources(insn);
+        }
+    }
+
+    /// Puts in the events on which the branch depends. A call takes the time to clear a row, so it
+    /// is a function of its own.
+    fn test_sources(&mut self, branch: Insn)
+        ensures units { (self.new.units ≡ self.old.units) × (self.new.rows ≡ self.old.rows) }
+        ensures tested { (n : ℕ) → Has self.new.tested n
+            ↔ (Has self.old.tested n ⊎ ((u : Unit) × IsSource branch u × Holds self.old u n)) }
+    {
+        let row = self.held_by_sources(branch);
         self.tested.join(&row);
     }
 

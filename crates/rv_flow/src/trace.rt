@@ -88,7 +88,7 @@ impl HartTrace {
     {
         let address = self.flow.address(insn);
         let value = self.flow.data(insn);
-        self.carriers.lists(&address, &value)
+        self.carriers.lists(address, value)
     }
 
     /// The events on which the hart's next instruction depends, if it is a branch, and no branch

@@ -120,8 +120,8 @@ fn a_running_sum_has_each_of_a_hundred_loads(rt: HostRuntime) {
     }
     add_word(&rt, &mut words, BRANCH_ON_SUM, None);
     let flow = flow_of(&rt, rt.alloc(), words.as_slice());
-    assert_first(&rt, &flow.data(insn_of(&rt, STORE_SUM)), 100);
-    assert_first(&rt, &flow.address(insn_of(&rt, STORE_SUM)), 0);
+    assert_first(&rt, flow.data(insn_of(&rt, STORE_SUM)), 100);
+    assert_first(&rt, flow.address(insn_of(&rt, STORE_SUM)), 0);
     assert_first(&rt, flow.control(), 100);
 }
 
@@ -133,7 +133,7 @@ fn add_word(rt: &impl Abort, words: &mut Vec<(u32, Option<u32>)>, word: u32, eve
 fn an_address_is_that_of_the_last_load_alone(rt: HostRuntime) {
     let words = [(LOAD, Some(0)), (SUM, None), (LOAD, Some(1))];
     let flow = flow_of(&rt, rt.alloc(), &words);
-    assert_last(&rt, &flow.address(insn_of(&rt, STORE_BY_LAST)));
+    assert_last(&rt, flow.address(insn_of(&rt, STORE_BY_LAST)));
     assert_first(&rt, flow.control(), 0);
 }
 

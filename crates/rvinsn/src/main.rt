@@ -246,8 +246,8 @@ fn write_row<W: Write>(out: &mut W, name: &str, row: &Row, end: u32) -> io::Resu
 
 /// Writes what the hart's next instruction depends on, and takes it in.
 fn write_step<W: Write>(out: &mut W, hart: &mut Hart, step: Step) -> io::Result<()> {
-    write_row(out, "address", &hart.flow.address(step.insn), hart.end)?;
-    write_row(out, "; data", &hart.flow.data(step.insn), hart.end)?;
+    write_row(out, "address", hart.flow.address(step.insn), hart.end)?;
+    write_row(out, "; data", hart.flow.data(step.insn), hart.end)?;
     write_row(out, "; control", hart.flow.control(), hart.end)?;
     writeln!(out, "")?;
     match step.event {

@@ -1,19 +1,18 @@
-use Rattle.std.proofs.Common.{◌⊎◌, inl, inr, ℕ, ◌↔◌}
-use Rattle.rv_rows.specs.Bits.{Has}
-use Rattle.rv_flow.proofs.Sets.{has-joined}
+use Rattle.std.proofs.Common.{◌⊎◌, ◌∙◌, inl, inr, sym, IsTrue}
+use Rattle.rv_insn.specs.Roles.{is_branch}
 use Rattle.rv_flow.proofs.flow.Flow.test.Goals as goal
 
-pub returns-clause-tested : goal.returns-clause-tested
-returns-clause-tested c n = (
-  λ has. elim ((joined n).0 has) [
+pub returns-then-is_branch-clause-tested : goal.returns-then-is_branch-clause-tested
+returns-then-is_branch-clause-tested c n = (
+  λ has. elim ((c.test_sources.ensures.tested n).0 has) [
     | inl before ↦ inl before
-    | inr new ↦ inr ((c.tested_by-row.ensures n).0 new)
+    | inr held ↦ inr (branch, held.0, held.1, held.2)
   ],
   λ is. elim is [
-    | inl before ↦ (joined n).1 (inl before)
-    | inr new ↦ (joined n).1 (inr ((c.tested_by-row.ensures n).1 new))
+    | inl before ↦ (c.test_sources.ensures.tested n).1 (inl before)
+    | inr new ↦ (c.test_sources.ensures.tested n).1 (inr (new.1, new.2, new.3))
   ],
 )
   where
-    joined : (m : ℕ) → Has c.join.new.self m ↔ (Has c.args.self.now.tested m ⊎ Has c.tested_by-row.result m)
-    joined = has-joined c.args.self.now.tested c.tested_by-row.result c.join.new.self c.join.ensures
+    branch : IsTrue (is_branch c.args.insn.operation)
+    branch = sym c.is_branch.ensures ∙ c.if-is_branch.true

@@ -9,12 +9,12 @@ use Rattle.rv_flow.proofs.trace.HartTrace.lists.Goals as goal
 -- src/trace.rt
 pub lists-requires-clause-address : goal.lists-requires-clause-address
 lists-requires-clause-address c =
-    events-of-next address_source address-source _ c.self.invariant c.args.insn c.address-address.result
+    events-of-next address_source address-source _ c.self.invariant c.args.insn c.address-address.result.now
     c.address-address.ensures
 
 pub lists-requires-clause-value : goal.lists-requires-clause-value
 lists-requires-clause-value c =
-    events-of-next data_source data-source _ c.self.invariant c.args.insn c.data-value.result c.data-value.ensures
+    events-of-next data_source data-source _ c.self.invariant c.args.insn c.data-value.result.now c.data-value.ensures
 
 -- rows more, which are carriers
 more : (c : goal.After-lists) (steps : List Step) → IsTraceOf steps (record {
@@ -37,5 +37,5 @@ returns-clause-still c steps of =
 
 pub returns-clause-lists : goal.returns-clause-lists
 returns-clause-lists c = next-lists c.lists.result c.args.self.now _ c.lists.new.self c.self.inside.flow c.args.insn
-    c.address-address.result c.data-value.result (ap (λ (t : Traced). t.flow) c.self.view_is) refl refl
+    c.address-address.result.now c.data-value.result.now (ap (λ (t : Traced). t.flow) c.self.view_is) refl refl
     c.address-address.ensures c.data-value.ensures c.lists.ensures.lists
