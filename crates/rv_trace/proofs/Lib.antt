@@ -1,4 +1,5 @@
 pub mod Digits
+pub mod Feeding
 pub mod Parts
 pub mod Records
 pub mod Rests

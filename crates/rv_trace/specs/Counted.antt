@@ -8,6 +8,10 @@ bytes_taken c = c.bytes
 abbrev pub calls_made : {R : Type 0} → Counted R → ℕ
 calls_made c = c.calls
 
+-- each read is refused once as many bytes were taken, or calls made
+abbrev pub limit_of : {R : Type 0} → Counted R → ℕ
+limit_of c = c.limit
+
 -- the last read answered an error
 abbrev pub last_refused : {R : Type 0} → Counted R → Bool
 last_refused c = c.refused

@@ -5,6 +5,7 @@ pub mod Counted
 pub mod Dependencies
 pub mod Dialects
 pub mod Faults
+pub mod Feeds
 pub mod Numbers
 pub mod Operations
 pub mod Row

@@ -5,7 +5,8 @@
 //! - `operation`, `dependency`, [`row`]: what one record says: an event, or its first fault
 //!   from the left.
 //! - [`column`]: the field of a row that has its fault, for who tells it.
-//! - `counted`: a reader that may take no more than so many bytes and calls.
+//! - `counted`: a reader that may be kept to so many bytes and calls.
+//! - [`feed`]: the rows of a source that may have any number of them, and ends of harts among them.
 //! - [`trace`], [`chunks`]: the events of a source, and the same in chunks.
 //! - [`number`], [`rows`]: parts of it that other tables of rows are read with, too: a field that
 //!   is a number, and the records of a reader.
@@ -24,6 +25,7 @@ mod counted;
 mod dependency;
 mod dialect;
 mod fault;
+mod feed;
 mod laws;
 mod number;
 mod operation;
@@ -35,6 +37,7 @@ pub use chunks::Chunks;
 pub use column::{Column, FaultyField, faulty_field};
 pub use dialect::Dialect;
 pub use fault::{FaultKind, TraceFault};
+pub use feed::{Feed, FeedFault, FeedRow};
 pub use laws::{texts_tell_events, written_traces_are_read};
 pub use number::number_of;
 pub use row::field_of;

@@ -45,7 +45,7 @@ pub fn number_of(text: &[u8], max: u32) -> Result<u32, FaultKind>
 
 /// A field that must be blank.
 #[tactic(auto, unfolding(crate::specs::Numbers::blank))]
-fn blank_of(text: &[u8]) -> Result<u32, FaultKind>
+pub(crate) fn blank_of(text: &[u8]) -> Result<u32, FaultKind>
     ensures value { Gives result (blank text.now) }
     ensures kind { IfErr result (λ k. is_of_text k ≡ true) }
 {

@@ -1,5 +1,6 @@
 //! The records of a reader, one at a time. The only module that knows the CSV reader.
 ghost use Rattle.std.specs.Prelude.{◌≡◌, true, false, IfOk, IfErr, OnOk, OnErr, option_map};
+ghost use Rattle.rv_trace.specs.Counted.{bytes_left, has_ended, last_refused};
 ghost use Rattle.rv_trace.specs.Faults.{read_fault};
 ghost use Rattle.rv_trace.specs.Rows.{TakesRow, NoRow};
 ghost use Rattle.rv_trace.specs.Source.{text_records};
@@ -39,9 +40,32 @@ impl<R: Read> Model for Rows<R> {
 }
 
 impl<R: Read> Rows<R> {
-    /// The records of `reader`, of which nothing is read yet. It takes no memory.
+    /// The records of `reader`, of which nothing is read yet, and at most 64 MiB are to be. It takes
+    /// no memory.
     pub fn new(alloc: Global, reader: R) -> Rows<R>
         ensures left { result.left ≡ option_map text_records (R.remaining reader) }
+        ensures stopped { result.stopped ≡ false }
+        ensures failed { result.failed ≡ false }
+        ensures refused { result.refused ≡ false }
+    {
+        Rows::of_counted(alloc, Counted::new(reader))
+    }
+
+    /// The same, where any number of bytes may be read.
+    pub fn endless(alloc: Global, reader: R) -> Rows<R>
+        ensures left { result.left ≡ option_map text_records (R.remaining reader) }
+        ensures stopped { result.stopped ≡ false }
+        ensures failed { result.failed ≡ false }
+        ensures refused { result.refused ≡ false }
+    {
+        Rows::of_counted(alloc, Counted::endless(reader))
+    }
+
+    /// The records of a reader that counts, of which nothing is read yet.
+    fn of_counted(alloc: Global, reader: Counted<R>) -> Rows<R>
+        requires ended { has_ended reader ≡ false }
+        requires unrefused { last_refused reader ≡ false }
+        ensures left { result.left ≡ option_map text_records (bytes_left R.remaining reader) }
         ensures stopped { result.stopped ≡ false }
         ensures failed { result.failed ≡ false }
         ensures refused { result.refused ≡ false }
@@ -50,7 +74,7 @@ impl<R: Read> Rows<R> {
             reader: ReaderBuilder::new()
                 .has_headers(false)
                 .flexible(true)
-                .from_reader(alloc, Counted::new(reader)),
+                .from_reader(alloc, reader),
             row: ByteRecord::new(alloc),
             stopped: false,
         }

@@ -74,14 +74,14 @@ impl<R: Read> Model for Trace<R> {
 }
 
 /// Whether the field at a place is this text.
-fn field_is(row: &ByteRecord, i: usize, text: &[u8]) -> bool
+pub(crate) fn field_is(row: &ByteRecord, i: usize, text: &[u8]) -> bool
     ensures { result ≡ bytes_eq (field (fields_of row.now) i) text.now }
 {
     field_of(row, i) == text
 }
 
 /// Whether a record is the header.
-fn is_header(row: &ByteRecord) -> bool
+pub(crate) fn is_header(row: &ByteRecord) -> bool
     ensures { result ≡ is_header (fields_of row.now) }
 {
     row.len() == 8
