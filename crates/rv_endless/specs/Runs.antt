@@ -141,6 +141,12 @@ pub record IsNext (run : Endless) (x : Entry) : Type 0 where
 abbrev pub HasStopped : Endless → Endless → Type 0
 HasStopped old new = IsTrue new.stopped × (new.book.log ≡ old.book.log)
 
+-- the memory model, the active harts and the first numbers of the window stay as they are
+pub record KeepsSettings (old new : Endless) : Type 0 where
+  pub model : new.book.model ≡ old.book.model
+  pub active : new.active ≡ old.active
+  pub firsts : new.firsts ≡ old.firsts
+
 -- what an answer tells of a log for which the run stood before
 abbrev pub IsAnswered : Endless → Endless → List Entry → Entry → Answer → Type 0
 IsAnswered old new log x Accepted = (fault_within limit log x ≡ None) × StandsFor new (log ++ x ∷ [])

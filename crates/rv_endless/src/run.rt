@@ -14,7 +14,7 @@ ghost use Rattle.rv_endless.specs.Answers.{IfBeyond, IfForbidden, IfMalformed, O
 ghost use Rattle.rv_endless.specs.Answers.{OnBeforePast, OnRefused, OnTaken, OnUnjudged};
 ghost use Rattle.rv_endless.specs.Forgetting.{IsCutBy};
 ghost use Rattle.rv_endless.specs.Runs.{AreForgotten, HasStopped, IsAnswered, IsBeyond, IsForbidden, IsNext};
-ghost use Rattle.rv_endless.specs.Runs.{IsTakenBefore, IsWithin, StandsFor, in_window, limit};
+ghost use Rattle.rv_endless.specs.Runs.{IsTakenBefore, IsWithin, KeepsSettings, StandsFor, in_window, limit};
 ghost use Rattle.rv_endless.specs.Runs.{misfit_answer, misfit_number};
 ghost use Rattle.rv_endless.specs.Steps.{IsExplained, IsOffered, IsPastOf, Joins};
 ghost use Rattle.rv_endless.specs.declared.answer.Answer.TheVariants as answer;
@@ -102,6 +102,7 @@ impl Endless {
         ensures stopped { IsTrue self.old.stopped → result ≡ answer.Stopped }
         ensures unjudged { (log : List Entry) → StandsFor self.old log →
             OnUnjudged result (self.new ≡ self.old) }
+        ensures settings { KeepsSettings self.old self.new }
     {
         if self.stopped {
             return Answer::Stopped;
@@ -131,6 +132,7 @@ impl Endless {
         ensures done { (log : List Entry) → StandsFor self.old log → OnOk result (IsCutBy self.old self.new) }
         ensures kept { OnErr result ((self.new.book ≡ self.old.book) × (self.new.firsts ≡ self.old.firsts)) }
         ensures harts { self.new.active ≡ self.old.active }
+        ensures model { self.new.book.model ≡ self.old.book.model }
     {
         let cut = find_cut(self.alloc, &self.book, self.active.as_slice())?;
         let Some(book) = book_of_kept(self.alloc, &self.book, &cut)? else {
@@ -154,8 +156,9 @@ impl Endless {
 
     /// Judges an entry offered to a run that goes on.
     fn judge(&mut self, entry: &Entry) -> Answer
-        ensures { (log : List Entry) → StandsFor self.old log →
+        ensures answered { (log : List Entry) → StandsFor self.old log →
             IsAnswered self.old self.new log entry.now result }
+        ensures settings { KeepsSettings self.old self.new }
     {
         let event = &entry.event;
         if event.id.hart > 15 {
@@ -199,8 +202,9 @@ impl Endless {
     /// Judges an entry whose number is the next one of its hart.
     fn judge_next(&mut self, entry: &Entry) -> Answer
         requires { IsNext self.old entry.now }
-        ensures { (log : List Entry) → StandsFor self.old log →
+        ensures answered { (log : List Entry) → StandsFor self.old log →
             IsAnswered self.old self.new log entry.now result }
+        ensures settings { KeepsSettings self.old self.new }
     {
         let first = self.firsts.first(entry.event.id.hart);
         let Ok(moved) = renumber(self.alloc, entry, first) else {
@@ -230,7 +234,8 @@ impl Endless {
     fn judge_moved(&mut self, moved: &Entry) -> Answer
         requires hart { moved.now.event.id.hart < 16 }
         requires numbers { slice_index_or self.old.counts moved.now.event.id.hart 0 < 4294967295 }
-        ensures { IsOffered self.old self.new moved.now result }
+        ensures offered { IsOffered self.old self.new moved.now result }
+        ensures settings { KeepsSettings self.old self.new }
     {
         match self.book.offer(moved) {
             Offer::Accepted => {

@@ -8,8 +8,8 @@ judge_next-requires c = record {
   seq = c.if-event-count.false;
 }
 
-pub returns-in-Some : goal.returns-in-Some
-returns-in-Some c = λ log stands. (
+pub returns-in-Some-clause-answered : goal.returns-in-Some-clause-answered
+returns-in-Some-clause-answered c = λ log stands. (
   (let low = c.if-event-gt15.false in omega (arith, low)),
   c.in-Some.ensures c.args.entry.now.source,
   refl,

@@ -32,8 +32,8 @@ explain-requires c =
     let same = ap (λ (xs : List Entry). length xs) c.log.ensures.value in
     omega (arith, most, same)
 
-pub returns-then-is_some : goal.returns-then-is_some
-returns-then-is_some c = λ log stands.
+pub returns-then-is_some-clause-answered : goal.returns-then-is_some-clause-answered
+returns-then-is_some-clause-answered c = λ log stands.
     let moved = moved-is c.args.self.now c.args.entry.now c.in-Ok.moved c.first-first.result
     c.first-first.ensures c.in-Ok.ensures in
     explained c.args.self.now log c.args.entry.now stands c.requires _ c.explain.result c.find_misfit-misfit.result
@@ -67,8 +67,8 @@ none-of : (o : Option Misfit) → is_some o ≡ false → o ≡ None
 none-of None none = refl
 none-of (Some m) none = absurd (false≢true (sym none))
 
-pub returns : goal.returns
-returns c = λ log stands.
+pub returns-clause-answered : goal.returns-clause-answered
+returns-clause-answered c = λ log stands.
     let moved = moved-is c.args.self.now c.args.entry.now c.in-Ok.moved c.first-first.result
     c.first-first.ensures c.in-Ok.ensures in
     offered c.args.self.now log c.args.entry.now stands c.requires c.judge_moved.new.self c.judge_moved.result
@@ -80,7 +80,7 @@ returns c = λ log stands.
     (joins c.args.self.now log c.args.entry.now stands c.requires sound) in
     false≢true (sym c.if-is_before.false ∙ told.1 before))
     (subst (λ (m : Entry). IsOffered c.args.self.now c.judge_moved.new.self m c.judge_moved.result)
-    moved c.judge_moved.ensures)
+    moved c.judge_moved.ensures.offered)
   where
     fits : (log : List Entry) (stands : StandsFor c.args.self.now log) →
         Fits stands.gone.0 (first_of c.args.self.now.firsts c.args.entry.now.event.id.hart) c.args.entry.now
