@@ -165,8 +165,8 @@ impl Facts {
         event.is_store() && self.is_written(event.word, event.wrote)
     }
 
-    /// Whether a forgotten store wrote the version.
-    fn is_written(&self, word: u32, version: u32) -> bool
+    /// Whether a forgotten store wrote the version of the word. It costs a look-up or two.
+    pub fn is_written(&self, word: u32, version: u32) -> bool
         ensures { result ≡ is_written (get nat_eq self.now.through)
             (contains same_version self.now.above) word version }
     {

@@ -24,5 +24,5 @@ mod writing;
 pub use fault::ReportFault;
 pub use json_report::{report_json, report_json_line};
 pub use outcome::Outcome;
-pub use text::{report, report_text};
+pub use text::{certificate_text, report, report_text};
 pub use writing::write_text;

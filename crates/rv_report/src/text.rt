@@ -52,6 +52,19 @@ fn push_certificate(text: &mut String, certificate: &Certificate) -> Result<(), 
     }
 }
 
+/// The lines of a certificate: `circle of K` and a line for each edge, or `stale: ..`. An edge leads
+/// from the id before its reason to the one behind it.
+///
+/// # Errors
+/// Memory ran out; the certificate stays as it is.
+pub fn certificate_text(alloc: Global, certificate: &Certificate) -> Result<String, NoMemory>
+    ensures { IfOk result (λ text. string_bytes text ≡ certificate_text certificate.now) }
+{
+    let mut text = String::new(alloc);
+    push_certificate(&mut text, certificate)?;
+    Ok(text)
+}
+
 /// The report of a forbidden log.
 fn forbidden_text(alloc: Global, forbidden: &Forbidden) -> Result<String, NoMemory>
     ensures { IfOk result (λ text. string_bytes text ≡ forbidden_text forbidden.now) }

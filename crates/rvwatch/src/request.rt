@@ -1,0 +1,249 @@
+//! What the words of the command line ask for.
+
+use rv_event::MemoryModel;
+use rv_watch::CutRule;
+use std::alloc::Global;
+use std::env;
+use thiserror::Error;
+
+/// The text of `--harts --help`.
+pub(crate) const HELP: &str = "\
+Judges a run of any length by RVWMO, RISC-V's weak memory model: neither rows, bytes
+nor the events of a hart are limited. What every hart has passed is forgotten, so
+memory does not grow where the harts synchronise again and again. The answers are
+those for all events from the first on.
+
+Usage: rvmon --harts LIST [WORD..] [FILE..]
+
+  FILE              traces, at most 8, of which a row each is taken in turn; standard
+                    input is read where no file is named. Harts whose rows came from a
+                    file have ended where it ends
+  --harts LIST      the harts that act, as 0,1,2 or 0-7. An event is kept for as long as
+                    one of them may still come before it
+  --cut K           forget what can be after each K events; where it is not said, as
+                    often as is quick
+  --model rvwmo|tso the memory model; rvwmo where it is not said
+
+A trace is as `rvmon --help` has it, without rows I. A row may also tell that a hart
+has ended, and acts no more. Hart 3 has ended:
+
+  3,,END,,,,,
+
+Printed is one of these. Where an event comes before what was forgotten, no cycle is
+shown, but a line past.
+
+  allowed: E events, O operations, W waiting loads
+  forbidden: ID after N events, and a circle, or a line stale or past
+  malformed: ID after N events: fault F TEXT
+
+Status: 0 allowed, 1 forbidden, 2 malformed, a source that is not in the format, or
+wrong words, 3 reading, writing or memory failed, or an event can't be judged: its hart
+was not declared or has ended, or 4096 events of its hart are kept, since some hart has
+not passed them. It is told then what the events before it come to.";
+
+/// The highest hart.
+const LAST_HART: u8 = 15;
+
+/// How many sources there are at most.
+const MOST_SOURCES: usize = 8;
+
+/// What is asked.
+#[derive(Drop)]
+pub(crate) struct Words {
+    /// The harts that act.
+    pub(crate) harts: Vec<u8>,
+    /// When what can be is forgotten.
+    pub(crate) rule: CutRule,
+    /// The memory model that events are judged by.
+    pub(crate) model: MemoryModel,
+    /// The files of the traces; none for standard input.
+    pub(crate) files: Vec<String>,
+    /// Whether help is asked for.
+    pub(crate) help: bool,
+}
+
+/// Why the words are refused.
+#[derive(PartialEq, Eq, Debug, Drop, Error)]
+pub(crate) enum WordsFault {
+    /// They are no texts.
+    #[error("the words can't be read")]
+    Unread,
+    /// `--harts` has no list of harts behind it.
+    #[error("--harts takes harts up to 15, as 0,1,2 or 0-7")]
+    Harts,
+    /// `--cut` has no number of events behind it.
+    #[error("--cut takes a number of events, 1 or more")]
+    Cut,
+    /// `--model` has no model behind it.
+    #[error("--model takes rvwmo or tso")]
+    Model,
+    /// There are more than eight files.
+    #[error("at most 8 sources")]
+    TooMany,
+    /// This word begins with `-` and is none of those that there are.
+    #[error("--harts does not go with {0}")]
+    Unknown(String),
+    /// Memory ran out.
+    #[error("no memory")]
+    NoMemory,
+}
+
+/// A word that has another one behind it.
+#[derive(Clone, Copy, PartialEq, Eq, Debug)]
+enum Setting {
+    /// `--harts`.
+    Harts,
+    /// `--cut`.
+    Cut,
+    /// `--model`.
+    Model,
+}
+
+impl Setting {
+    /// The one of this name.
+    fn named(word: &str) -> Option<Setting> {
+        match word {
+            "--harts" => Some(Setting::Harts),
+            "--cut" => Some(Setting::Cut),
+            "--model" => Some(Setting::Model),
+            _ => None,
+        }
+    }
+
+    /// The fault where nothing, or something else is behind it.
+    fn fault(self) -> WordsFault {
+        match self {
+            Setting::Harts => WordsFault::Harts,
+            Setting::Cut => WordsFault::Cut,
+            Setting::Model => WordsFault::Model,
+        }
+    }
+}
+
+/// The hart of this number.
+fn hart_of(text: &str) -> Option<u8> {
+    let hart = u8::from_str_radix(text, 10).ok()?;
+    if hart <= LAST_HART { Some(hart) } else { None }
+}
+
+/// The first and the last hart that a part of a list names: `3`, or `0-7`.
+fn range_of(text: &str) -> Option<(u8, u8)> {
+    match text.split_once('-') {
+        Some((first, last)) => Some((hart_of(first)?, hart_of(last)?)),
+        None => {
+            let hart = hart_of(text)?;
+            Some((hart, hart))
+        }
+    }
+}
+
+/// The harts that a list names.
+fn harts_of(alloc: Global, text: &str) -> Result<Vec<u8>, WordsFault> {
+    let mut harts = Vec::new(alloc);
+    for part in text.split(',') {
+        let Some((first, last)) = range_of(part) else {
+            return Err(WordsFault::Harts);
+        };
+        if first > last {
+            return Err(WordsFault::Harts);
+        }
+        'harts: for hart in 0..=LAST_HART {
+            if first <= hart && hart <= last && !harts.contains(&hart) {
+                if harts.push(hart).is_err() {
+                    return Err(WordsFault::NoMemory);
+                }
+            }
+        }
+    }
+    Ok(harts)
+}
+
+/// The rule by which so many events are judged between two cuts.
+fn rule_of(text: &str) -> Option<CutRule> {
+    let count = u32::from_str_radix(text, 10).ok()?;
+    if count == 0 {
+        None
+    } else {
+        Some(CutRule::Every(count))
+    }
+}
+
+impl Words {
+    /// Those of a command line without words.
+    fn new(alloc: Global) -> Words {
+        Words {
+            harts: Vec::new(alloc),
+            rule: CutRule::Grown,
+            model: MemoryModel::Rvwmo,
+            files: Vec::new(alloc),
+            help: false,
+        }
+    }
+
+    /// Takes the word behind a setting.
+    fn set(&mut self, alloc: Global, setting: Setting, value: &str) -> Result<(), WordsFault> {
+        match (setting, value) {
+            (Setting::Harts, text) => self.harts = harts_of(alloc, text)?,
+            (Setting::Cut, text) => match rule_of(text) {
+                Some(rule) => self.rule = rule,
+                None => return Err(WordsFault::Cut),
+            },
+            (Setting::Model, "rvwmo") => self.model = MemoryModel::Rvwmo,
+            (Setting::Model, "tso") => self.model = MemoryModel::Ztso,
+            (Setting::Model, _) => return Err(WordsFault::Model),
+        }
+        Ok(())
+    }
+
+    /// Takes a word that has none behind it.
+    fn take(&mut self, word: String) -> Result<(), WordsFault> {
+        match word.as_str() {
+            "--help" | "-h" => self.help = true,
+            _ if word.as_str().starts_with("-") => return Err(WordsFault::Unknown(word)),
+            _ => {
+                if self.files.push(word).is_err() {
+                    return Err(WordsFault::NoMemory);
+                }
+            }
+        }
+        Ok(())
+    }
+
+    /// The words, if they can be followed.
+    fn checked(self) -> Result<Words, WordsFault> {
+        if self.files.len() > MOST_SOURCES {
+            return Err(WordsFault::TooMany);
+        }
+        if self.harts.is_empty() && !self.help {
+            return Err(WordsFault::Harts);
+        }
+        Ok(self)
+    }
+}
+
+/// Reads the command line.
+pub(crate) fn request_of(rt: &HostRuntime) -> Result<Words, WordsFault> {
+    let Ok(all) = env::args(rt) else {
+        return Err(WordsFault::Unread);
+    };
+    let mut words = Words::new(rt.alloc());
+    let mut waiting: Option<Setting> = None;
+    for word in all.skip(1) {
+        match (waiting, Setting::named(word.as_str())) {
+            (Some(Setting::Harts), _) if word.as_str() == "--help" => {
+                waiting = None;
+                words.help = true;
+            }
+            (Some(setting), _) => {
+                waiting = None;
+                words.set(rt.alloc(), setting, word.as_str())?;
+            }
+            (None, Some(setting)) => waiting = Some(setting),
+            (None, None) => words.take(word)?,
+        }
+    }
+    match waiting {
+        Some(setting) => Err(setting.fault()),
+        None => words.checked(),
+    }
+}
