@@ -98,7 +98,8 @@ a0 d2: the address depends on event 0 of the hart, the data on event 2. c is for
 a branch. Only L, LR, SC, SF and AMO are depended on. With --carriers a row may
 also have op I and in deps [d]: what lists it depends on all that it lists.
 
-A file has at most 65536 rows below the header, a hart at most 4096 events.
+A file has at most 65536 rows below the header, a hart at most 4096 events. With
+rvmon --harts LIST neither is limited: rvmon --harts --help tells more.
 With --complete, and only then, its last line may be end,N: N rows stand above.
 
 Example: two harts each store to a word, fence, and load the other's word, and

@@ -17,7 +17,7 @@
 //!   failed SC of a hart (`Partners`).
 //!
 //! It stands on `rv_book` for the window, on `rv_settle` for what may be forgotten, and on `rv_past`
-//! for what is known of it. `rv_cut` finds what may be forgotten. No program stands on it yet.
+//! for what is known of it. `rv_cut` finds what may be forgotten.
 #![tactic(auto)]
 
 mod answer;
