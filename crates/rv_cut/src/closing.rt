@@ -9,39 +9,27 @@ ghost use Rattle.rv_settle.specs.Windows.{ClosesPairs};
 ghost use Rattle.rv_cut.specs.Cuts.{AreLower, first_of, is_past};
 
 use crate::cut::Cut;
+use crate::ordering::in_order;
 use rv_edges::Tie;
-use rv_event::{Entry, Event, Id, NoMemory, Op};
+use rv_event::{Entry, Event, NoMemory, Op};
 use std::alloc::Global;
-
-/// Where an event is kept, another one has to be: one to which an edge leads from it, or the LR
-/// whose pair it closes.
-#[derive(Clone, Copy, Debug)]
-struct Pull {
-    from: Id,
-    to: Id,
-}
 
 /// Keeps more, until no edge leads into the past from an event that is kept, and no LR of the past
 /// is without an SC of the past behind it. It looks at each edge and each LR once.
+///
+/// What pulls another event with it has the shape of a tie: where the event `from` is kept, the
+/// event `to` has to be.
 ///
 /// # Errors
 /// `NoMemory` where a list could not be had; the cut may be lower than before.
 pub fn keep_open(alloc: Global, log: &[Entry], ties: &[Tie], cut: &mut Cut) -> Result<(), NoMemory>
     ensures { AreLower cut.old cut.new }
 {
-    let mut pulls = Vec::with_capacity(alloc, 16)?;
-    for _ in 0..16 {
-        pulls.push(Vec::new(alloc))?;
-    }
-    for tie in ties {
-        push_pull(&mut pulls, tie.from, tie.to)?;
-    }
+    let mut pulls = Vec::from_slice(alloc, ties)?;
     push_pairs(log, &mut pulls, cut)?;
-    for hart in 0..pulls.len() {
-        pulls[hart].sort_unstable_by_key(|pull| pull.from.seq);
-    }
-    for _ in 0..ties.len() + log.len() {
-        if !pull_all(&mut pulls, cut) {
+    let mut by_hart = by_hart(alloc, pulls.as_slice())?;
+    'rounds: for _ in 0..ties.len() + log.len() {
+        if !pull_all(&mut by_hart, cut) {
             break;
         }
     }
@@ -50,7 +38,7 @@ pub fn keep_open(alloc: Global, log: &[Entry], ties: &[Tie], cut: &mut Cut) -> R
 
 /// Adds that each LR is kept with the next LR, SC or failed SC of its hart. A last LR, with none of
 /// these behind it, is kept at once.
-fn push_pairs(log: &[Entry], pulls: &mut Vec<Vec<Pull>>, cut: &mut Cut) -> Result<(), NoMemory>
+fn push_pairs(log: &[Entry], pulls: &mut Vec<Tie>, cut: &mut Cut) -> Result<(), NoMemory>
     ensures { AreLower cut.old cut.new }
 {
     let mut open = [None; 16];
@@ -59,7 +47,7 @@ fn push_pairs(log: &[Entry], pulls: &mut Vec<Vec<Pull>>, cut: &mut Cut) -> Resul
         let op = entry.event.op;
         if op.is_exclusive() && id.hart < 16 {
             if let Some(lr) = open[id.hart as usize] {
-                push_pull(pulls, id, lr)?;
+                pulls.push(Tie { from: id, to: lr })?;
             }
             open[id.hart as usize] = if op == Op::Lr { Some(id) } else { None };
         }
@@ -72,8 +60,32 @@ fn push_pairs(log: &[Entry], pulls: &mut Vec<Vec<Pull>>, cut: &mut Cut) -> Resul
     Ok(())
 }
 
+/// The pulls by the hart of the event that pulls, each hart's in the order of its events.
+fn by_hart(alloc: Global, pulls: &[Tie]) -> Result<Vec<Vec<Tie>>, NoMemory> {
+    let mut keys = Vec::with_capacity(alloc, pulls.len())?;
+    for pull in pulls {
+        keys.push(pull.from.seq as usize)?;
+    }
+    let mut harts = Vec::with_capacity(alloc, 16)?;
+    for _ in 0..16 {
+        harts.push(Vec::new(alloc))?;
+    }
+    for pull in in_order(alloc, pulls, keys.as_slice())?.iter() {
+        push_pull(&mut harts, *pull)?;
+    }
+    Ok(harts)
+}
+
+/// Adds a pull to those of its hart.
+fn push_pull(harts: &mut Vec<Vec<Tie>>, pull: Tie) -> Result<(), NoMemory> {
+    if let Some(hart) = harts.get_mut(pull.from.hart as usize) {
+        hart.push(pull)?;
+    }
+    Ok(())
+}
+
 /// Keeps what the events pull that are kept. Whether there was one.
-fn pull_all(pulls: &mut Vec<Vec<Pull>>, cut: &mut Cut) -> bool
+fn pull_all(pulls: &mut Vec<Vec<Tie>>, cut: &mut Cut) -> bool
     ensures { AreLower cut.old cut.new }
 {
     let mut did_pull = false;
@@ -83,17 +95,9 @@ fn pull_all(pulls: &mut Vec<Vec<Pull>>, cut: &mut Cut) -> bool
     did_pull
 }
 
-/// Adds a pull to those of the hart of the first id.
-fn push_pull(pulls: &mut Vec<Vec<Pull>>, from: Id, to: Id) -> Result<(), NoMemory> {
-    if let Some(hart) = pulls.get_mut(from.hart as usize) {
-        hart.push(Pull { from, to })?;
-    }
-    Ok(())
-}
-
 /// Keeps what the events of the hart pull that are kept, and takes these pulls off. Whether there
 /// was one.
-fn pull_hart(pulls: &mut Vec<Pull>, cut: &mut Cut) -> bool
+fn pull_hart(pulls: &mut Vec<Tie>, cut: &mut Cut) -> bool
     ensures { AreLower cut.old cut.new }
 {
     let mut did_pull = false;

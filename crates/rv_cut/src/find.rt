@@ -1,12 +1,14 @@
 //! The search for a cut.
-ghost use Rattle.std.specs.Prelude.{IfOk};
+ghost use Rattle.std.specs.Prelude.{All, Contains, IfOk};
 ghost use Rattle.rv_event.specs.Log.{events};
 ghost use Rattle.rv_cut.specs.Cuts.{IsCutOf};
 
 use crate::closing::{closes_pairs, is_closed, keep_open};
 use crate::cut::Cut;
+use crate::ordering::in_order;
 use crate::reach::keep_unsettled;
 use rv_book::Book;
+use rv_edges::Tie;
 use rv_event::{Id, NoMemory};
 use std::alloc::Global;
 
@@ -17,8 +19,7 @@ use std::alloc::Global;
 /// The cut is as high as it may be: an event is kept only where it or one that pulls it with it is
 /// not settled. That is not proved: a cut with no past would keep the contract too.
 ///
-/// It costs three passes over the log for each active hart, one over the book's links, and a sort
-/// of these.
+/// It costs three passes over the log for each active hart, and some over the book's links.
 ///
 /// # Errors
 /// `NoMemory` where it could not be had; the book stays as it is.
@@ -30,17 +31,28 @@ pub fn find_cut(alloc: Global, book: &Book, active: &[u8]) -> Result<Cut, NoMemo
     }
     let model = book.model();
     let log = book.log();
-    let places = places_of(alloc, book.order()?.as_slice())?;
-    let mut ties = book.ties()?;
-    ties.sort_unstable_by_key(|tie| place_of(places.as_slice(), tie.from));
+    let ties = book.ties()?;
+    let late_first = late_first(alloc, book, ties.as_slice())?;
     let mut cut = Cut::behind(log);
-    keep_unsettled(alloc, model, log, ties.as_slice(), active, &mut cut)?;
+    keep_unsettled(alloc, model, log, late_first.as_slice(), active, &mut cut)?;
     keep_open(alloc, log, ties.as_slice(), &mut cut)?;
     if is_closed(ties.as_slice(), &cut) && closes_pairs(log, &cut) {
         Ok(cut)
     } else {
         Ok(Cut::new())
     }
+}
+
+/// The ties, those from operations that stand late in the book's order first.
+fn late_first(alloc: Global, book: &Book, ties: &[Tie]) -> Result<Vec<Tie>, NoMemory>
+    ensures { IfOk result (λ sorted. All (Contains ties.now) sorted.items) }
+{
+    let places = places_of(alloc, book.order()?.as_slice())?;
+    let mut keys = Vec::with_capacity(alloc, ties.len())?;
+    for tie in ties {
+        keys.push(place_of(places.as_slice(), tie.from))?;
+    }
+    in_order(alloc, ties, keys.as_slice())
 }
 
 /// How many operations stand behind each one in the order, by its hart and its number there.

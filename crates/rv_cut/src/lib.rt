@@ -24,6 +24,7 @@ mod closing;
 mod cut;
 mod find;
 mod marks;
+mod ordering;
 mod reach;
 
 pub use cut::Cut;

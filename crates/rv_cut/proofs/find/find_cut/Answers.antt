@@ -1,8 +1,7 @@
 -- What is found is a cut.
 use Rattle.std.proofs.Common.{IsTrue, List, arith, length, refl, subst, sym, ℕ, ◌≤◌}
 use Rattle.std.proofs.lemmas.List.Elements.{All-contains}
-use Rattle.std.proofs.lemmas.List.Sorted.{Contains-permutation, IsPermutation-sym}
-use Rattle.std.specs.List.{Contains}
+use Rattle.std.specs.List.{All, Contains}
 use Rattle.rv_edges.specs.Ties.{AreTiesOf}
 use Rattle.rv_edges.specs.declared.ties.Tie.{Tie}
 use Rattle.rv_event.proofs.Indexed.{indexed_from_WellFormed}
@@ -28,9 +27,9 @@ closes_pairs-requires c = indexed_from_WellFormed c.log-log.result.now
 
 pub keep_unsettled-requires-clause-edges : goal.keep_unsettled-requires-clause-edges
 keep_unsettled-requires-clause-edges c = λ t own.
-    let sorted = c.sort_unstable_by_key.new.self.items in
-    let listed = Contains-permutation sorted c.in_ok-ties.ties.items t
-    (IsPermutation-sym c.in_ok-ties.ties.items sorted c.sort_unstable_by_key.ensures.permutation)
+    let sorted = c.in_ok-late_first.late_first.items in
+    let listed = All-contains (Contains c.in_ok-ties.ties.items) sorted t
+    (subst (λ (ts : List Tie). All (Contains ts) sorted) c.as_slice.ensures.value c.in_ok-late_first.ensures)
     (subst (λ (ts : List Tie). Contains ts t) c.as_slice-2.ensures.value own) in
     subst (λ (m : MemoryModel). AnyEdge m (events c.log-log.result.now) t.from t.to) (sym c.model-model.ensures.value)
     (subst (λ (l : List Entry). AnyEdge c.args.book.now.model (events l) t.from t.to) (sym c.log-log.ensures.value)
@@ -60,9 +59,7 @@ returns-then-closes_pairs c =
     closed t own =
         All-contains (λ (x : Tie). IsTrue (is_past firsts x.to) → IsTrue (is_past firsts x.from))
         c.as_slice-4.result.now t (c.if-is_closed.ensures.0 refl)
-        (subst (λ (ts : List Tie). Contains ts t) (sym c.as_slice-4.ensures.value)
-        (Contains-permutation c.in_ok-ties.ties.items c.sort_unstable_by_key.new.self.items t
-        c.sort_unstable_by_key.ensures.permutation own))
+        (subst (λ (ts : List Tie). Contains ts t) (sym c.as_slice-4.ensures.value) own)
 
     settled : (p : Event) → Contains log p → IsMemory p → IsTrue (is_past firsts p.id) →
         IsSettled c.model-model.result log c.args.active.now p
