@@ -10,8 +10,8 @@ use Rattle.rv_event.proofs.Growing.{Grows, named-of_hart, All-from_contains}
 use Rattle.std.proofs.Common.{length-append, eq-eqb}
 use Rattle.std.proofs.lemmas.List.{get_or_append_left}
 use Rattle.std.proofs.lemmas.List.Elements.{All-contains, All-filter, Contains-append_left}
-use Rattle.rv_event.proofs.Indexed.{IndexedWithin, SoundWithin, AllSoundWithin, all_sound, find-append_some, writer-above}
-use Rattle.rv_event.proofs.Indexed.{wrote-own}
+use Rattle.rv_event.proofs.Indexed.{IndexedWithin, SoundWithin, AllSoundWithin, all_sound, find-append_some}
+use Rattle.rv_event.proofs.Indexed.{writer-above, wrote-own}
 use Rattle.rv_event.proofs.Merged.{Contains-filter}
 
 -- each hart's events stand at their numbers

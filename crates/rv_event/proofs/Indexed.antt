@@ -133,7 +133,8 @@ module _ {limit : ℕ} (log : List Event) (e : Event) (known : IndexedWithin lim
 
     -- a log stays indexed with an event that has no fault
     pub indexed-push : IndexedWithin limit (log ++ e ∷ [])
-    indexed-push = record { own = own'; below = below'; filled = filled'; written = written'; harts = harts'; few = few' }
+    indexed-push =
+        record { own = own'; below = below'; filled = filled'; written = written'; harts = harts'; few = few' }
 
 -- each event is sound over those before it
 abbrev pub AllSoundWithin : ℕ → List Event → List Event → Type 0

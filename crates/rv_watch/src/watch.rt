@@ -17,14 +17,14 @@ use std::alloc::Global;
 const MOST_OF_HART: usize = 4_096;
 
 /// How many events a window has before it is looked through for the first time.
-const FIRST_LOOK: usize = 32_768;
+const FIRST_LOOK: usize = 16_384;
 
 /// When a run forgets what it may.
 #[derive(Clone, Copy, PartialEq, Eq, Debug)]
 pub enum CutRule {
     /// After so many events; 0 is taken for 1.
     Every(u32),
-    /// Where the window has become four times as large as the last cut left it, and not below 32,768
+    /// Where the window has become four times as large as the last cut left it, and not below 16,384
     /// events. So what cuts cost stays in proportion to the events.
     Grown,
 }
