@@ -1,6 +1,6 @@
 -- What a row does to the stream of a feed.
-use Rattle.std.proofs.Common.{rules, ◌≡◌, ◌≢◌, ◌∙◌, inl, inr, ◌∷◌, [], ℕ, ◌+◌, ◌<◌, ◌≤◌, List, Option, None, Some}
-use Rattle.std.proofs.Common.{Ok, Err, Result, true, false, refl, option_map, nat_lt, arith}
+use Rattle.std.proofs.Common.{◌≡◌, ◌≢◌, ◌∙◌, inl, inr, ◌∷◌, [], ℕ, ◌+◌, ◌<◌, ◌≤◌, List, Option, None, Some}
+use Rattle.std.proofs.Common.{Ok, Err, true, false, refl, option_map, nat_lt, arith}
 use Rattle.csv.specs.Records.{Row, fields_of}
 use Rattle.rv_trace.specs.Faults.{IsOfTextOrMemory, is_of_text}
 use Rattle.rv_trace.specs.Feeds.{FeedStream, IsFeedFault, IsOver, Passes, TakesNext, and_then, feed_fault}

@@ -1,5 +1,5 @@
 -- Watches, the logs for which they stand, and why they stop. These are this project's own.
-use Rattle.std.specs.Prelude.{ℕ, ◌≡◌, ◌<◌, ◌&&◌, Bool, List, None, Some, count_by, length, min, nat_eq, not}
+use Rattle.std.specs.Prelude.{ℕ, ◌≡◌, ◌<◌, ◌&&◌, Bool, List, Some, count_by, length, min, nat_eq, not}
 use Rattle.std.specs.HashMap.{get}
 use Rattle.std.specs.HashSet.{contains}
 use Rattle.rv_book.specs.Booked.{IsForbiddenOn}

@@ -1,4 +1,4 @@
-use Rattle.std.proofs.Common.{◌⊎◌, ◌∙◌, inl, inr, sym, IsTrue}
+use Rattle.std.proofs.Common.{◌∙◌, inl, inr, sym, IsTrue}
 use Rattle.rv_insn.specs.Roles.{is_branch}
 use Rattle.rv_flow.proofs.flow.Flow.test.Goals as goal
 

@@ -1,6 +1,4 @@
 use Rattle.rv_trace.specs.Counted.{bytes_left}
-use Rattle.std.proofs.Common.{◌∙◌, ap, option_map}
-use Rattle.csv.specs.Reading.{strip_bom}
 use Rattle.rv_trace.proofs.Rests.{new-left}
 use Rattle.rv_trace.proofs.rows.Rows.of_counted.Goals as goal
 
