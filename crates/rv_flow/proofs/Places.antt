@@ -128,3 +128,17 @@ module _ (units : List Unit) (rows : List (List ℕ)) (unit : Unit) (row : List 
         };
         has = subst (λ (xs : List ℕ). Has xs n) (sym (old-row h.place h.is_place.within)) h.has;
       }
+
+-- what was set has the same events as the other row
+module _ (Old New : Unit → ℕ → Type 0) (unit : Unit) (Row Other : ℕ → Type 0) (same : (n : ℕ) → Row n ↔ Other n)
+    (is_set : (u : Unit) (n : ℕ) → New u n ↔ (((u ≡ unit) × Row n) ⊎ ((u ≡ unit → ⊥) × Old u n))) where
+  pub same-set : (u : Unit) (n : ℕ) → New u n ↔ (((u ≡ unit) × Other n) ⊎ ((u ≡ unit → ⊥) × Old u n))
+  same-set u n = (λ h. to ((is_set u n).0 h), λ h. (is_set u n).1 (from h))
+    where
+      to : ((u ≡ unit) × Row n) ⊎ ((u ≡ unit → ⊥) × Old u n) → ((u ≡ unit) × Other n) ⊎ ((u ≡ unit → ⊥) × Old u n)
+      to (inl (is, has)) = inl (is, (same n).0 has)
+      to (inr old) = inr old
+
+      from : ((u ≡ unit) × Other n) ⊎ ((u ≡ unit → ⊥) × Old u n) → ((u ≡ unit) × Row n) ⊎ ((u ≡ unit → ⊥) × Old u n)
+      from (inl (is, has)) = inl (is, (same n).1 has)
+      from (inr old) = inr old

@@ -25,6 +25,10 @@ has-copied old more new empty says n = (
   λ h. (has-joined old more new says n).1 (inr h),
 )
 
+-- a set with the same bits
+pub has-same : (row other : List ℕ) → ((j : ℕ) → has_bit row j ≡ has_bit other j) → (n : ℕ) → Has row n ↔ Has other n
+has-same row other same n = (λ h. sym (same n) ∙ h, λ h. same n ∙ h)
+
 -- a set with one number more
 pub has-inserted : (old new : List ℕ) (e : ℕ) → ((j : ℕ) → has_bit new j ≡ (has_bit old j || (e == j))) → (n : ℕ) →
     Has new n ↔ (Has old n ⊎ (e ≡ n))

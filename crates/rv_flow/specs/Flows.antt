@@ -76,6 +76,12 @@ abbrev pub Next : Flow → Step → Unit → ℕ → Type 0
 Next flow step to n =
     (step.event ≡ Some n) ⊎ ((p : Unit) × Carries step.insn p to × Holds flow p n)
 
+-- the unit has these events, and each other one those that it had
+abbrev pub IsNextSet : Flow → Step → Unit → Flow → Type 0
+IsNextSet old step unit new =
+    (u : Unit) (n : ℕ) →
+    Holds new u n ↔ (((u ≡ unit) × Next old step unit n) ⊎ ((u ≡ unit → ⊥) × Holds old u n))
+
 -- each destination has these events, and each other unit those that it had
 abbrev pub IsAfter : Flow → Step → Flow → Type 0
 IsAfter old step new =

@@ -8,7 +8,7 @@ ghost use Rattle.rv_rows.specs.Bits.{Has, has_bit};
 
 use crate::step::Step;
 use rv_insn::{
-    Insn, Unit, address_source, carried_to, data_source, destinations, is_branch, sources,
+    Flag, Insn, Unit, address_source, carried_to, data_source, destinations, is_branch, sources,
 };
 use rv_rows::Row;
 use std::alloc::{AllocError, Global};
@@ -33,27 +33,35 @@ pub struct Flow {
     /// What a unit holds that was not written: nothing.
     nothing: Row,
     /// Where units are looked for first; a hint may be wrong.
-    hints: [u8; 64],
+    hints: [u8; 71],
     ghost same: { length units.items ≡ length rows.items },
     ghost distinct: { AllPairs (λ u v. u ≢ v) units.items },
     ghost empty: { (n : ℕ) → has_bit nothing n ≡ false },
 }
 
-/// Which hint is the unit's: each register has one of its own.
+/// Which hint is the unit's: each has one of its own, but CSRs that are tracked as a whole share
+/// one.
 fn hint_of(unit: Unit) -> usize
-    ensures { result < 64 }
+    ensures { result < 71 }
 {
     match unit {
         Unit::X(number) => (number % 32) as usize,
         Unit::F(number) => 32 + (number % 32) as usize,
-        Unit::Accrued(_) | Unit::Frm | Unit::Csr(_) => 0,
+        Unit::Accrued(Flag::Nx) => 64,
+        Unit::Accrued(Flag::Uf) => 65,
+        Unit::Accrued(Flag::Of) => 66,
+        Unit::Accrued(Flag::Dz) => 67,
+        Unit::Accrued(Flag::Nv) => 68,
+        Unit::Frm => 69,
+        Unit::Csr(_) => 70,
     }
 }
 
 impl Flow {
     ghost use Rattle.rv_flow.specs.Dependencies.{HasAddress, HasControl, HasData, IsSource};
     ghost use Rattle.rv_flow.specs.Flows.{HasRoom, Holds, IsAfter, IsAfterOthers, IsFlowOf, OfNext};
-    ghost use Rattle.rv_flow.specs.Flows.{IsPlace, IsSame, IsSet, Lacks, Next, Tests, with_next};
+    ghost use Rattle.rv_flow.specs.Flows.{IsNextSet, IsPlace, IsSame, IsSet, Lacks, Next, Tests};
+    ghost use Rattle.rv_flow.specs.Flows.{with_next};
 
     /// Before any instruction. It takes no memory.
     pub fn new(alloc: Global) -> Flow
@@ -65,7 +73,7 @@ impl Flow {
             rows: Vec::new(alloc),
             tested: Row::new(),
             nothing: Row::new(),
-            hints: [0; 64],
+            hints: [0; 71],
         }
     }
 
@@ -159,21 +167,21 @@ impl Flow {
         row.join(self.held_by(unit));
     }
 
-    /// The events from which the instruction computes what it puts into the unit.
-    fn next_row(&self, step: Step, to: Unit) -> Row
+    /// Puts the events from which the instruction computes what it puts into the unit in place of
+    /// what the row has.
+    fn gather_next(&self, step: Step, to: Unit, row: &mut Row)
         requires { IfSome step.event (λ n. n < 4096) }
-        ensures { (n : ℕ) → Has result n ↔ Next self.now step to n }
+        ensures { (n : ℕ) → Has row.new n ↔ Next self.now step to n }
     {
-        let mut row = Row::new();
+        row.clear();
         if let Some(event) = step.event {
             row.insert(event as usize);
         }
         for source in carried_to(step.insn, to) {
             if let Some(from) = source {
-                self.gather(from, &mut row);
+                self.gather(from, row);
             }
         }
-        row
     }
 
     /// Makes room for so many units more.
@@ -186,20 +194,45 @@ impl Flow {
     }
 
     /// Gives the unit these events. There is room for one more.
-    fn set(&mut self, unit: Unit, row: Row)
+    fn set(&mut self, unit: Unit, row: &Row)
         requires { HasRoom self.old 1 }
-        ensures set { IsSet self.old unit row self.new }
+        ensures set { IsSet self.old unit row.now self.new }
         ensures tested { self.new.tested ≡ self.old.tested }
         ensures room { (more : ℕ) → HasRoom self.old (more + 1) → HasRoom self.new more }
     {
         match self.place(unit) {
-            Some(place) => self.rows[place] = row,
-            None => {
-                self.hints[hint_of(unit)] = (self.units.len() % 256) as u8;
-                self.units.push_reserved(unit);
-                self.rows.push_reserved(row);
-            }
+            Some(place) => self.rows[place].assign(row),
+            None => self.add(unit, row),
         }
+    }
+
+    /// Gives a unit that was not written these events. There is room for one more.
+    fn add(&mut self, unit: Unit, row: &Row)
+        requires new { Lacks self.old.units.items unit }
+        requires room { HasRoom self.old 1 }
+        ensures set { IsSet self.old unit row.now self.new }
+        ensures tested { self.new.tested ≡ self.old.tested }
+        ensures room { (more : ℕ) → HasRoom self.old (more + 1) → HasRoom self.new more }
+    {
+        let mut own = Row::new();
+        own.assign(row);
+        self.hints[hint_of(unit)] = (self.units.len() % 256) as u8;
+        self.units.push_reserved(unit);
+        self.rows.push_reserved(own);
+    }
+
+    /// Gives the unit the events from which the instruction computes what it puts there. There is
+    /// room for one more.
+    fn set_next(&mut self, step: Step, to: Unit)
+        requires room { HasRoom self.old 1 }
+        requires few { IfSome step.event (λ n. n < 4096) }
+        ensures set { IsNextSet self.old step to self.new }
+        ensures tested { self.new.tested ≡ self.old.tested }
+        ensures room { (more : ℕ) → HasRoom self.old (more + 1) → HasRoom self.new more }
+    {
+        let mut row = Row::new();
+        self.gather_next(step, to, &mut row);
+        self.set(to, &row);
     }
 
     /// Gives each destination of the instruction but rd its events. There is room for seven more.
@@ -215,8 +248,7 @@ impl Flow {
     {
         for place in 0..7 {
             if let Some(unit) = to[place + 1] {
-                let row = self.next_row(step, unit);
-                self.set(unit, row);
+                self.set_next(step, unit);
             }
         }
     }
@@ -264,9 +296,10 @@ impl Flow {
         let to = destinations(step.insn);
         match to[0] {
             Some(unit) => {
-                let row = self.next_row(step, unit);
+                let mut row = Row::new();
+                self.gather_next(step, unit, &mut row);
                 self.set_others(step, &to);
-                self.set(unit, row);
+                self.set(unit, &row);
             }
             None => self.set_others(step, &to),
         }

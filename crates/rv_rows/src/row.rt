@@ -59,6 +59,26 @@ impl Row {
         self.high = high;
     }
 
+    /// Takes all numbers out. It costs a step for each word from the set's first number to its last.
+    pub fn clear(&mut self)
+        ensures { (j : ℕ) → has_bit self.new j ≡ false }
+    {
+        'words: for k in self.low..self.high {
+            self.words[k] = 0;
+        }
+        self.low = 64;
+        self.high = 0;
+    }
+
+    /// Makes the set the same as the other one. It costs a step for each word of the two, from the
+    /// first number of each to its last.
+    pub fn assign(&mut self, other: &Row)
+        ensures { (j : ℕ) → has_bit self.new j ≡ has_bit other.now j }
+    {
+        self.clear();
+        self.join(other);
+    }
+
     /// Puts in all that the other set has. It costs a step for each word of the other set from its
     /// first number to its last.
     pub fn join(&mut self, other: &Row)

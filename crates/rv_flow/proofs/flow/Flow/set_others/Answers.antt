@@ -4,7 +4,6 @@ use Rattle.std.proofs.Common.{List, Option, Some, None, get_or, take}
 use Rattle.std.proofs.lemmas.List.{take_all}
 use Rattle.rv_insn.specs.Roles.{Carries}
 use Rattle.rv_insn.specs.declared.unit.Unit.{Unit}
-use Rattle.rv_rows.specs.Bits.{Has}
 use Rattle.rv_flow.specs.Destinations.{others}
 use Rattle.rv_flow.specs.Flows.{HasRoom, Holds, Next}
 use Rattle.rv_flow.specs.declared.flow.Flow.{Flow}
@@ -28,23 +27,20 @@ loop-place-init c = record {
   after = after-none (Next c.args.self.now c.args.step) (Holds c.args.self.now);
 }
 
-pub set-requires : goal.set-requires
-set-requires c = less-room (0 + (7 - c.loop-place.place)) 1
+pub set_next-requires-clause-room : goal.set_next-requires-clause-room
+set_next-requires-clause-room c = less-room (0 + (7 - c.loop-place.place)) 1
     (let low = c.loop-place-test.true in omega (low, arith)) (c.loop-place.invariant.room 0 c.requires.room)
 
 pub loop-place-preserved : goal.loop-place-preserved
 loop-place-preserved c = elim c.match-to-place.branch [
   | in-Some w ↦ rw w.self-is record {
-    room = λ more room. w.set.ensures.room (more + (7 - (k + 1)))
+    room = λ more room. w.set_next.ensures.room (more + (7 - (k + 1)))
         (less-room (more + (7 - k)) (more + (7 - (k + 1)) + 1) (omega (low, arith))
         (c.loop-place.invariant.room more room));
-    tested = w.set.ensures.tested ∙ c.loop-place.invariant.tested;
+    tested = w.set_next.ensures.tested ∙ c.loop-place.invariant.tested;
     after = after-set items k low (Next old step) (Holds old) (Holds c.loop-place.self) c.loop-place.invariant.after
-        (Holds w.set.new.self) w.in-Some.unit (is ∙ w.in-Some.is) (Has w.next_row-row.result)
-        (λ n. (
-          λ has. (same w.in-Some.unit (is ∙ w.in-Some.is) n).0 ((w.next_row-row.ensures n).0 has),
-          λ next. (w.next_row-row.ensures n).1 ((same w.in-Some.unit (is ∙ w.in-Some.is) n).1 next),
-        )) w.set.ensures.set;
+        (Holds w.set_next.new.self) w.in-Some.unit (is ∙ w.in-Some.is) (Next c.loop-place.self step w.in-Some.unit)
+        (same w.in-Some.unit (is ∙ w.in-Some.is)) w.set_next.ensures.set;
   }
   | in_default w ↦ rw w.self-is record {
     room = λ more room. less-room (more + (7 - k)) (more + (7 - (k + 1))) (omega (low, arith))

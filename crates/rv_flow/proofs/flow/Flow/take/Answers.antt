@@ -9,7 +9,7 @@ use Rattle.rv_flow.proofs.flow.Flow.take.Goals as goal
 pub returns-in-Some-clause-after : goal.returns-in-Some-clause-after
 returns-in-Some-clause-after c = with-rd c.args.step.insn (Next c.args.self.now c.args.step) (Holds c.args.self.now)
     (Holds c.set_others.new.self) c.set_others.ensures.after (Holds c.set.new.self) c.in-Some.unit
-    (rw c.destinations-to.ensures at c.in-Some.is) (Has c.next_row-row.result) c.next_row-row.ensures c.set.ensures.set
+    (rw c.destinations-to.ensures at c.in-Some.is) (Has c.gather_next.new.row) c.gather_next.ensures c.set.ensures.set
 
 pub set-requires : goal.set-requires
 set-requires c = c.set_others.ensures.room 1 c.requires.room

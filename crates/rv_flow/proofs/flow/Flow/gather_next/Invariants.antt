@@ -4,7 +4,7 @@ use Rattle.rv_insn.specs.Roles.{Carries}
 use Rattle.rv_insn.specs.declared.unit.Unit.{Unit}
 use Rattle.rv_rows.specs.Bits.{Has}
 use Rattle.rv_flow.specs.Flows.{Holds}
-use Rattle.rv_flow.proofs.flow.Flow.next_row.Given as goal
+use Rattle.rv_flow.proofs.flow.Flow.gather_next.Given as goal
 
 abbrev pub invariant-loop-source : goal.invariant-loop-source
 invariant-loop-source l =

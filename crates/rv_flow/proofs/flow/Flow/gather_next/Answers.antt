@@ -5,8 +5,8 @@ use Rattle.rv_insn.specs.Roles.{Carries}
 use Rattle.rv_insn.specs.declared.unit.Unit.{Unit}
 use Rattle.rv_flow.specs.Flows.{Holds}
 use Rattle.rv_flow.proofs.Gathering.{gather-more, gather-none, gathered}
-use Rattle.rv_flow.proofs.flow.Flow.next_row.Goals as goal
-use Rattle.rv_flow.proofs.flow.Flow.next_row.Goals.{in-Some-source, in_default-source}
+use Rattle.rv_flow.proofs.flow.Flow.gather_next.Goals as goal
+use Rattle.rv_flow.proofs.flow.Flow.gather_next.Goals.{in-Some-source, in_default-source}
 
 pub loop-source-preserved : goal.loop-source-preserved
 loop-source-preserved c = elim c.match-source.branch [
