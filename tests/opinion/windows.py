@@ -2,11 +2,12 @@
 
 import re
 
-from opinion.model import certifies
+from opinion.model import certifies, is_edge
 from opinion.outcomes import possible_outcomes
 
 CUT_EACH = 8
 LAST_HART = 15
+PAST = re.compile(r"past: (h\S+) (from-read|coherence|reads-from|atomic-out) word ([0-9]+) version ([0-9]+)")
 
 
 def window_words(trace):
@@ -24,10 +25,11 @@ def window_outcomes(trace):
     return None if is_other else outcomes
 
 
-def complaint_of_window(trace, answer, outcomes):
-    """What is wrong with an answer; or None. Of a refusal by what was forgotten only the event is compared, and of a
-    version that a forgotten store wrote the event and the fault. A hart has ended with its source, so an event of it
-    in another one can't be judged."""
+def complaint_of_window(trace, answers, outcomes):
+    """What is wrong with two answers, the second one of which reads the sources again where an event comes before what
+    was forgotten; or None. Of a version that a forgotten store wrote the event and the fault are compared. A hart has
+    ended with its source, so an event of it in another one can't be judged."""
+    answer, rechecked = answers
     if len(trace.sources) > 1 and answer.returncode == 3 and answer.stderr.endswith(", or it has ended\n"):
         return None
     lines = answer.stdout.splitlines()
@@ -37,9 +39,43 @@ def complaint_of_window(trace, answer, outcomes):
     is_taken = first.endswith(": fault 5 version taken")
     if not (any(outcome.startswith(first + " by ") for outcome in outcomes) if is_taken else first in outcomes):
         return "the outcome is none of those possible"
-    outcome, event = first.split(" ")[:2]
+    outcome = first.split(" ")[0]
     if answer.returncode != {"allowed:": 0, "forbidden:": 1, "malformed:": 2}[outcome]:
         return "the status is not that of the outcome"
-    if outcome == "forbidden:" and rest != [f"past: {event} comes before what every hart has passed"]:
-        return None if any(certifies(log, rest) for log in outcomes[first]) else "the certificate is none"
-    return "more is said" if rest and outcome != "forbidden:" else None
+    if outcome != "forbidden:":
+        return "more is said" if rest else complaint_of_same(answer, rechecked)
+    if not rest[0].startswith("past: "):
+        is_shown = any(certifies(log, rest) for log in outcomes[first])
+        return complaint_of_same(answer, rechecked) if is_shown else "the certificate is none"
+    if not any(leads_back(log, rest) for log in outcomes[first]):
+        return "there is no such edge to what was forgotten"
+    return complaint_of_recheck(first, rechecked, outcomes[first])
+
+
+def complaint_of_same(answer, rechecked):
+    """What is wrong where nothing is read again."""
+    is_same = (answer.returncode, answer.stdout, answer.stderr) == (
+        rechecked.returncode,
+        rechecked.stdout,
+        rechecked.stderr,
+    )
+    return None if is_same else "with --recheck it is another answer"
+
+
+def complaint_of_recheck(first, rechecked, logs):
+    """What is wrong with the circle of an event that comes before what was forgotten."""
+    again, *rest = rechecked.stdout.splitlines() or [""]
+    if again != first or rechecked.returncode != 1 or rechecked.stderr:
+        return "with --recheck it is another outcome"
+    return None if any(certifies(log, rest) for log in logs) else "the circle of --recheck is none"
+
+
+def leads_back(log, lines):
+    """The one line tells an edge of the log from its last event."""
+    past = PAST.fullmatch(lines[0]) if len(lines) == 1 else None
+    if not past or past[1] != log.events[-1].name:
+        return False
+    _, reason, word, version = past.groups()
+    ends = (b for b in log.events if b.word == int(word))
+    ends = (b for b in ends if int(version) == (b.read if reason == "reads-from" else b.wrote))
+    return any(is_edge(log, past[1], reason, b.name) for b in ends)

@@ -47,22 +47,92 @@ impl Later {
     }
 }
 
-/// Marks the operations of the hart that stand before its later loads, or before its later stores:
-/// by an annotation, by a fence, and before stores by a branch or an address that depends on them.
+/// Marks the operations of each hart that stand before its later loads, and those that stand before
+/// its later stores: by an annotation, by a fence, and before stores by a branch or an address that
+/// depends on them.
 ///
-/// It costs three passes over the log.
-pub fn mark_bars(model: MemoryModel, log: &[Entry], hart: u8, later: Later, marks: &mut Marks)
-    requires { hart < 16 }
+/// It costs two passes over the log.
+pub fn mark_bars(model: MemoryModel, log: &[Entry], marks: &mut Marks)
     ensures { AreMarked model (events log.now) marks.old → AreMarked model (events log.now) marks.new }
 {
-    let after_loads = last_fence(log, hart, Op::Load, later);
-    let after_stores = last_fence(log, hart, Op::Store, later);
+    let fences = last_fences(log);
     for entry in log {
-        if entry.event.id.hart == hart {
-            mark_bar(model, &entry.event, later, after_loads, after_stores, marks);
-            mark_sources(&entry.event, later, marks);
+        if entry.event.id.hart < 16 {
+            mark_event(model, log, &fences, &entry.event, Later::Loads, marks);
+            mark_event(model, log, &fences, &entry.event, Later::Stores, marks);
         }
     }
+}
+
+/// Of each hart, and of each kind of operations before and after a fence, the place in the log of
+/// its last fence that orders these; a place behind the log where there is none.
+///
+/// That it is the last one is not promised, as nothing rests on it but how much is found.
+fn last_fences(log: &[Entry]) -> [usize; 64] {
+    let mut last = [usize::MAX; 64];
+    'entries: for place in 0..log.len() {
+        let event = &log[place].event;
+        if matches!(event.op, Op::Fence { .. } | Op::FenceTso) {
+            note_fence(&mut last, event, place);
+        }
+    }
+    last
+}
+
+/// Notes that the fence is the last one of its hart for each kind that it orders.
+fn note_fence(last: &mut [usize; 64], fence: &Event, place: usize) {
+    for before in [Op::Load, Op::Store] {
+        for later in [Later::Loads, Later::Stores] {
+            if does_order(fence.op, before, later.op()) {
+                if let Some(known) = last.get_mut(fence_place(fence.id.hart, before, later)) {
+                    *known = place;
+                }
+            }
+        }
+    }
+}
+
+/// Where it is noted which fence of the hart is the last one for these kinds.
+fn fence_place(hart: u8, before: Op, later: Later) -> usize {
+    let after_stores = if before == Op::Store { 2 } else { 0 };
+    let before_stores = if later == Later::Stores { 1 } else { 0 };
+    4 * hart as usize + after_stores + before_stores
+}
+
+/// The hart's last fence for these kinds, where there is one.
+fn last_fence<'a>(
+    log: &'a [Entry],
+    fences: &[usize; 64],
+    hart: u8,
+    before: Op,
+    later: Later,
+) -> Option<&'a Event>
+    ensures { IfSome (option_copied result) (Contains (events log.now)) }
+{
+    let place = fences.get(fence_place(hart, before, later))?;
+    let entry = log.get(*place)?;
+    Some(&entry.event)
+}
+
+/// Marks the event where it stands before later operations of the kind, and those that stand there
+/// because it depends on them.
+fn mark_event(
+    model: MemoryModel,
+    log: &[Entry],
+    fences: &[usize; 64],
+    event: &Event,
+    later: Later,
+    marks: &mut Marks,
+)
+    requires { event.now.id.hart < 16 }
+    ensures { Contains (events log.now) event.now →
+        AreMarked model (events log.now) marks.old → AreMarked model (events log.now) marks.new }
+{
+    let hart = event.id.hart;
+    let after_loads = last_fence(log, fences, hart, Op::Load, later);
+    let after_stores = last_fence(log, fences, hart, Op::Store, later);
+    mark_bar(model, event, later, after_loads, after_stores, marks);
+    mark_sources(event, later, marks);
 }
 
 /// Marks the event where it stands there.
@@ -100,20 +170,6 @@ fn is_bar(
         && (is_annotated(model, event, later)
             || is_fenced(event, after_loads, later)
             || is_fenced(event, after_stores, later))
-}
-
-/// The hart's last fence that orders such an operation before later ones of the kind.
-fn last_fence(log: &[Entry], hart: u8, before: Op, later: Later) -> Option<&Event>
-    ensures { IfSome (option_copied result) (Contains (events log.now)) }
-{
-    let mut last = None;
-    for entry in log {
-        let event = &entry.event;
-        if event.id.hart == hart && does_order(event.op, before, later.op()) {
-            last = Some(event);
-        }
-    }
-    last
 }
 
 /// Whether the fence stands behind the event and orders it before later operations of the kind.

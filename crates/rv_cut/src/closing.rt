@@ -14,6 +14,21 @@ use rv_edges::Tie;
 use rv_event::{Entry, Event, NoMemory, Op};
 use std::alloc::Global;
 
+/// Keeps more where that is needed, until no edge leads into the past from an event that is kept, and
+/// no LR of the past is without an SC of the past behind it.
+///
+/// # Errors
+/// `NoMemory` where a list could not be had; the cut may be lower than before.
+pub fn close(alloc: Global, log: &[Entry], ties: &[Tie], cut: &mut Cut) -> Result<(), NoMemory>
+    requires { Indexed (events log.now) }
+    ensures { AreLower cut.old cut.new }
+{
+    if is_closed(ties, cut) && closes_pairs(log, cut) {
+        return Ok(());
+    }
+    keep_open(alloc, log, ties, cut)
+}
+
 /// Keeps more, until no edge leads into the past from an event that is kept, and no LR of the past
 /// is without an SC of the past behind it. It looks at each edge and each LR once.
 ///
@@ -22,7 +37,7 @@ use std::alloc::Global;
 ///
 /// # Errors
 /// `NoMemory` where a list could not be had; the cut may be lower than before.
-pub fn keep_open(alloc: Global, log: &[Entry], ties: &[Tie], cut: &mut Cut) -> Result<(), NoMemory>
+fn keep_open(alloc: Global, log: &[Entry], ties: &[Tie], cut: &mut Cut) -> Result<(), NoMemory>
     ensures { AreLower cut.old cut.new }
 {
     let mut pulls = Vec::from_slice(alloc, ties)?;

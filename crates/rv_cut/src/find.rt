@@ -3,7 +3,7 @@ ghost use Rattle.std.specs.Prelude.{All, Contains, IfOk};
 ghost use Rattle.rv_event.specs.Log.{events};
 ghost use Rattle.rv_cut.specs.Cuts.{IsCutOf};
 
-use crate::closing::{closes_pairs, is_closed, keep_open};
+use crate::closing::{close, closes_pairs, is_closed};
 use crate::cut::Cut;
 use crate::ordering::in_order;
 use crate::reach::keep_unsettled;
@@ -19,7 +19,7 @@ use std::alloc::Global;
 /// The cut is as high as it may be: an event is kept only where it or one that pulls it with it is
 /// not settled. That is not proved: a cut with no past would keep the contract too.
 ///
-/// It costs three passes over the log for each active hart, and some over the book's links.
+/// It costs some passes over the log and over the book's links.
 ///
 /// # Errors
 /// `NoMemory` where it could not be had; the book stays as it is.
@@ -35,7 +35,7 @@ pub fn find_cut(alloc: Global, book: &Book, active: &[u8]) -> Result<Cut, NoMemo
     let late_first = late_first(alloc, book, ties.as_slice())?;
     let mut cut = Cut::behind(log);
     keep_unsettled(alloc, model, log, late_first.as_slice(), active, &mut cut)?;
-    keep_open(alloc, log, ties.as_slice(), &mut cut)?;
+    close(alloc, log, ties.as_slice(), &mut cut)?;
     if is_closed(ties.as_slice(), &cut) && closes_pairs(log, &cut) {
         Ok(cut)
     } else {

@@ -39,23 +39,19 @@ pub fn keep_unsettled(
     ensures lower { AreLower cut.old cut.new }
 {
     let mut marks = Marks::new(alloc, log)?;
-    let wanted = mark_all(model, log, active, &mut marks);
+    mark_bars(model, log, &mut marks);
     mark_sources(ties, &mut marks);
-    keep_unmarked(log, &marks, wanted, cut);
+    keep_unmarked(log, &marks, places_of(active), cut);
     Ok(())
 }
 
-/// Marks the operations of each hart that stand before its later loads or stores. It answers the
-/// mark with all places of these harts.
-fn mark_all(model: MemoryModel, log: &[Entry], active: &[u8], marks: &mut Marks) -> u32
+/// The mark with both places of each of these harts.
+fn places_of(active: &[u8]) -> u32
     requires { (hart : ℕ) → Contains active.now hart → hart < 16 }
-    ensures marked { AreMarked model (events log.now) marks.old → AreMarked model (events log.now) marks.new }
-    ensures all { HasAll active.now result }
+    ensures { HasAll active.now result }
 {
     let mut all = 0;
     for hart in active {
-        mark_bars(model, log, *hart, Later::Loads, marks);
-        mark_bars(model, log, *hart, Later::Stores, marks);
         all = all | Later::Loads.mark(*hart) | Later::Stores.mark(*hart);
     }
     all

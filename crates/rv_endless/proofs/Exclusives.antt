@@ -1,68 +1,125 @@
 -- The last LR, SC or failed SC of a hart, and the LR with which an SC is paired.
 use Rattle.rv_endless.specs.Partners.{IsExclusiveOf, IsLastExclusive}
+use Rattle.rv_endless.proofs.Forgotten.{split-at}
 use Rattle.rv_event.proofs.Growing.{All-from_contains}
-use Rattle.rv_event.proofs.Indexed.{Indexed}
-use Rattle.rv_event.specs.Log.{Between, Earlier, named, of_hart}
+use Rattle.rv_event.proofs.Indexed.{Indexed, IndexedWithin, SoundWithin, indexed_from_WellFormed, sound_from_none}
+use Rattle.rv_event.proofs.Names.{Contains-map, Contains-mapped}
+use Rattle.rv_event.proofs.Pushed.{WellFormed-front, WellFormed-last}
+use Rattle.rv_event.specs.Faults.{deps_fault, source_fault}
+use Rattle.rv_event.specs.Log.{Between, Earlier, events, named, of_hart}
+use Rattle.rv_event.specs.WellFormed.{WellFormed}
+use Rattle.rv_event.specs.declared.event.Entry.{Entry}
 use Rattle.rv_event.specs.Operations.{is_exclusive}
 use Rattle.rv_event.specs.Relations.{Paired}
 use Rattle.rv_event.specs.declared.event.Event.{Event}
 use Rattle.rv_event.specs.declared.event.Op.TheVariants.{Lr, Sc}
 use Rattle.rv_past.specs.Laws.{IsPartner}
-use Rattle.std.proofs.Common.{Bool, IsFalse, IsTrue, List, None, Option, Some, ap, arith, false}
+use Rattle.std.proofs.Common.{Bool, IsFalse, IsTrue, List, None, Some, ap, arith, false}
 use Rattle.std.proofs.Common.{inl, inr, length, refl, subst, sym, true, ℕ, [], ◌++◌, ◌<◌, ◌∙◌, ◌∷◌}
 use Rattle.std.proofs.Common.{◌≡◌, ◌≤◌, ◌⊎◌}
-use Rattle.std.proofs.lemmas.Bool.{cases_lt, false≢true}
-use Rattle.std.proofs.lemmas.List.Elements.{All-contains, Contains-append_left, Contains-push}
+use Rattle.std.proofs.Common.{drop, get_or, take, ◌+◌}
+use Rattle.std.proofs.lemmas.Bool.{cases_lt, cases_order, false≢true}
+use Rattle.std.proofs.lemmas.List.{append_assoc, get_or_default, get_or-take, length-take}
+use Rattle.std.proofs.lemmas.List.Elements.{All-contains, Contains-append_left}
 use Rattle.std.proofs.lemmas.List.Elements.{Contains-push_cases}
 use Rattle.std.proofs.lemmas.Option.{same_Some}
 use Rattle.std.specs.List.{Contains}
 
-module _ (log : List Event) (hart : ℕ) (e : Event) where
-  -- an event that is not one of them leaves the last as it is
-  pub last-stays : (o : Option Event) → (IsExclusiveOf (log ++ e ∷ []) hart e → ⊥) → IsLastExclusive log hart o →
-      IsLastExclusive (log ++ e ∷ []) hart o
-  last-stays None none before = λ m is. elim (Contains-push_cases log e m is.of_log) [
-    | inl old ↦ before m (record { of_log = old; own = is.own; exclusive = is.exclusive })
-    | inr same ↦ none (subst (IsExclusiveOf (log ++ e ∷ []) hart) (sym same) is)
-  ]
-  last-stays (Some l) none (there, highest) = (
-    record { of_log = Contains-append_left log (e ∷ []) l there.of_log; own = there.own; exclusive = there.exclusive },
-    λ m is. elim (Contains-push_cases log e m is.of_log) [
-      | inl old ↦ highest m (record { of_log = old; own = is.own; exclusive = is.exclusive })
-      | inr same ↦ absurd (none (subst (IsExclusiveOf (log ++ e ∷ []) hart) (sym same) is))
-    ],
+-- the entry is an LR, SC or failed SC of the hart
+abbrev pub IsOne : ℕ → Entry → Type 0
+IsOne hart x = (x.event.id.hart ≡ hart) × IsTrue (is_exclusive x.event.op)
+
+-- from this place on the log has none
+abbrev pub NoneFrom : List Entry → ℕ → ℕ → Type 0
+NoneFrom log hart k = (j : ℕ) (x : Entry) → k ≤ j → j < length log → get_or log j x ≡ x → IsOne hart x → ⊥
+
+-- what stands at a place is one entry
+same-entry : (log : List Entry) (k : ℕ) (x y : Entry) → k < length log → get_or log k x ≡ x → get_or log k y ≡ y →
+    x ≡ y
+same-entry log k x y low at there = sym at ∙ get_or_default log k x y low ∙ there
+
+-- nor has it from the place before on, where the entry there is none
+pub none-more : (log : List Entry) (hart k : ℕ) (x : Entry) → k < length log → get_or log k x ≡ x →
+    (IsOne hart x → ⊥) → NoneFrom log hart (k + 1) → NoneFrom log hart k
+none-more log hart k x low at not none j y high inside there one = elim (cases_order j k) [
+  | inl here ↦ not (subst (IsOne hart)
+      (same-entry log k y x low (subst (λ (i : ℕ). get_or log i y ≡ y) here there) at) one)
+  | inr (inl less) ↦ absurd (omega (arith, less, high))
+  | inr (inr more) ↦ none j y (omega (arith, more)) inside there one
+]
+
+-- where it has none at all, there is no last
+pub last-none : (log : List Entry) (hart : ℕ) → NoneFrom log hart 0 → IsLastExclusive (events log) hart None
+last-none log hart none e is =
+    let x = Contains-map (λ (y : Entry). y.event) log e is.of_log in
+    let (j, low, at) = x.1 in
+    none j x.0 (omega arith) low at (
+      ap (λ (m : Event). m.id.hart) x.2 ∙ is.own,
+      ap (λ (m : Event). is_exclusive m.op) x.2 ∙ is.exclusive,
+    )
+
+module _ (log : List Entry) (hart k : ℕ) (x : Entry) (formed : WellFormed log) (low : k < length log)
+    (at : get_or log k x ≡ x) (one : IsOne hart x) (none : NoneFrom log hart (k + 1)) where
+  parts : log ≡ take k log ++ x ∷ drop (k + 1) log
+  parts = split-at log k low x (sym at)
+
+  front : WellFormed (take k log ++ x ∷ [])
+  front = WellFormed-front (take k log ++ x ∷ []) (drop (k + 1) log)
+      (subst WellFormed (parts ∙ sym (append_assoc (take k log) (x ∷ []) (drop (k + 1) log))) formed)
+
+  before : IndexedWithin 4096 (events (take k log))
+  before = indexed_from_WellFormed (take k log) (WellFormed-front (take k log) (x ∷ []) front)
+
+  sound : SoundWithin 4096 (events (take k log)) x.event
+  sound = sound_from_none (events (take k log)) x.event (source_fault (take k log) x ∷ deps_fault x.event ∷ [])
+      (WellFormed-last (take k log) x front)
+
+  -- those before it have lower numbers
+  lower : (m : Event) → Contains (events (take k log)) m → m.id.hart ≡ hart → m.id.seq ≤ x.event.id.seq
+  lower m c own =
+      let less = before.below m c in
+      let same = ap (λ (h : ℕ). length (of_hart h (events (take k log)))) (own ∙ sym one.0) in
+      let number = sound.seq in
+      omega (arith, less, same, number)
+
+  in-front : (j : ℕ) (y : Entry) → j < k → get_or log j y ≡ y → Contains (take k log) y
+  in-front j y less there = (
+    j,
+    (let long = length-take k log in omega (arith, long, low, less)),
+    get_or-take k log j y less ∙ there,
   )
 
-  -- one that is lower than the last does too
-  pub last-higher : (l : Event) → e.id.seq ≤ l.id.seq → IsLastExclusive log hart (Some l) →
-      IsLastExclusive (log ++ e ∷ []) hart (Some l)
-  last-higher l lower (there, highest) = (
-    record { of_log = Contains-append_left log (e ∷ []) l there.of_log; own = there.own; exclusive = there.exclusive },
-    λ m is. elim (Contains-push_cases log e m is.of_log) [
-      | inl old ↦ highest m (record { of_log = old; own = is.own; exclusive = is.exclusive })
-      | inr same ↦ subst (λ (x : Event). x.id.seq ≤ l.id.seq) same lower
-    ],
-  )
-
-  -- and else it is the last
-  pub last-new : (o : Option Event) → e.id.hart ≡ hart → IsTrue (is_exclusive e.op) → IsLastExclusive log hart o →
-      ((l : Event) → o ≡ Some l → l.id.seq ≤ e.id.seq) → IsLastExclusive (log ++ e ∷ []) hart (Some e)
-  last-new o own exclusive before higher = (
-    record { of_log = Contains-push log e; own = own; exclusive = exclusive },
-    λ m is. elim (Contains-push_cases log e m is.of_log) [
-      | inl old ↦ below m (record { of_log = old; own = is.own; exclusive = is.exclusive })
-      | inr same ↦ subst (λ (x : Event). x.id.seq ≤ e.id.seq) same (omega arith)
-    ],
+  -- so it is the last
+  pub last-found : IsLastExclusive (events log) hart (Some x.event)
+  last-found = (
+    record {
+      of_log = Contains-mapped (λ (y : Entry). y.event) log x (k, low, at);
+      own = one.0;
+      exclusive = one.1;
+    },
+    λ m is. highest m is,
   )
     where
-      go : (p : Option Event) → o ≡ p → IsLastExclusive log hart p → (m : Event) → IsExclusiveOf log hart m →
-          m.id.seq ≤ e.id.seq
-      go None is none m there = absurd (none m there)
-      go (Some l) is (_, highest) m there =
-          let one = highest m there in let two = higher l is in omega (arith, one, two)
-
-      below : (m : Event) → IsExclusiveOf log hart m → m.id.seq ≤ e.id.seq
-      below = go o refl before
+      highest : (m : Event) → IsExclusiveOf (events log) hart m → m.id.seq ≤ x.event.id.seq
+      highest m is =
+          let y = Contains-map (λ (z : Entry). z.event) log m is.of_log in
+          let (j, inside, there) = y.1 in
+          go j inside y.0 there y.2 (cases_order j k)
+        where
+          go : (j : ℕ) → j < length log → (y : Entry) → get_or log j y ≡ y → y.event ≡ m →
+              (j ≡ k) ⊎ ((j < k) ⊎ (k < j)) → m.id.seq ≤ x.event.id.seq
+          go j inside y there same (inl here) =
+              let is : y ≡ x = same-entry log k y x low (subst (λ (i : ℕ). get_or log i y ≡ y) here there) at in
+              let number = ap (λ (e : Event). e.id.seq) (sym same ∙ ap (λ (z : Entry). z.event) is) in
+              omega (arith, number)
+          go j inside y there same (inr (inl less)) =
+              lower m (subst (λ (e : Event). Contains (events (take k log)) e) same
+              (Contains-mapped (λ (z : Entry). z.event) (take k log) y (in-front j y less there))) is.own
+          go j inside y there same (inr (inr more)) =
+              absurd (none j y (omega (arith, more)) inside there (
+                ap (λ (e : Event). e.id.hart) same ∙ is.own,
+                ap (λ (e : Event). is_exclusive e.op) same ∙ is.exclusive,
+              ))
 
 module _ (log : List Event) (e : Event) (known : Indexed log) (last : length (of_hart e.id.hart log) ≤ e.id.seq) where
   -- an event of the hart is earlier

@@ -1,9 +1,9 @@
 -- How the next entry of a hart is answered.
 use Rattle.rv_endless.proofs.Accepted.{forbidden-by-past, forbidden-by-window, stands-more}
-use Rattle.rv_endless.proofs.Misfits.{by-window, misfit-answered}
+use Rattle.rv_endless.proofs.Misfits.{by-window}
 use Rattle.rv_endless.proofs.Next.{fault-fits, first, full, gone, hart}
-use Rattle.rv_endless.specs.Runs.{HasStopped, IsAnswered, IsNext, StandsFor, in_window, limit}
-use Rattle.rv_endless.specs.Steps.{IsExplained, IsOffered}
+use Rattle.rv_endless.specs.Runs.{HasStopped, IsAnswered, IsEdgeIntoPast, IsNext, StandsFor, in_window, limit}
+use Rattle.rv_endless.specs.Steps.{IsEdgeExplained, IsOffered}
 use Rattle.rv_endless.specs.declared.answer.Answer.{Answer}
 use Rattle.rv_endless.specs.declared.answer.Answer.TheVariants.{Accepted, BeforePast, Forbidden}
 use Rattle.rv_endless.specs.declared.answer.Answer.TheVariants.{Malformed, NoMemory, Stopped, Taken}
@@ -17,10 +17,10 @@ use Rattle.rv_event.specs.declared.event.Entry.{Entry}
 use Rattle.rv_event.specs.declared.event.Event.{Event}
 use Rattle.rv_event.specs.declared.fault.Fault.{Fault}
 use Rattle.rv_past.specs.Before.{IsFree}
-use Rattle.rv_past.specs.Facts.{Fits, IsMisfit}
-use Rattle.rv_past.specs.declared.facts.Misfit.{Misfit}
+use Rattle.rv_past.specs.Facts.{Fits}
+use Rattle.rv_past.specs.declared.edge.PastEdge.{PastEdge}
 use Rattle.rv_settle.specs.Past.{ComesBeforePast}
-use Rattle.std.proofs.Common.{ℕ, ◌≡◌, ◌∙◌, ◌++◌, ◌∷◌, [], List, MatchOption, None, Option, Some, ap}
+use Rattle.std.proofs.Common.{ℕ, ◌≡◌, ◌∙◌, ◌++◌, ◌∷◌, [], List, None, Option, Some, ap}
 use Rattle.std.proofs.Common.{arith, option_map, refl, subst, sym}
 use Rattle.std.proofs.lemmas.Bool.{false≢true}
 use Rattle.std.proofs.lemmas.Grind.{common_steps}
@@ -58,22 +58,21 @@ module _ (run : Endless) (log : List Entry) (x : Entry) (stands : StandsFor run 
       sound = sound_from_none (events log) x.event (source_fault log x ∷ deps_fault x.event ∷ []) none
 
   module _ (after : Endless) (told : Answer) where
-    -- where something doesn't fit, or the entry comes before the past, it is answered by the first fault
-    pub explained : (misfit : Option Misfit) → MatchOption misfit (Fits forgotten n x) (IsMisfit forgotten n x) →
-        (misfit ≡ None → Fits forgotten n x → fault_within limit log x ≡ None → Before) →
-        HasStopped run after → IsExplained run.firsts (hart run log x stands next) misfit found told →
-        IsAnswered run after log x told
-    explained (Some m) bad before stopped is = misfit-answered run log x stands next after told stopped m bad is
-    explained None fits before stopped is = go found refl is
+    -- where the entry comes before the past, it is answered by its fault, and else by the edge
+    pub edge-explained : (edge : PastEdge) → Fits forgotten n x →
+        (fault_within limit log x ≡ None → Before × IsEdgeIntoPast run log x edge) → HasStopped run after →
+        IsEdgeExplained run.firsts (hart run log x stands next) edge found told → IsAnswered run after log x told
+    edge-explained edge fits before stopped is = go found refl is
       where
-        go : (o : Option Fault) → found ≡ o → IsExplained run.firsts (hart run log x stands next) None o told →
+        go : (o : Option Fault) → found ≡ o → IsEdgeExplained run.firsts (hart run log x stands next) edge o told →
             IsAnswered run after log x told
         go (Some f) at in-full = by-window run log x stands next after told stopped f
             (fault-fits run log x stands next fits ∙ ap (option_map (full run log x stands next)) at) in-full
         go None at past =
             let sound = fault-fits run log x stands next fits ∙ ap (option_map (full run log x stands next)) at in
+            let leads = before sound in
             subst (IsAnswered run after log x) (sym past)
-            (forbidden-by-past run log x stands next sound (before refl fits sound), stopped)
+            (forbidden-by-past run log x stands next sound leads.0, leads.1, stopped)
 
     -- and else as the window answers it
     pub offered : Fits forgotten n x → (fault_within limit log x ≡ None → Before → ⊥) →
@@ -99,7 +98,7 @@ module _ (run : Endless) (log : List Entry) (x : Entry) (stands : StandsFor run 
         go (Forbidden r) at (on, stopped) =
             subst (IsAnswered run after log x) (sym at)
             (forbidden-by-window run log x stands next (sound-from on.sound) on.none, on, stopped)
-        go BeforePast at none = absurd none
+        go (BeforePast edge) at none = absurd none
         go (answer.Beyond b) at none = absurd none
         go Stopped at halted = absurd (false≢true (sym stands.book_going ∙ halted))
         go NoMemory at same = subst (IsAnswered run after log x) (sym at) same

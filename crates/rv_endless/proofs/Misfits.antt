@@ -386,22 +386,22 @@ module _ (run : Endless) (log : List Entry) (x : Entry) (stands : StandsFor run 
 
     -- and else the one that is told by what was forgotten
     last : (m : Misfit) → ((f : Fault) → found ≡ Some f → misfit_number m ≤ fault_number f) →
-        IsExplained run.firsts h (Some m) found answer → answer ≡ misfit_answer m
+        IsExplained run.firsts h m found answer → answer ≡ misfit_answer m
     last m most explained = go found refl
       where
         go : (o : Option Fault) → found ≡ o → answer ≡ misfit_answer m
-        go None at = subst (λ (o : Option Fault). IsExplained run.firsts h (Some m) o answer) at explained
+        go None at = subst (λ (o : Option Fault). IsExplained run.firsts h m o answer) at explained
         go (Some f) at =
-            (subst (λ (o : Option Fault). IsExplained run.firsts h (Some m) o answer) at explained).1 (most f at)
+            (subst (λ (o : Option Fault). IsExplained run.firsts h m o answer) at explained).1 (most f at)
 
     -- an entry that doesn't fit what was forgotten is answered as its first fault asks
     pub misfit-answered : (m : Misfit) → IsMisfit forgotten n x m →
-        IsExplained run.firsts h (Some m) found answer → IsAnswered run after log x answer
+        IsExplained run.firsts h m found answer → IsAnswered run after log x answer
     misfit-answered misfit.Depends bad explained = go (first-depends bad)
       where
         go : IsFirst 3 Dependency → IsAnswered run after log x answer
         go (inl (f, is, less, whole)) =
-            by-window f whole ((subst (λ (o : Option Fault). IsExplained run.firsts h (Some misfit.Depends) o answer) is
+            by-window f whole ((subst (λ (o : Option Fault). IsExplained run.firsts h misfit.Depends o answer) is
             explained).0 less)
         go (inr (whole, most)) = subst (IsAnswered run after log x)
             (sym (last misfit.Depends most explained)) (whole, stopped)
@@ -409,7 +409,7 @@ module _ (run : Endless) (log : List Entry) (x : Entry) (stands : StandsFor run 
       where
         go : IsFirst 5 (VersionTaken (store-of by).0.event.id) → IsAnswered run after log x answer
         go (inl (f, is, less, whole)) =
-            by-window f whole ((subst (λ (o : Option Fault). IsExplained run.firsts h (Some misfit.Taken) o answer) is
+            by-window f whole ((subst (λ (o : Option Fault). IsExplained run.firsts h misfit.Taken o answer) is
             explained).0 less)
         go (inr (whole, most)) = let there = store-of by in
             subst (IsAnswered run after log x) (sym (last misfit.Taken most explained)) (
@@ -427,7 +427,7 @@ module _ (run : Endless) (log : List Entry) (x : Entry) (stands : StandsFor run 
         go : IsFirst 8 OtherSource → IsAnswered run after log x answer
         go (inl (f, is, less, whole)) =
             by-window f whole ((subst
-            (λ (o : Option Fault). IsExplained run.firsts h (Some misfit.OtherSource) o answer) is
+            (λ (o : Option Fault). IsExplained run.firsts h misfit.OtherSource o answer) is
             explained).0 less)
         go (inr (whole, most)) =
             subst (IsAnswered run after log x) (sym (last misfit.OtherSource most explained)) (whole, stopped)
@@ -436,7 +436,7 @@ module _ (run : Endless) (log : List Entry) (x : Entry) (stands : StandsFor run 
         go : IsFirst 9 TooManyDeps → IsAnswered run after log x answer
         go (inl (f, is, less, whole)) =
             by-window f whole ((subst
-            (λ (o : Option Fault). IsExplained run.firsts h (Some misfit.TooManyDeps) o answer) is
+            (λ (o : Option Fault). IsExplained run.firsts h misfit.TooManyDeps o answer) is
             explained).0 less)
         go (inr (whole, most)) =
             subst (IsAnswered run after log x) (sym (last misfit.TooManyDeps most explained)) (whole, stopped)

@@ -2,6 +2,7 @@
 use Rattle.std.specs.Prelude.{⊤}
 use Rattle.rv_cert.specs.Refusals.{Refusal}
 use Rattle.rv_event.specs.declared.fault.Fault.{Fault}
+use Rattle.rv_past.specs.declared.edge.PastEdge.{PastEdge}
 use Rattle.rv_endless.specs.declared.answer.Answer.{Answer}
 use Rattle.rv_endless.specs.declared.answer.Answer.TheVariants.{Accepted, BeforePast, Beyond}
 use Rattle.rv_endless.specs.declared.answer.Answer.TheVariants.{Forbidden, Malformed}
@@ -29,9 +30,9 @@ IfForbidden (Forbidden f) P = P f
 IfForbidden _ P = ⊤
 
 -- where it is forbidden by the past
-abbrev pub OnBeforePast : Answer → Type 0 → Type 0
-OnBeforePast BeforePast P = P
-OnBeforePast _ P = ⊤
+abbrev pub IfBeforePast : Answer → (PastEdge → Type 0) → Type 0
+IfBeforePast (BeforePast edge) P = P edge
+IfBeforePast _ P = ⊤
 
 -- where it can't be judged
 abbrev pub IfBeyond : Answer → (why.Beyond → Type 0) → Type 0
@@ -43,7 +44,7 @@ abbrev pub OnRefused : Answer → Type 0 → Type 0
 OnRefused (Malformed f) P = P
 OnRefused Taken P = P
 OnRefused (Forbidden f) P = P
-OnRefused BeforePast P = P
+OnRefused (BeforePast edge) P = P
 OnRefused _ P = ⊤
 
 -- where nothing was judged

@@ -4,6 +4,7 @@ use Rattle.std.specs.Prelude.{Contains, IsFalse, IsTrue}
 use Rattle.std.specs.Prelude.{List, None, Some, length, slice_index_or}
 use Rattle.rv_book.specs.Booked.{IsForbiddenOn, SomeLawful}
 use Rattle.rv_cut.specs.Cuts.{first_of}
+use Rattle.rv_event.specs.Edges.{IsEdge}
 use Rattle.rv_event.specs.Faults.{fault_within}
 use Rattle.rv_event.specs.Log.{events, of_hart}
 use Rattle.rv_event.specs.Orders.{Lawful}
@@ -15,7 +16,9 @@ use Rattle.rv_event.specs.declared.event.Op.TheVariants.{Carrier}
 use Rattle.rv_event.specs.declared.fault.Fault.{Fault}
 use Rattle.rv_event.specs.declared.fault.Fault.TheVariants.{Dependency, OtherSource, Sequence}
 use Rattle.rv_event.specs.declared.fault.Fault.TheVariants.{TooManyDeps, VersionTaken}
+use Rattle.rv_past.specs.Before.{version_by}
 use Rattle.rv_past.specs.Facts.{AreFacts}
+use Rattle.rv_past.specs.declared.edge.PastEdge.{PastEdge}
 use Rattle.rv_past.specs.declared.facts.Misfit.{Misfit}
 use Rattle.rv_past.specs.declared.facts.Misfit.TheVariants as misfit
 use Rattle.rv_past.specs.declared.facts.Misfit.TheVariants.{Depends}
@@ -116,6 +119,16 @@ pub record IsForbidden (run : Endless) (log : List Entry) (x : Entry) : Type 0 w
   pub sound : fault_within limit log x ≡ None
   pub none : SomeLawful run.book.model (log ++ x ∷ []) → ⊥
 
+-- an edge leads from the entry's event, for this reason, to an event that was forgotten, which has the word
+-- and the version
+pub record IsEdgeIntoPast (run : Endless) (log : List Entry) (x : Entry) (edge : PastEdge) : Type 0 where
+  pub past : Event
+  pub of_log : Contains (events log) past
+  pub forgotten : past.id.seq < first_of run.firsts past.id.hart
+  pub leads : IsEdge run.book.model (events (log ++ x ∷ [])) x.event.id edge.reason past.id
+  pub word : past.word ≡ edge.word
+  pub version : version_by edge.reason past ≡ edge.version
+
 -- why an entry of one of the 16 harts can't be judged
 abbrev pub IsBeyond : Endless → Entry → Beyond → Type 0
 IsBeyond run x Inactive = Contains run.active.items x.event.id.hart → ⊥
@@ -154,7 +167,8 @@ IsAnswered old new log x (Malformed f) = (fault_within limit log x ≡ Some f) �
 IsAnswered old new log x Taken = IsTakenBefore old log x × HasStopped old new
 IsAnswered old new log x (Forbidden f) =
     IsForbidden old log x × IsForbiddenOn old.book.model old.book.log (in_window old x) f × HasStopped old new
-IsAnswered old new log x BeforePast = IsForbidden old log x × HasStopped old new
+IsAnswered old new log x (BeforePast edge) =
+    IsForbidden old log x × IsEdgeIntoPast old log x edge × HasStopped old new
 IsAnswered old new log x (answer.Beyond b) = (x.event.id.hart < 16) × IsBeyond old x b × (new ≡ old)
 IsAnswered old new log x Stopped = ⊥
 IsAnswered old new log x NoMemory = new ≡ old

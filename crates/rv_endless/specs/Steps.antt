@@ -10,6 +10,7 @@ use Rattle.rv_event.specs.WellFormed.{WellFormedWithin}
 use Rattle.rv_event.specs.declared.event.Entry.{Entry}
 use Rattle.rv_event.specs.declared.event.Event.{Event}
 use Rattle.rv_event.specs.declared.fault.Fault.{Fault}
+use Rattle.rv_past.specs.declared.edge.PastEdge.{PastEdge}
 use Rattle.rv_past.specs.declared.facts.Misfit.{Misfit}
 use Rattle.rv_settle.specs.Fitting.{in_full}
 use Rattle.rv_settle.specs.Windows.{ClosesPairs, IsBelow, IsKept, KeepsFew}
@@ -26,15 +27,17 @@ abbrev pub IsToldInFull : List ℕ → ℕ → Fault → Answer → Type 0
 IsToldInFull firsts hart f told =
     HasNumber (in_full (first_of firsts) hart f) → told ≡ Malformed (in_full (first_of firsts) hart f)
 
--- the answer tells the first of what the entry doesn't fit and of its fault over the window, and else
--- that it comes before the past
-abbrev pub IsExplained : List ℕ → ℕ → Option Misfit → Option Fault → Answer → Type 0
-IsExplained firsts hart None None told = told ≡ BeforePast
-IsExplained firsts hart None (Some f) told = IsToldInFull firsts hart f told
-IsExplained firsts hart (Some m) None told = told ≡ misfit_answer m
-IsExplained firsts hart (Some m) (Some f) told =
+-- the answer tells the first of what the entry doesn't fit and of its fault over the window
+abbrev pub IsExplained : List ℕ → ℕ → Misfit → Option Fault → Answer → Type 0
+IsExplained firsts hart m None told = told ≡ misfit_answer m
+IsExplained firsts hart m (Some f) told =
     (fault_number f < misfit_number m → IsToldInFull firsts hart f told)
     × (misfit_number m ≤ fault_number f → told ≡ misfit_answer m)
+
+-- the answer tells the entry's fault over the window, and else the edge by which it comes before the past
+abbrev pub IsEdgeExplained : List ℕ → ℕ → PastEdge → Option Fault → Answer → Type 0
+IsEdgeExplained firsts hart edge None told = told ≡ BeforePast edge
+IsEdgeExplained firsts hart edge (Some f) told = IsToldInFull firsts hart f told
 
 -- the run has one event more of the hart, and this book
 abbrev pub counted_with : Endless → Endless → ℕ → Endless
@@ -52,7 +55,7 @@ IsOffered old new x (Malformed f) =
     × HasStopped old new
 IsOffered old new x Taken = ⊥
 IsOffered old new x (Forbidden r) = IsForbiddenOn old.book.model old.book.log x r × HasStopped old new
-IsOffered old new x BeforePast = ⊥
+IsOffered old new x (BeforePast edge) = ⊥
 IsOffered old new x (answer.Beyond b) = ⊥
 IsOffered old new x Stopped = IsTrue old.book.stopped
 IsOffered old new x NoMemory = new ≡ old

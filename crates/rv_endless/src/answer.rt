@@ -1,6 +1,7 @@
 //! What an offer to a run came to.
 use rv_cert::Forbidden;
 use rv_event::Fault;
+use rv_past::PastEdge;
 
 /// What an offer came to. The log is that of all entries that were accepted.
 #[derive(Drop, Debug)]
@@ -15,9 +16,9 @@ pub enum Answer {
     /// No order is lawful for the log followed by the entry; the run has stopped. The evidence is
     /// the window with the entry, in the window's numbers.
     Forbidden(Forbidden),
-    /// No order is lawful for the log followed by the entry, as it would come before what was
-    /// forgotten; the run has stopped.
-    BeforePast,
+    /// No order is lawful for the log followed by the entry, as it comes before what was forgotten
+    /// by this edge; the run has stopped.
+    BeforePast(PastEdge),
     /// The entry can't be judged. Nothing changed.
     Beyond(Beyond),
     /// The run had stopped. Nothing changed.

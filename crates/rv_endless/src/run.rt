@@ -10,13 +10,14 @@ ghost use Rattle.rv_event.specs.declared.event.Event.{Event};
 ghost use Rattle.rv_past.specs.Before.{IsFree};
 ghost use Rattle.rv_settle.specs.Past.{ComesBeforePast};
 ghost use Rattle.rv_settle.specs.Windows.{window};
-ghost use Rattle.rv_endless.specs.Answers.{IfBeyond, IfForbidden, IfMalformed, OnAccepted};
-ghost use Rattle.rv_endless.specs.Answers.{OnBeforePast, OnRefused, OnTaken, OnUnjudged};
+ghost use Rattle.rv_endless.specs.Answers.{IfBeforePast, IfBeyond, IfForbidden, IfMalformed, OnAccepted};
+ghost use Rattle.rv_endless.specs.Answers.{OnRefused, OnTaken, OnUnjudged};
 ghost use Rattle.rv_endless.specs.Forgetting.{IsCutBy};
-ghost use Rattle.rv_endless.specs.Runs.{AreForgotten, HasStopped, IsAnswered, IsBeyond, IsForbidden, IsNext};
+ghost use Rattle.rv_endless.specs.Runs.{AreForgotten, HasStopped, IsAnswered, IsBeyond, IsEdgeIntoPast};
+ghost use Rattle.rv_endless.specs.Runs.{IsForbidden, IsNext};
 ghost use Rattle.rv_endless.specs.Runs.{IsTakenBefore, IsWithin, KeepsSettings, StandsFor, in_window, limit};
 ghost use Rattle.rv_endless.specs.Runs.{misfit_answer, misfit_number};
-ghost use Rattle.rv_endless.specs.Steps.{IsExplained, IsOffered, IsPastOf, Joins};
+ghost use Rattle.rv_endless.specs.Steps.{IsEdgeExplained, IsExplained, IsOffered, IsPastOf, Joins};
 ghost use Rattle.rv_endless.specs.declared.answer.Answer.TheVariants as answer;
 
 use crate::answer::{Answer, Beyond};
@@ -26,7 +27,7 @@ use crate::window::{find_partner, renumber};
 use rv_book::{Book, Offer};
 use rv_cut::{Cut, find_cut};
 use rv_event::{Entry, Event, Fault, MemoryModel, NoMemory, Op, find_fault};
-use rv_past::{Facts, Misfit, Past};
+use rv_past::{Facts, Misfit, Past, PastEdge};
 use std::alloc::Global;
 
 /// A run of any length: a window of the events that were accepted last, and what is known of those
@@ -92,8 +93,8 @@ impl Endless {
         ensures forbidden { (log : List Entry) → StandsFor self.old log → IfForbidden result (λ refusal.
             IsForbidden self.old log entry.now
             × IsForbiddenOn self.old.book.model self.old.book.log (in_window self.old entry.now) refusal) }
-        ensures before_past { (log : List Entry) → StandsFor self.old log →
-            OnBeforePast result (IsForbidden self.old log entry.now) }
+        ensures before_past { (log : List Entry) → StandsFor self.old log → IfBeforePast result (λ edge.
+            IsForbidden self.old log entry.now × IsEdgeIntoPast self.old log entry.now edge) }
         ensures beyond { (log : List Entry) → StandsFor self.old log →
             IfBeyond result (λ why. (entry.now.event.id.hart < 16) × IsBeyond self.old entry.now why) }
         ensures refused { (log : List Entry) → StandsFor self.old log →
@@ -210,24 +211,29 @@ impl Endless {
         let Ok(moved) = renumber(self.alloc, entry, first) else {
             return Answer::NoMemory;
         };
-        let misfit = self.facts.find_misfit(first, entry);
-        if misfit.is_some() || self.is_before(entry, &moved) {
+        if let Some(misfit) = self.facts.find_misfit(first, entry) {
             self.stopped = true;
-            return explain(self.book.log(), &self.firsts, misfit, &moved);
+            return explain_misfit(self.book.log(), &self.firsts, misfit, &moved);
+        }
+        if let Some(edge) = self.find_edge(entry, &moved) {
+            self.stopped = true;
+            return explain_edge(self.book.log(), &self.firsts, edge, &moved);
         }
         self.judge_moved(&moved)
     }
 
-    /// Whether the entry comes before what was forgotten, where it has no fault.
-    fn is_before(&self, entry: &Entry, moved: &Entry) -> bool
+    /// An edge from the entry to what was forgotten, where there is one and it has no fault.
+    fn find_edge(&self, entry: &Entry, moved: &Entry) -> Option<PastEdge>
         ensures { (log gone : List Entry) (past : Event → Bool) → self.now.book.log ≡ window
             (first_of self.now.firsts) log →
             moved.now ≡ in_window self.now entry.now → AreForgotten self.now log gone → IsPastOf self.now log past →
             IsFree (events gone) entry.now.event → Joins self.now log entry.now →
-            IsTrue result ↔ ComesBeforePast (events (log ++ entry.now ∷ [])) past entry.now.event }
+            MatchOption result (ComesBeforePast (events (log ++ entry.now ∷ [])) past entry.now.event → ⊥) (λ edge.
+            ComesBeforePast (events (log ++ entry.now ∷ [])) past entry.now.event
+            × IsEdgeIntoPast self.now log entry.now edge) }
     {
         let lr = find_partner(self.book.log(), &moved.event);
-        self.past.is_before(&entry.event, lr)
+        self.past.find_edge(&entry.event, lr)
     }
 
     /// Judges an entry that fits what was forgotten, by the window.
@@ -256,24 +262,29 @@ impl Endless {
     }
 }
 
-/// What is wrong with an entry that doesn't fit what was forgotten, or comes before it: the first of
-/// the faults that the window and the past have.
-fn explain(window: &[Entry], firsts: &Cut, misfit: Option<Misfit>, moved: &Entry) -> Answer
+/// What is wrong with an entry that doesn't fit what was forgotten: this, or the fault that it has
+/// over the window, where that comes first.
+fn explain_misfit(window: &[Entry], firsts: &Cut, misfit: Misfit, moved: &Entry) -> Answer
     requires { length window.now < 2 ^ 32 }
     ensures { IsExplained firsts.now moved.now.event.id.hart misfit (fault_of window.now moved.now) result }
 {
-    let found = find_fault(window, moved);
-    match misfit {
-        Some(misfit) => match found {
-            Some(fault) if fault.number() < number_of(misfit) => {
-                Answer::Malformed(full_fault(firsts, moved.event.id.hart, fault))
-            }
-            _ => answer_of(misfit),
-        },
-        None => match found {
-            Some(fault) => Answer::Malformed(full_fault(firsts, moved.event.id.hart, fault)),
-            None => Answer::BeforePast,
-        },
+    match find_fault(window, moved) {
+        Some(fault) if fault.number() < number_of(misfit) => {
+            Answer::Malformed(full_fault(firsts, moved.event.id.hart, fault))
+        }
+        _ => answer_of(misfit),
+    }
+}
+
+/// What is wrong with an entry that comes before what was forgotten: the fault that it has over the
+/// window, or else this edge.
+fn explain_edge(window: &[Entry], firsts: &Cut, edge: PastEdge, moved: &Entry) -> Answer
+    requires { length window.now < 2 ^ 32 }
+    ensures { IsEdgeExplained firsts.now moved.now.event.id.hart edge (fault_of window.now moved.now) result }
+{
+    match find_fault(window, moved) {
+        Some(fault) => Answer::Malformed(full_fault(firsts, moved.event.id.hart, fault)),
+        None => Answer::BeforePast(edge),
     }
 }
 

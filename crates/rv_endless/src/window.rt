@@ -3,7 +3,7 @@ ghost use Rattle.std.specs.Prelude.{◌≡◌, ◌++◌, ◌∷◌, ◌≤◌, [
 ghost use Rattle.std.specs.Option.{option_copied};
 ghost use Rattle.rv_event.specs.Log.{events, of_hart};
 ghost use Rattle.rv_event.specs.declared.event.Event.{Event};
-ghost use Rattle.rv_event.proofs.Indexed.{Indexed};
+ghost use Rattle.rv_event.specs.WellFormed.{WellFormed};
 ghost use Rattle.rv_settle.specs.Windows.{counted_from, deps_from};
 ghost use Rattle.rv_past.specs.Laws.{IsPartner};
 ghost use Rattle.rv_endless.specs.Partners.{IsLastExclusive};
@@ -55,9 +55,10 @@ fn renumber_deps(alloc: Global, deps: &Deps, first: u32) -> Result<Deps, NoMemor
 }
 
 /// The LR with which the event is paired that comes after all of its hart's in the log, where it is
-/// an SC with one. It costs a pass over the log for an SC, and nothing for another event.
+/// an SC with one. It costs a step for each event since that one for an SC, and nothing for another
+/// event.
 pub fn find_partner<'a>(log: &'a [Entry], event: &Event) -> Option<&'a Event>
-    ensures { Indexed (events log.now) → length (of_hart event.now.id.hart (events log.now)) ≤ event.now.id.seq →
+    ensures { WellFormed log.now → length (of_hart event.now.id.hart (events log.now)) ≤ event.now.id.seq →
         IsPartner (events log.now ++ event.now ∷ []) event.now (option_copied result) }
 {
     if event.op != Op::Sc {
@@ -67,31 +68,17 @@ pub fn find_partner<'a>(log: &'a [Entry], event: &Event) -> Option<&'a Event>
     if last.op == Op::Lr { Some(last) } else { None }
 }
 
-/// The LR, SC or failed SC of the hart with the highest number.
+/// The last LR, SC or failed SC of the hart.
 fn last_exclusive(log: &[Entry], hart: u8) -> Option<&Event>
-    ensures { IsLastExclusive (events log.now) hart (option_copied result) }
+    ensures { WellFormed log.now → IsLastExclusive (events log.now) hart (option_copied result) }
 {
-    let mut last = None;
-    for entry in log {
-        last = later_exclusive(last, hart, &entry.event);
+    let mut rest = log.len();
+    'later: while rest > 0 {
+        rest -= 1;
+        let event = &log[rest].event;
+        if event.id.hart == hart && event.op.is_exclusive() {
+            return Some(event);
+        }
     }
-    last
-}
-
-/// The event, where it is one of the hart's with a higher number, and else the one before.
-fn later_exclusive<'a>(last: Option<&'a Event>, hart: u8, event: &'a Event) -> Option<&'a Event>
-    ensures { (log : List Event) → IsLastExclusive log hart (option_copied last.entry) →
-        IsLastExclusive (log ++ event.now ∷ []) hart (option_copied result) }
-{
-    if event.id.hart != hart || !event.op.is_exclusive() {
-        return last;
-    }
-    let Some(before) = last else {
-        return Some(event);
-    };
-    if event.id.seq < before.id.seq {
-        last
-    } else {
-        Some(event)
-    }
+    None
 }

@@ -6,23 +6,23 @@ use Rattle.std.proofs.lemmas.Grind.{common_steps}
 use Rattle.rv_event.specs.Operations.{IsLoad, IsStore}
 use Rattle.rv_event.specs.declared.event.Event.{Event}
 use Rattle.rv_event.specs.declared.event.Id.{Id}
-use Rattle.rv_past.specs.Before.{ComesBefore, IsFree, loads_below, stores_below, stores_too_late}
+use Rattle.rv_event.specs.declared.reason.Reason.TheVariants.{AtomicOut, Coherence, FromRead, ReadsFrom}
+use Rattle.rv_past.specs.Before.{ComesBefore, IsEdgeTo, IsFree, loads_below, stores_below, stores_too_late}
 use Rattle.rv_past.specs.Before.{stores_what_was_returned}
 use Rattle.rv_past.specs.Gone.{AreGoneBy, IsAwaited, IsNewest, by_others, version_of}
 use Rattle.rv_past.specs.declared.past.Newest.{Newest}
 
 module _ (gone : List Event) (newest : ℕ → Option Newest) (awaited : ℕ × ℕ → Option Id)
     (are : AreGoneBy gone newest awaited) (lr : Option Event) (e : Event) where
-  -- a store of the word above the version, where the newest one is
-  above : (w version : ℕ) → version < version_of (newest w) →
-      (p : Event) × Contains gone p × IsStore p × (p.word ≡ w) × (version < p.wrote)
-  above w version less = go (newest w) (are.newest_is w) less
+  -- the store of the newest version of the word, where there is one
+  newest-store : (w : ℕ) → 0 < version_of (newest w) →
+      (p : Event) × Contains gone p × IsStore p × (p.word ≡ w) × (p.wrote ≡ version_of (newest w))
+  newest-store w some = go (newest w) (are.newest_is w) some
     where
-      go : (o : Option Newest) → IsNewest gone w o → version < version_of o →
-          (p : Event) × Contains gone p × IsStore p × (p.word ≡ w) × (version < p.wrote)
+      go : (o : Option Newest) → IsNewest gone w o → 0 < version_of o →
+          (p : Event) × Contains gone p × IsStore p × (p.word ≡ w) × (p.wrote ≡ version_of o)
       go None none low = absurd (omega (arith, low))
-      go (Some n) of low =
-          (of.store, of.of_gone, of.is_store, of.word, (let is = of.wrote in omega (arith, low, is)))
+      go (Some n) of low = (of.store, of.of_gone, of.is_store, of.word, of.wrote)
 
   -- each store of the word is no newer than the newest
   most : (p : Event) → Contains gone p → IsStore p → p.wrote ≤ version_of (newest p.word)
@@ -33,35 +33,37 @@ module _ (gone : List Event) (newest : ℕ → Option Newest) (awaited : ℕ × 
       go (Some n) of = of.none_newer p c s refl
 
   -- and so with those of other harts
-  other-above : (w hart version : ℕ) → version < by_others hart (newest w) →
-      (p : Event) × Contains gone p × IsStore p × (p.word ≡ w) × (p.id.hart ≢ hart) × (version < p.wrote)
-  other-above w hart version less = go (newest w) (are.newest_is w) less
+  newest-of-others : (w hart : ℕ) → 0 < by_others hart (newest w) →
+      (p : Event) × Contains gone p × IsStore p × (p.word ≡ w) × (p.id.hart ≢ hart)
+      × (p.wrote ≡ by_others hart (newest w))
+  newest-of-others w hart some = go (newest w) (are.newest_is w) some
     where
-      go : (o : Option Newest) → IsNewest gone w o → version < by_others hart o →
-          (p : Event) × Contains gone p × IsStore p × (p.word ≡ w) × (p.id.hart ≢ hart) × (version < p.wrote)
+      go : (o : Option Newest) → IsNewest gone w o → 0 < by_others hart o →
+          (p : Event) × Contains gone p × IsStore p × (p.word ≡ w) × (p.id.hart ≢ hart) × (p.wrote ≡ by_others hart o)
       go None none low = absurd (omega (arith, low))
       go (Some n) of low = elim (cases_eq n.store.hart hart) [
         | inl same ↦ (
-            let less' : version < n.others = grind (arith, common_steps, low, same) in
+            let is : by_others hart (Some n) ≡ n.others = grind (arith, common_steps, same) in
             elim of.others [
-              | inl none ↦ absurd (omega (arith, less', none))
+              | inl none ↦ absurd (omega (arith, low, none, is))
               | inr o ↦ (
                 o.store,
                 o.of_gone,
                 o.is_store,
                 o.word,
                 (λ own. o.other (own ∙ sym same)),
-                (let is = o.wrote in omega (arith, less', is)),
+                o.wrote ∙ sym is,
               )
             ])
         | inr apart ↦ (
-            let less' : version < n.version = grind (arith, common_steps, low, ne_eqb n.store.hart hart apart) in (
+            let is : by_others hart (Some n) ≡ n.version =
+            grind (arith, common_steps, ne_eqb n.store.hart hart apart) in (
               of.store,
               of.of_gone,
               of.is_store,
               of.word,
               (λ own. apart (sym (ap (λ (i : Id). i.hart) of.id) ∙ own)),
-              (let is = of.wrote in omega (arith, less', is)),
+              of.wrote ∙ sym is,
             ))
       ]
 
@@ -80,21 +82,55 @@ module _ (gone : List Event) (newest : ℕ → Option Newest) (awaited : ℕ × 
             grind (arith, common_steps, low, ne_eqb n.store.hart hart other))
       ]
 
-  pub told-load : IsLoad e → e.read < version_of (newest e.word) → ComesBefore gone lr e
-  told-load load less = let p = above e.word e.read less in loads_below p.0 p.1 p.2 load p.3 p.4
+  -- each edge that the versions tell leads to one of the events
+  pub told-load : IsLoad e → e.read < version_of (newest e.word) →
+      IsEdgeTo gone lr e (record { reason = FromRead; word = e.word; version = version_of (newest e.word) })
+  told-load load less =
+      let p = newest-store e.word (omega (arith, less)) in
+      let is = p.4 in
+      record { past = p.0; of_gone = p.1; why = (p.2, load, p.3, omega (arith, less, is)); word = p.3; version = is }
 
-  pub told-store : IsStore e → e.wrote < version_of (newest e.word) → ComesBefore gone lr e
-  told-store store less = let p = above e.word e.wrote less in stores_below p.0 p.1 p.2 store (sym p.3) p.4
+  pub told-store : IsStore e → e.wrote < version_of (newest e.word) →
+      IsEdgeTo gone lr e (record { reason = Coherence; word = e.word; version = version_of (newest e.word) })
+  told-store store less =
+      let p = newest-store e.word (omega (arith, less)) in
+      let is = p.4 in
+      record {
+        past = p.0;
+        of_gone = p.1;
+        why = (p.2, store, sym p.3, omega (arith, less, is));
+        word = p.3;
+        version = is;
+      }
 
-  pub told-awaited : IsStore e → IsSome (awaited (e.word, e.wrote)) → ComesBefore gone lr e
+  pub told-awaited : IsStore e → IsSome (awaited (e.word, e.wrote)) →
+      IsEdgeTo gone lr e (record { reason = ReadsFrom; word = e.word; version = e.wrote })
   told-awaited store some = go (awaited (e.word, e.wrote)) (are.awaited_is e.word e.wrote) some
     where
-      go : (o : Option Id) → IsAwaited gone (newest e.word) e.word e.wrote o → IsSome o → ComesBefore gone lr e
+      go : (o : Option Id) → IsAwaited gone (newest e.word) e.word e.wrote o → IsSome o →
+          IsEdgeTo gone lr e (record { reason = ReadsFrom; word = e.word; version = e.wrote })
       go None none is = absurd (false≢true is)
-      go (Some i) p is = stores_what_was_returned p.0 p.1 p.2 store p.3 p.4
+      go (Some i) p is = record {
+        past = p.0;
+        of_gone = p.1;
+        why = (p.2, store, p.3, p.4);
+        word = p.3;
+        version = p.4;
+      }
 
-  pub told-late : (r : Event) → lr ≡ Some r → r.read < by_others e.id.hart (newest r.word) → ComesBefore gone lr e
-  told-late r is less = let p = other-above r.word e.id.hart r.read less in stores_too_late r p.0 is p.1 p.2 p.3 p.4 p.5
+  pub told-late : (r : Event) → lr ≡ Some r → r.read < by_others e.id.hart (newest r.word) →
+      IsEdgeTo gone lr e
+      (record { reason = AtomicOut; word = r.word; version = by_others e.id.hart (newest r.word) })
+  told-late r is less =
+      let p = newest-of-others r.word e.id.hart (omega (arith, less)) in
+      let wrote = p.5 in
+      record {
+        past = p.0;
+        of_gone = p.1;
+        why = (r, is, p.2, p.3, p.4, omega (arith, less, wrote));
+        word = p.3;
+        version = wrote;
+      }
 
   -- what the versions tell of an event that comes before
   pub data Tells : Type 0 where

@@ -5,6 +5,8 @@ use Rattle.std.specs.HashMap.{get, spare}
 use Rattle.rv_event.specs.Operations.{IsLoad, IsStore}
 use Rattle.rv_event.specs.declared.event.Event.{Event}
 use Rattle.rv_event.specs.declared.event.Id.{Id}
+use Rattle.rv_event.specs.declared.reason.Reason.TheVariants.{AtomicOut}
+use Rattle.rv_past.specs.declared.edge.PastEdge.{PastEdge}
 use Rattle.rv_past.specs.declared.past.Newest.{Newest}
 use Rattle.rv_past.specs.declared.past.Past.{Past}
 
@@ -75,6 +77,14 @@ by_others hart None = 0
 abbrev pub IsLate : Past → Event → Option Event → Type 0
 IsLate past e (Some r) = r.read < by_others e.id.hart (get nat_eq past.newest r.word)
 IsLate past e None = ⊥
+
+-- and this is the edge of the event, an SC, to the newest one of those
+abbrev pub IsLateBy : Past → Event → Option Event → PastEdge → Type 0
+IsLateBy past e (Some r) edge =
+    IsLate past e (Some r)
+    × (edge ≡
+    record { reason = AtomicOut; word = r.word; version = by_others e.id.hart (get nat_eq past.newest r.word) })
+IsLateBy past e None edge = ⊥
 
 -- how what is awaited goes on with e, where this is the newest version of its word: as it was, where e
 -- is no load of a newer one; else with the version that it returned

@@ -1,7 +1,7 @@
 //! What the faults of new events ask of the events that were forgotten.
 ghost use Rattle.std.specs.Prelude.{ℕ, ◌≡◌, ◌+◌, ◌<◌, ◌++◌, ◌∷◌, ◌≤◌, ◌/◌, ◌↔◌, ◌⊎◌, [], IfOk};
 ghost use Rattle.std.specs.Prelude.{IsTrue, List, MatchOption};
-ghost use Rattle.std.specs.Prelude.{OnOk, Some, nat_eq, slice_set};
+ghost use Rattle.std.specs.Prelude.{None, OnOk, Some, nat_eq, slice_set};
 ghost use Rattle.std.specs.HashMap.{get, spare};
 ghost use Rattle.std.specs.List.{list_any};
 ghost use Rattle.std.specs.HashSet.{contains};
@@ -233,10 +233,22 @@ fn note_value(values: &mut HashMap<(u32, u32), Row>, id: Id)
     ensures room { spare values.old ≤ spare values.new + 1 }
 {
     let block = (id.hart as u32, id.seq / 4096);
-    let mut row = Row::new();
-    if let Some(old) = values.get(&block) {
-        row.join(old);
+    match values.get_mut(&block) {
+        Some(row) => row.insert((id.seq % 4096) as usize),
+        None => note_first(values, id),
     }
+}
+
+/// Notes that the event of this id returned a value, the first of its block.
+fn note_first(values: &mut HashMap<(u32, u32), Row>, id: Id)
+    requires room { 0 < spare values.old }
+    requires first { get same_version values.old (id.hart, id.seq / 4096) ≡ None }
+    ensures noted { (i : Id) → IsTrue (is_named (get same_version values.new) i)
+        ↔ (IsTrue (is_named (get same_version values.old) i) ⊎ (i ≡ id)) }
+    ensures room { spare values.old ≤ spare values.new + 1 }
+{
+    let block = (id.hart as u32, id.seq / 4096);
+    let mut row = Row::new();
     row.insert((id.seq % 4096) as usize);
     let Ok(_) = values.insert(block, row) else {
         unreachable!()

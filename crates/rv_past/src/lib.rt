@@ -5,6 +5,7 @@
 //! it, in a few look-ups, without the events.
 //!
 //! - [`past`]: the summary, and whether an event comes before what was forgotten.
+//! - [`edge`]: why it does.
 //! - [`facts`]: what the faults of new events ask of it: sources, numbers that returned a value, and
 //!   versions that were written.
 //! - [`laws`]: it tells just what `rv_settle` says of a cut's past.
@@ -14,10 +15,12 @@
 //! It stands on `rv_event` and `rv_settle`, and on `rv_rows` for sets of numbers.
 #![tactic(auto)]
 
+mod edge;
 mod facts;
 mod laws;
 mod past;
 
+pub use edge::PastEdge;
 pub use facts::{Facts, Misfit};
 pub use laws::versions_tell_the_past;
 pub use past::{Newest, Past};

@@ -1,16 +1,17 @@
 //! The summary of the events that were forgotten.
 ghost use Rattle.std.specs.Prelude.{ℕ, ◌≡◌, ◌<◌, ◌≤◌, ◌+◌, ◌++◌, ◌∷◌, ◌↔◌, [], IsSome, IsTrue, List};
-ghost use Rattle.std.specs.Prelude.{OnErr, OnOk, nat_eq};
+ghost use Rattle.std.specs.Prelude.{MatchOption, OnErr, OnOk, nat_eq};
 ghost use Rattle.std.specs.HashMap.{get, spare};
 ghost use Rattle.std.specs.Option.{option_copied};
 ghost use Rattle.rv_event.specs.declared.event.Event.{Event};
-ghost use Rattle.rv_past.specs.Before.{ComesBefore, IsFree};
+ghost use Rattle.rv_past.specs.Before.{ComesBefore, IsEdgeTo, IsFree};
 ghost use Rattle.rv_event.specs.Operations.{IsLoad, IsStore};
-ghost use Rattle.rv_past.specs.Gone.{AreGone, HasPlaces, IsLate, IsNewest, IsNewestOf, IsNoted};
+ghost use Rattle.rv_past.specs.Gone.{AreGone, HasPlaces, IsLate, IsLateBy, IsNewest, IsNewestOf, IsNoted};
 ghost use Rattle.rv_past.specs.Gone.{by_others, same_version};
 ghost use Rattle.rv_past.specs.Gone.{version_of};
 
-use rv_event::{Event, Id, NoMemory};
+use crate::edge::PastEdge;
+use rv_event::{Event, Id, NoMemory, Reason};
 use std::alloc::Global;
 use std::collections::HashMap;
 
@@ -101,23 +102,41 @@ impl Past {
         }
     }
 
-    /// Whether the event comes before the events that were forgotten: in each lawful order it would
-    /// stand before one of them. `lr` is the LR with which the event is paired, where it is. It costs
-    /// two look-ups for a load or a store, and one more for an SC.
-    pub fn is_before(&self, event: &Event, lr: Option<&Event>) -> bool
+    /// An edge from the event to one that was forgotten, where there is one: in each lawful order it
+    /// would stand before that one. `lr` is the LR with which the event is paired, where it is. It
+    /// costs two look-ups for a load or a store, and one more for an SC.
+    pub fn find_edge(&self, event: &Event, lr: Option<&Event>) -> Option<PastEdge>
         ensures { (gone : List Event) → AreGone gone self.now → IsFree gone event.now →
-            IsTrue result ↔ ComesBefore gone (option_copied lr.entry) event.now }
+            MatchOption result (ComesBefore gone (option_copied lr.entry) event.now → ⊥)
+            (IsEdgeTo gone (option_copied lr.entry) event.now) }
     {
+        let word = event.word;
+        let version = self.version(word);
         if self.is_loaded_below(event) {
-            return true;
+            let reason = Reason::FromRead;
+            return Some(PastEdge {
+                reason,
+                word,
+                version,
+            });
         }
         if self.is_stored_below(event) {
-            return true;
+            let reason = Reason::Coherence;
+            return Some(PastEdge {
+                reason,
+                word,
+                version,
+            });
         }
         if self.is_awaited(event) {
-            return true;
+            let (reason, version) = (Reason::ReadsFrom, event.wrote);
+            return Some(PastEdge {
+                reason,
+                word,
+                version,
+            });
         }
-        self.is_late(event, lr)
+        self.find_late(event, lr)
     }
 
     /// The newest version of the word that was written; 0 where none was.
@@ -154,14 +173,21 @@ impl Past {
         event.is_store() && self.awaited.get(&(event.word, event.wrote)).is_some()
     }
 
-    /// Whether its LR returned a version below one that another hart wrote.
-    fn is_late(&self, event: &Event, lr: Option<&Event>) -> bool
-        ensures { IsTrue result ↔ IsLate self.now event.now (option_copied lr.entry) }
+    /// The edge of an SC whose LR returned a version below one that another hart wrote.
+    fn find_late(&self, event: &Event, lr: Option<&Event>) -> Option<PastEdge>
+        ensures { MatchOption result (IsLate self.now event.now (option_copied lr.entry) → ⊥)
+            (IsLateBy self.now event.now (option_copied lr.entry)) }
     {
-        match lr {
-            Some(lr) => lr.read < self.version_by_others(event.id.hart, lr.word),
-            None => false,
+        let lr = lr?;
+        let version = self.version_by_others(event.id.hart, lr.word);
+        if lr.read >= version {
+            return None;
         }
+        Some(PastEdge {
+            reason: Reason::AtomicOut,
+            word: lr.word,
+            version,
+        })
     }
 
     /// The newest version of the word that a store of another hart wrote; 0 where none did.

@@ -1,2 +1,4 @@
+pub mod Names
+pub mod Rechecks
 pub mod Texts
 pub mod Watches

@@ -10,7 +10,7 @@ use Rattle.rv_event.specs.declared.event.Entry.{Entry}
 use Rattle.rv_event.specs.declared.event.Event.{Event}
 use Rattle.rv_past.specs.Facts.{is_written}
 use Rattle.rv_past.specs.Gone.{same_version}
-use Rattle.rv_endless.specs.Runs.{IsBeyond, IsForbidden, IsTakenBefore, StandsFor, in_window, limit}
+use Rattle.rv_endless.specs.Runs.{IsBeyond, IsEdgeIntoPast, IsForbidden, IsTakenBefore, StandsFor, in_window, limit}
 use Rattle.rv_endless.specs.declared.run.Endless.{Endless}
 use Rattle.rv_watch.specs.declared.stop.Stop.{Stop}
 use Rattle.rv_watch.specs.declared.stop.Stop.TheVariants as stop
@@ -38,13 +38,14 @@ pub record IsWatchOf (w : Watch) (log : List Entry) : Type 0 where
   pub operations : w.operations ≡ min (operations_of log) most
 
 -- the entry has no fault, and no order is lawful for the log with it; a refusal by the window has it and the
--- entry, counted from the first number of each hart in the window, as its evidence
+-- entry, counted from the first number of each hart in the window, as its evidence, and one by the past an
+-- edge that leads there
 abbrev pub IsStop : Watch → List Entry → Entry → Stop → Type 0
 IsStop w log x (stop.Malformed f) = fault_within limit log x ≡ Some f
 IsStop w log x stop.Taken = IsTakenBefore w.run log x
 IsStop w log x (stop.Forbidden r) =
     IsForbidden w.run log x × IsForbiddenOn w.run.book.model w.run.book.log (in_window w.run x) r
-IsStop w log x stop.BeforePast = IsForbidden w.run log x
+IsStop w log x (stop.BeforePast edge) = IsForbidden w.run log x × IsEdgeIntoPast w.run log x edge
 IsStop w log x (stop.Beyond b) = (x.event.id.hart < 16) × IsBeyond w.run x b × IsWatchOf w log
 IsStop w log x stop.Stopped = ⊥
 IsStop w log x stop.NoMemory = IsWatchOf w log

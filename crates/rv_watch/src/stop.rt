@@ -2,6 +2,7 @@
 use rv_cert::Forbidden;
 use rv_endless::Beyond;
 use rv_event::Fault;
+use rv_past::PastEdge;
 
 /// Why an entry was not taken. The log is that of the entries before it.
 #[derive(Drop, Debug)]
@@ -14,8 +15,8 @@ pub enum Stop {
     /// No order is lawful for the log with it. The evidence is the window with the entry, in the
     /// window's numbers.
     Forbidden(Forbidden),
-    /// No order is lawful for the log with it, as it would come before what was forgotten.
-    BeforePast,
+    /// No order is lawful for the log with it, as it comes before what was forgotten by this edge.
+    BeforePast(PastEdge),
     /// It can't be judged. The log stays as it is.
     Beyond(Beyond),
     /// The run had stopped before.

@@ -17,14 +17,14 @@ use std::alloc::Global;
 const MOST_OF_HART: usize = 4_096;
 
 /// How many events a window has before it is looked through for the first time.
-const FIRST_LOOK: usize = 16_384;
+const FIRST_LOOK: usize = 8_192;
 
 /// When a run forgets what it may.
 #[derive(Clone, Copy, PartialEq, Eq, Debug)]
 pub enum CutRule {
     /// After so many events; 0 is taken for 1.
     Every(u32),
-    /// Where the window has become four times as large as the last cut left it, and not below 16,384
+    /// Where the window has become four times as large as the last cut left it, and not below 8,192
     /// events. So what cuts cost stays in proportion to the events.
     Grown,
 }
@@ -87,11 +87,14 @@ impl Watch {
                 return Err(Stop::NoMemory);
             }
         }
-        self.offer(entry)
+        self.take_uncut(entry)
     }
 
-    /// The same, where nothing is forgotten.
-    fn offer(&mut self, entry: &Entry) -> Result<(), Stop>
+    /// Takes the entry as [`take`](Watch::take) does, but forgets nothing before.
+    ///
+    /// # Errors
+    /// Why it was not taken. After `Beyond` and `NoMemory` the log is as it was.
+    pub fn take_uncut(&mut self, entry: &Entry) -> Result<(), Stop>
         ensures taken { (log : List Entry) → IsWatchOf self.old log → OnOk result
             ((fault_within limit log entry.now ≡ None) × IsWatchOf self.new (log ++ entry.now ∷ [])) }
         ensures stopped { (log : List Entry) → IsWatchOf self.old log →
@@ -107,7 +110,7 @@ impl Watch {
             Answer::Malformed(fault) => Err(Stop::Malformed(fault)),
             Answer::Taken => Err(Stop::Taken),
             Answer::Forbidden(forbidden) => Err(Stop::Forbidden(forbidden)),
-            Answer::BeforePast => Err(Stop::BeforePast),
+            Answer::BeforePast(edge) => Err(Stop::BeforePast(edge)),
             Answer::Beyond(beyond) => Err(Stop::Beyond(beyond)),
             Answer::Stopped => Err(Stop::Stopped),
             Answer::NoMemory => Err(Stop::NoMemory),
@@ -197,7 +200,7 @@ impl Watch {
     }
 
     /// Whether what may be forgotten is to be forgotten before the entry is taken.
-    fn is_cut_due(&self, entry: &Entry) -> bool {
+    pub(crate) fn is_cut_due(&self, entry: &Entry) -> bool {
         let is_full = match self.run.counts.get(entry.event.id.hart as usize) {
             Some(count) => {
                 let first = self.run.firsts.first(entry.event.id.hart);

@@ -2,11 +2,13 @@
 //!
 //! The rows of the sources are taken in turn, one of each, and each event is judged when it is read.
 //! What no active hart can come before any more is forgotten, so that memory does not grow with the
-//! run where its harts synchronise again and again.
+//! run where its harts synchronise again and again. Where an event comes before what was forgotten,
+//! `--recheck` reads the files again, keeps that from then on, and shows a circle.
 //!
 //! - `request`: what the words of the command line ask for.
 //! - `following`: the sources, row by row.
 //! - `progress`: how far the run is, told on a terminal.
+//! - `rechecking`: the sources once more, for a circle.
 //! - `telling`: what is printed, and the exit status.
 //!
 //! It stands on `rv_watch` for the judgement and the texts of refusals, on `rv_trace` for the rows,
@@ -16,45 +18,21 @@
 
 mod following;
 mod progress;
+mod rechecking;
 mod request;
 mod telling;
 
-use crate::following::{End, Follower};
-use crate::progress::Progress;
+use crate::following::{End, Follower, Mode, open_all};
+use crate::rechecking::rechecked;
 use crate::request::{HELP, Words, WordsFault, request_of};
 use crate::telling::{ALLOWED, WRONG_INPUT, settle, tell_failure};
 use rv_trace::Feed;
-use rv_watch::Watch;
 use std::alloc::AllocError;
-use std::fs::File;
-use std::io::{self, IsTerminal, Read, Write};
+use std::io::{self, Write};
 use std::process::ExitCode;
 
-/// Judges what these feeds give, prints what came of it, and gives the status.
-fn judge<R: Read + Drop>(
-    rt: &HostRuntime,
-    words: Words,
-    mut feeds: Vec<Feed<R>>,
-) -> Result<u8, AllocError> {
-    let Words {
-        harts,
-        rule,
-        model,
-        files,
-        ..
-    } = words;
-    let errors = rt.stderr();
-    let is_told = errors.is_terminal() && !rt.stdout().is_terminal();
-    let mut follower = Follower {
-        watch: Watch::new(rt.alloc(), model, harts, rule),
-        sources: [None; 16],
-        progress: Progress::new(rt, errors, is_told),
-    };
-    let end = match follower.follow(rt, feeds.as_mut_slice()) {
-        Ok(()) => End::Over,
-        Err(end) => end,
-    };
-    follower.progress.end();
+/// Prints what came of a run, and gives the status.
+fn tell(rt: &HostRuntime, words: &Words, follower: &Follower, end: &End) -> Result<u8, AllocError> {
     let mut out = io::writer(rt);
     let mut errors = rt.stderr();
     settle(
@@ -62,35 +40,26 @@ fn judge<R: Read + Drop>(
         &mut out,
         &mut errors,
         &follower.watch,
-        files.as_slice(),
-        &end,
+        words.files.as_slice(),
+        end,
     )
 }
 
-/// The feeds of the files that the words name, in their order; the name of one that does not open.
-fn open_all(
-    rt: &HostRuntime,
-    words: &Words,
-) -> Result<Result<Vec<Feed<File>>, String>, AllocError> {
-    let mut feeds = Vec::new(rt.alloc());
-    for name in words.files.iter() {
-        let Ok(file) = File::open(rt, name.as_str()) else {
-            return Ok(Err(String::from_str(rt.alloc(), name.as_str())?));
-        };
-        feeds.push(Feed::new(rt.alloc(), file))?;
-    }
-    Ok(Ok(feeds))
-}
-
 /// Does what the words ask for, and gives the status.
-fn answer<E: Write>(rt: &HostRuntime, words: Words, errors: &mut E) -> Result<u8, AllocError> {
+fn answer<E: Write>(rt: &HostRuntime, words: &Words, errors: &mut E) -> Result<u8, AllocError> {
+    let mut follower = Follower::new(rt, words, Mode::Ruled)?;
     if words.files.is_empty() {
         let mut feeds = Vec::new(rt.alloc());
         feeds.push(Feed::new(rt.alloc(), rt.reader()))?;
-        return judge(rt, words, feeds);
+        let end = follower.follow(rt, feeds.as_mut_slice());
+        return tell(rt, words, &follower, &end);
     }
-    match open_all(rt, &words)? {
-        Ok(feeds) => judge(rt, words, feeds),
+    match open_all(rt, words)? {
+        Ok(mut feeds) => {
+            let end = follower.follow(rt, feeds.as_mut_slice());
+            let end = rechecked(rt, words, &follower.watch, end, errors)?;
+            tell(rt, words, &follower, &end)
+        }
         Err(name) => {
             let _ = writeln!(errors, "rvmon: cannot open {name}");
             Ok(telling::FAILED)
@@ -113,7 +82,7 @@ fn main(rt: HostRuntime) -> ExitCode {
         let _ = writeln!(out, "{HELP}");
         return ExitCode::from(ALLOWED);
     }
-    match answer(&rt, words, &mut errors) {
+    match answer(&rt, &words, &mut errors) {
         Ok(status) => ExitCode::from(status),
         Err(AllocError) => ExitCode::from(tell_failure(&mut errors, "no memory")),
     }

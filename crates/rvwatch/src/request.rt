@@ -23,17 +23,20 @@ Usage: rvmon --harts LIST [WORD..] [FILE..]
   --cut K           forget what can be after each K events; where it is not said, as
                     often as is quick
   --model rvwmo|tso the memory model; rvwmo where it is not said
+  --recheck         where an event comes before what was forgotten, read the files once
+                    more, and show the circle in place of the line past
 
 A trace is as `rvmon --help` has it, without rows I. A row may also tell that a hart
 has ended, and acts no more. Hart 3 has ended:
 
   3,,END,,,,,
 
-Printed is one of these. Where an event comes before what was forgotten, no cycle is
-shown, but a line past.
+Printed is one of these. Where an event comes before what was forgotten, a line past
+tells why, and the word and the version of what was forgotten.
 
   allowed: E events, O operations, W waiting loads
   forbidden: ID after N events, and a circle, or a line stale or past
+    past: ID REASON word W version V
   malformed: ID after N events: fault F TEXT
 
 Status: 0 allowed, 1 forbidden, 2 malformed, a source that is not in the format, or
@@ -58,6 +61,8 @@ pub(crate) struct Words {
     pub(crate) model: MemoryModel,
     /// The files of the traces; none for standard input.
     pub(crate) files: Vec<String>,
+    /// Whether the files are read again for a circle.
+    pub(crate) recheck: bool,
     /// Whether help is asked for.
     pub(crate) help: bool,
 }
@@ -77,6 +82,9 @@ pub(crate) enum WordsFault {
     /// `--model` has no model behind it.
     #[error("--model takes rvwmo or tso")]
     Model,
+    /// There is nothing to read twice.
+    #[error("--recheck takes files, as it reads them twice")]
+    Recheck,
     /// There are more than eight files.
     #[error("at most 8 sources")]
     TooMany,
@@ -176,6 +184,7 @@ impl Words {
             rule: CutRule::Grown,
             model: MemoryModel::Rvwmo,
             files: Vec::new(alloc),
+            recheck: false,
             help: false,
         }
     }
@@ -195,10 +204,16 @@ impl Words {
         Ok(())
     }
 
-    /// Takes a word that has none behind it.
-    fn take(&mut self, word: String) -> Result<(), WordsFault> {
+    /// Takes a word that has none behind it, but may have a value in it, as `--cut=8`.
+    fn take(&mut self, alloc: Global, word: String) -> Result<(), WordsFault> {
+        if let Some((name, value)) = word.as_str().split_once('=') {
+            if let Some(setting) = Setting::named(name) {
+                return self.set(alloc, setting, value);
+            }
+        }
         match word.as_str() {
             "--help" | "-h" => self.help = true,
+            "--recheck" => self.recheck = true,
             _ if word.as_str().starts_with("-") => return Err(WordsFault::Unknown(word)),
             _ => {
                 if self.files.push(word).is_err() {
@@ -216,6 +231,9 @@ impl Words {
         }
         if self.harts.is_empty() && !self.help {
             return Err(WordsFault::Harts);
+        }
+        if self.recheck && self.files.is_empty() && !self.help {
+            return Err(WordsFault::Recheck);
         }
         Ok(self)
     }
@@ -239,7 +257,7 @@ pub(crate) fn request_of(rt: &HostRuntime) -> Result<Words, WordsFault> {
                 words.set(rt.alloc(), setting, word.as_str())?;
             }
             (None, Some(setting)) => waiting = Some(setting),
-            (None, None) => words.take(word)?,
+            (None, None) => words.take(rt.alloc(), word)?,
         }
     }
     match waiting {

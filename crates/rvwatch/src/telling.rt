@@ -1,11 +1,12 @@
 //! What is printed of a run, and the exit status.
 
 use crate::following::End;
+use rv_cert::Certificate;
 use rv_endless::Beyond;
 use rv_event::{Id, NoMemory};
 use rv_report::write_text;
 use rv_trace::{FaultKind, FeedFault};
-use rv_watch::{Stop, Watch, refusal_text};
+use rv_watch::{Stop, Watch, forbidden_text, refusal_text};
 use std::alloc::{AllocError, Global};
 use std::io::Write;
 
@@ -109,6 +110,21 @@ fn settle_stop<O: Write, E: Write>(
     }
 }
 
+/// Prints that the event of this id is forbidden, as the certificate shows, and gives the status.
+fn settle_shown<O: Write, E: Write>(
+    alloc: Global,
+    out: &mut O,
+    errors: &mut E,
+    watch: &Watch,
+    id: Id,
+    certificate: &Certificate,
+) -> Result<u8, AllocError> {
+    match forbidden_text(alloc, id, watch.events, certificate) {
+        Ok(text) => Ok(write_report(out, errors, text.as_str(), FORBIDDEN)),
+        Err(NoMemory) => Err(AllocError),
+    }
+}
+
 /// Prints what came of a run, and gives the status.
 pub(crate) fn settle<O: Write, E: Write>(
     alloc: Global,
@@ -124,7 +140,8 @@ pub(crate) fn settle<O: Write, E: Write>(
             let text = format!(in alloc; "allowed: {counts}\n")?;
             Ok(write_report(out, errors, text.as_str(), ALLOWED))
         }
-        End::Stopped(id, stop) => settle_stop(alloc, out, errors, watch, *id, stop),
+        End::Stopped(entry, stop) => settle_stop(alloc, out, errors, watch, entry.event.id, stop),
+        End::Shown(id, certificate) => settle_shown(alloc, out, errors, watch, *id, certificate),
         End::Faulty(source, fault) => Ok(settle_fault(errors, files, *source, *fault)),
     }
 }

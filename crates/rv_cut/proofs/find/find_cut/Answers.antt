@@ -21,6 +21,10 @@ pub behind-cut-requires : goal.behind-cut-requires
 behind-cut-requires c = indexed_from_WellFormed c.log-log.result.now
     (subst WellFormed (sym c.log-log.ensures.value) c.log-log.ensures.well_formed)
 
+pub close-requires : goal.close-requires
+close-requires c = indexed_from_WellFormed c.log-log.result.now
+    (subst WellFormed (sym c.log-log.ensures.value) c.log-log.ensures.well_formed)
+
 pub closes_pairs-requires : goal.closes_pairs-requires
 closes_pairs-requires c = indexed_from_WellFormed c.log-log.result.now
     (subst WellFormed (sym c.log-log.ensures.value) c.log-log.ensures.well_formed)
@@ -44,7 +48,7 @@ returns-then-closes_pairs c =
     closed settled (c.if-closes_pairs.ensures refl) within))
   where
     firsts : List ℕ
-    firsts = c.keep_open.new.cut
+    firsts = c.close.new.cut
 
     log : List Event
     log = events c.log-log.result.now
@@ -65,11 +69,11 @@ returns-then-closes_pairs c =
         IsSettled c.model-model.result log c.args.active.now p
     settled p own memory past =
         c.in_ok-keep_unsettled.ensures.settled p own memory
-        (past-lower c.keep_unsettled.new.cut firsts c.keep_open.ensures p.id past)
+        (past-lower c.keep_unsettled.new.cut firsts c.close.ensures p.id past)
 
     within : (hart : ℕ) → first_of firsts hart ≤ length (of_hart hart log)
     within hart =
-        omega (arith, c.keep_open.ensures hart, c.keep_unsettled.ensures.lower hart, c.behind-cut.ensures hart)
+        omega (arith, c.close.ensures hart, c.keep_unsettled.ensures.lower hart, c.behind-cut.ensures hart)
 
 pub returns : goal.returns
 returns c =

@@ -12,10 +12,10 @@ returns-clause-settled c = λ p own memory past hart is.
     absurd (none-there (place_for h later)
     (subst (λ (n : ℕ). IsTrue (has_place n (place_for h later))) (c.in_ok-marks.ensures q.id) has)) in
     let are = c.mark_sources.ensures c.args.model (events c.args.log.now) c.requires.edges
-    (c.mark_all-wanted.ensures.marked none) in
+    (c.mark_bars.ensures none) in
     let has = c.keep_unmarked.ensures.marked p own memory past in
     record {
-      loads = are hart Loads p own memory (has (place_for hart Loads) (c.mark_all-wanted.ensures.all hart Loads is));
+      loads = are hart Loads p own memory (has (place_for hart Loads) (c.places_of.ensures hart Loads is));
       stores = are hart Stores p own memory
-          (has (place_for hart Stores) (c.mark_all-wanted.ensures.all hart Stores is));
+          (has (place_for hart Stores) (c.places_of.ensures hart Stores is));
     }

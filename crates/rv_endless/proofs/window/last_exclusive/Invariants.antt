@@ -1,8 +1,9 @@
-use Rattle.rv_endless.specs.Partners.{IsLastExclusive}
-use Rattle.rv_event.specs.Log.{events}
-use Rattle.std.proofs.Common.{take}
-use Rattle.std.specs.Option.{option_copied}
+use Rattle.rv_endless.proofs.Exclusives.{NoneFrom}
+use Rattle.std.proofs.Common.{length, ◌≤◌}
 use Rattle.rv_endless.proofs.window.last_exclusive.Given as goal
 
-abbrev pub invariant-loop-entry : goal.invariant-loop-entry
-invariant-loop-entry l = IsLastExclusive (events (take l.entry-index l.log)) l.hart (option_copied l.last)
+abbrev pub invariant-later : goal.invariant-later
+invariant-later l = (l.rest ≤ length l.log) × NoneFrom l.log l.hart l.rest
+
+abbrev pub decreases-later : goal.decreases-later
+decreases-later l = l.rest

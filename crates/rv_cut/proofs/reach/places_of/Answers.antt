@@ -1,4 +1,4 @@
--- The places of one hart more are added.
+-- The places of one hart more are in the mark.
 use Rattle.std.proofs.Common.{IsTrue, List, arith, get_or, inl, inr, subst, sym, ℕ, ◌*◌, ◌+◌, ◌∙◌, ◌≡◌}
 use Rattle.std.proofs.lemmas.Bool.{eq-eqb}
 use Rattle.std.proofs.lemmas.List.{take_all}
@@ -10,15 +10,7 @@ use Rattle.rv_cut.proofs.Places.{or-left, or-right}
 use Rattle.rv_cut.specs.Marked.{has_place, place_for}
 use Rattle.rv_cut.specs.declared.bars.Later.{Later}
 use Rattle.rv_cut.specs.declared.bars.Later.TheVariants.{Loads, Stores}
-use Rattle.rv_cut.proofs.reach.mark_all.Goals as goal
-
-pub mark_bars-requires : goal.mark_bars-requires
-mark_bars-requires c =
-    c.requires _ (Contains-get_or c.args.active.now c.loop-hart.hart-index 0 c.loop-hart-test.true)
-
-pub mark_bars-requires-in-loop-hart : goal.mark_bars-requires-in-loop-hart
-mark_bars-requires-in-loop-hart c =
-    c.requires _ (Contains-get_or c.args.active.now c.loop-hart.hart-index 0 c.loop-hart-test.true)
+use Rattle.rv_cut.proofs.reach.places_of.Goals as goal
 
 pub mark-requires : goal.mark-requires
 mark-requires c =
@@ -29,17 +21,13 @@ mark-requires-in-loop-hart c =
     c.requires _ (Contains-get_or c.args.active.now c.loop-hart.hart-index 0 c.loop-hart-test.true)
 
 pub loop-hart-preserved : goal.loop-hart-preserved
-loop-hart-preserved c = (
-  λ start. c.mark_bars-in-loop-hart.ensures (c.mark_bars.ensures (c.loop-hart.invariant.0 start)),
-  λ hart later is.
-      elim (contained-more c.args.active.now c.loop-hart.hart-index 0 hart c.loop-hart-test.true is) [
-        | inl before ↦
-            let old = c.loop-hart.invariant.1 hart later before in
-            or-left (bit_or c.loop-hart.all c.mark.result) c.mark-in-loop-hart.result (place_for hart later)
-            (or-left c.loop-hart.all c.mark.result (place_for hart later) old)
-        | inr same ↦ new hart same later
-      ],
-)
+loop-hart-preserved c = λ hart later is.
+    elim (contained-more c.args.active.now c.loop-hart.hart-index 0 hart c.loop-hart-test.true is) [
+      | inl before ↦
+          or-left (bit_or c.loop-hart.all c.mark.result) c.mark-in-loop-hart.result (place_for hart later)
+          (or-left c.loop-hart.all c.mark.result (place_for hart later) (c.loop-hart.invariant hart later before))
+      | inr same ↦ new hart same later
+    ]
   where
     new : (hart : ℕ) → get_or c.args.active.now c.loop-hart.hart-index 0 ≡ hart → (later : Later) →
         IsTrue (has_place (bit_or (bit_or c.loop-hart.all c.mark.result) c.mark-in-loop-hart.result)
@@ -52,7 +40,7 @@ loop-hart-preserved c = (
         or-right (bit_or c.loop-hart.all c.mark.result) c.mark-in-loop-hart.result (2 * hart + 1)
         (c.mark-in-loop-hart.ensures (2 * hart + 1) ∙ eq-eqb (2 * hart + 1) _ (omega (arith, same)))
 
-pub returns-clause-all : goal.returns-clause-all
-returns-clause-all c = λ hart later is.
-    c.loop-hart.invariant.1 hart later (subst (λ (hs : List ℕ). Contains hs hart)
+pub returns : goal.returns
+returns c = λ hart later is.
+    c.loop-hart.invariant hart later (subst (λ (hs : List ℕ). Contains hs hart)
     (sym (take_all c.loop-hart.hart-index c.args.active.now c.loop-hart-test.false)) is)

@@ -1,13 +1,14 @@
 use Rattle.std.proofs.Common.{◌∙◌, ◌++◌, ◌∷◌, [], sym, subst}
 use Rattle.rv_book.specs.Booked.{SomeLawful}
-use Rattle.rv_endless.specs.Runs.{IsForbidden, KeepsSettings, StandsFor}
+use Rattle.rv_endless.specs.Runs.{IsEdgeIntoPast, IsForbidden, KeepsSettings, StandsFor}
 use Rattle.rv_endless.specs.declared.run.Endless.{Endless}
 use Rattle.rv_event.specs.declared.event.Entry.{Entry}
 use Rattle.rv_event.specs.declared.memory_model.MemoryModel.{MemoryModel}
 use Rattle.std.proofs.Common.{List}
+use Rattle.rv_past.specs.declared.edge.PastEdge.{PastEdge}
 use Rattle.rv_watch.specs.Watches.{most}
 use Rattle.rv_watch.proofs.Counted.{events-more, operations-more}
-use Rattle.rv_watch.proofs.watch.Watch.offer.Goals as goal
+use Rattle.rv_watch.proofs.watch.Watch.take_uncut.Goals as goal
 
 pub returns-in-Accepted-clause-taken : goal.returns-in-Accepted-clause-taken
 returns-in-Accepted-clause-taken c = λ log watches.
@@ -41,7 +42,22 @@ returns-in-Forbidden-clause-stopped c = λ log watches.
       rw (settings.model, stopped.1, settings.firsts) told.1,
     )
 
+-- and an edge into the past is one
+edge-still : (old new : Endless) (log : List Entry) (x : Entry) (edge : PastEdge) → KeepsSettings old new →
+    IsEdgeIntoPast old log x edge → IsEdgeIntoPast new log x edge
+edge-still old new log x edge settings leads = record {
+  past = leads.past;
+  of_log = leads.of_log;
+  forgotten = rw settings.firsts leads.forgotten;
+  leads = rw settings.model leads.leads;
+  word = leads.word;
+  version = leads.version;
+}
+
 pub returns-in-BeforePast-clause-stopped : goal.returns-in-BeforePast-clause-stopped
 returns-in-BeforePast-clause-stopped c = λ log watches.
-    forbidden-still c.args.self.now.run c.offer.new.self log c.args.entry.now
-    c.in-BeforePast.ensures.settings (c.in-BeforePast.ensures.before_past log watches.stands)
+    let told = c.in-BeforePast.ensures.before_past log watches.stands in
+    let settings = c.in-BeforePast.ensures.settings in (
+      forbidden-still c.args.self.now.run c.offer.new.self log c.args.entry.now settings told.0,
+      edge-still c.args.self.now.run c.offer.new.self log c.args.entry.now _ settings told.1,
+    )
