@@ -1,5 +1,5 @@
 -- What a recheck tells: the circle by an event that was forgotten. These are this project's own.
-use Rattle.std.specs.Prelude.{ℕ, ◌≡◌, ◌≤◌, ◌==◌, Any, List, Some, [], count_by}
+use Rattle.std.specs.Prelude.{ℕ, ◌≡◌, ◌==◌, Any, List, Some, [], count_by}
 use Rattle.rv_book.specs.Booked.{IsForbiddenOn}
 use Rattle.rv_cert.specs.Refusals.{Refusal}
 use Rattle.rv_cert.specs.declared.certificate.Certificate.{Certificate}
@@ -13,15 +13,15 @@ use Rattle.rv_past.specs.declared.edge.PastEdge.{PastEdge}
 use Rattle.rv_watch.specs.Names.{certificate_named}
 use Rattle.rv_watch.specs.declared.watch.Watch.{Watch}
 
--- an edge of this reason may lead to the operation, of this version or, but for reads-from, a newer one:
--- reads-from leads to a load, others to a store
+-- an edge of this reason may lead to the operation with this version: reads-from leads to a load, others to
+-- a store
 abbrev pub IsEndBy : Reason → Event → ℕ → Type 0
 IsEndBy ReadsFrom p version = IsLoad p × (p.read ≡ version)
-IsEndBy FromRead p version = IsStore p × (version ≤ p.wrote)
-IsEndBy Coherence p version = IsStore p × (version ≤ p.wrote)
-IsEndBy AtomicOut p version = IsStore p × (version ≤ p.wrote)
-IsEndBy AtomicIn p version = IsStore p × (version ≤ p.wrote)
-IsEndBy (Preserved k) p version = IsStore p × (version ≤ p.wrote)
+IsEndBy FromRead p version = IsStore p × (p.wrote ≡ version)
+IsEndBy Coherence p version = IsStore p × (p.wrote ≡ version)
+IsEndBy AtomicOut p version = IsStore p × (p.wrote ≡ version)
+IsEndBy AtomicIn p version = IsStore p × (p.wrote ≡ version)
+IsEndBy (Preserved k) p version = IsStore p × (p.wrote ≡ version)
 
 -- the edge may lead to the operation
 abbrev pub IsEndOf : PastEdge → Event → Type 0

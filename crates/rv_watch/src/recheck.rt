@@ -17,7 +17,7 @@ use rv_event::{Deps, Entry, Event, Id, NoMemory, Op, Reason};
 use rv_past::PastEdge;
 use std::alloc::Global;
 
-/// Whether the edge, or one of its reason to a newer version, may lead to the event.
+/// Whether the edge may lead to the event.
 fn is_end(edge: PastEdge, event: &Event) -> bool
     ensures { IsTrue result ↔ IsEndOf edge event.now }
 {
@@ -26,7 +26,7 @@ fn is_end(edge: PastEdge, event: &Event) -> bool
     }
     match edge.reason {
         Reason::ReadsFrom => event.is_load() && event.read == edge.version,
-        _ => event.is_store() && event.wrote >= edge.version,
+        _ => event.is_store() && event.wrote == edge.version,
     }
 }
 
@@ -46,8 +46,8 @@ impl Watch {
     }
 
     /// Takes the entry as [`take`](Watch::take) does. But where before it an operation would be
-    /// forgotten to which the edge may lead, or one of its reason to a newer version, nothing
-    /// changes, and the answer is `false`: the window has it still.
+    /// forgotten to which the edge may lead, nothing changes, and the answer is `false`: the window
+    /// has it still.
     ///
     /// # Errors
     /// Why it was not taken, as of `take`.
@@ -69,15 +69,13 @@ impl Watch {
         Ok(true)
     }
 
-    /// Offers the entry to the window as the next one of its hart, without its dependencies, where
-    /// the window may have what the edge leads to. Where that is forbidden, the certificate shows
-    /// why, with the names of the log. The watch is of no use behind that.
+    /// Offers the entry to the window as the next one of its hart, without its dependencies. Where
+    /// that is forbidden, the certificate shows why, with the names of the log. The watch is of no
+    /// use behind that.
     ///
-    /// `None` where it is not forbidden, and where events that the window lacks could undo what is
-    /// shown: an LR between it and an SC, or a store between two loads that rule 2 puts in order.
-    ///
-    /// # Errors
-    /// `NoMemory` where it could not be had.
+    /// `None` where it is not forbidden. Where the window lacks events of the hart before the entry,
+    /// these could undo what is shown: another LR before an SC, or a store between two loads that
+    /// rule 2 puts in order. So then it is `None` too.
     pub fn explain_past(
         &mut self,
         alloc: Global,
@@ -86,17 +84,19 @@ impl Watch {
     ) -> Result<Option<Certificate>, NoMemory>
         ensures { IfOk result (λ told. IfSome told (IsShownBy self.old entry.now)) }
     {
-        if entry.event.op == Op::Sc && edge.reason != Reason::AtomicOut {
+        let next = next_of(alloc, self.run.book.log(), entry);
+        let first = self.run.firsts.first(entry.event.id.hart);
+        let has_gap = next.event.id.seq.saturating_add(first) != entry.event.id.seq;
+        if has_gap && entry.event.op == Op::Sc && edge.reason != Reason::AtomicOut {
             return Ok(None);
         }
-        let next = next_of(alloc, self.run.book.log(), entry);
         match self.run.book.offer(&next) {
             Offer::Forbidden(forbidden) => {
                 let naming = Naming {
                     firsts: &self.run.firsts,
                     refused: Some((next.event.id, entry.event.id)),
                 };
-                if ends_by_rule_2(forbidden.certificate()) {
+                if has_gap && ends_by_rule_2(forbidden.certificate()) {
                     return Ok(None);
                 }
                 let told = naming.certificate(alloc, forbidden.certificate())?;

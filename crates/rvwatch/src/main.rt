@@ -57,7 +57,7 @@ fn answer<E: Write>(rt: &HostRuntime, words: &Words, errors: &mut E) -> Result<u
     match open_all(rt, words)? {
         Ok(mut feeds) => {
             let end = follower.follow(rt, feeds.as_mut_slice());
-            let end = rechecked(rt, words, &follower.watch, end, errors)?;
+            let end = rechecked(rt, words, end, errors)?;
             tell(rt, words, &follower, &end)
         }
         Err(name) => {
