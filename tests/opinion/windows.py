@@ -5,16 +5,15 @@ import re
 from opinion.model import certifies, is_edge
 from opinion.outcomes import possible_outcomes
 
-CUT_EACH = 8
 LAST_HART = 15
 PAST = re.compile(r"past: (h\S+) (from-read|coherence|reads-from|atomic-out) word ([0-9]+) version ([0-9]+)")
 
 
-def window_words(trace):
+def window_words(trace, cut_each):
     """The words that have a trace judged as a run of any length, where the harts of its rows are declared."""
     numbers = re.findall(r"^([0-9]{1,10}),", "\n".join(trace.sources), re.M)
     harts = sorted({int(number) for number in numbers if int(number) <= LAST_HART}) or [0]
-    return ["--harts", ",".join(map(str, harts)), "--cut", str(CUT_EACH), "--model", trace.model]
+    return ["--harts", ",".join(map(str, harts)), "--cut", str(cut_each), "--model", trace.model]
 
 
 def window_outcomes(trace):
