@@ -45,26 +45,51 @@ fn tell(rt: &HostRuntime, words: &Words, follower: &Follower, end: &End) -> Resu
     )
 }
 
-/// Does what the words ask for, and gives the status.
-fn answer<E: Write>(rt: &HostRuntime, words: &Words, errors: &mut E) -> Result<u8, AllocError> {
-    let mut follower = Follower::new(rt, words, Mode::Ruled)?;
-    if words.files.is_empty() {
-        let mut feeds = Vec::new(rt.alloc());
-        feeds.push(Feed::new(rt.alloc(), rt.reader()))?;
-        let end = follower.follow(rt, feeds.as_mut_slice());
-        return tell(rt, words, &follower, &end);
-    }
+/// Follows standard input.
+fn follow_input(rt: &HostRuntime, follower: &mut Follower) -> Result<Option<End>, AllocError> {
+    let mut feeds = Vec::new(rt.alloc());
+    feeds.push(Feed::new(rt.alloc(), rt.reader()))?;
+    let end = follower.follow(rt, feeds.as_mut_slice());
+    drop(feeds);
+    Ok(Some(end))
+}
+
+/// Follows the files that the words name; `None` where one does not open, which is told.
+fn follow_files<E: Write>(
+    rt: &HostRuntime,
+    words: &Words,
+    follower: &mut Follower,
+    errors: &mut E,
+) -> Result<Option<End>, AllocError> {
     match open_all(rt, words)? {
         Ok(mut feeds) => {
             let end = follower.follow(rt, feeds.as_mut_slice());
-            let end = rechecked(rt, words, end, errors)?;
-            tell(rt, words, &follower, &end)
+            drop(feeds);
+            rechecked(rt, words, end, errors).map(Some)
         }
         Err(name) => {
             let _ = writeln!(errors, "rvmon: cannot open {name}");
-            Ok(telling::FAILED)
+            Ok(None)
         }
     }
+}
+
+/// Does what the words ask for, and gives the status.
+fn answer<E: Write>(rt: &HostRuntime, words: &Words, errors: &mut E) -> Result<u8, AllocError> {
+    let mut follower = Follower::new(rt, words, Mode::Ruled)?;
+    let end = if words.files.is_empty() {
+        follow_input(rt, &mut follower)
+    } else {
+        follow_files(rt, words, &mut follower, errors)
+    };
+    let status = match &end {
+        Ok(Some(end)) => tell(rt, words, &follower, end),
+        Ok(None) => Ok(telling::FAILED),
+        Err(AllocError) => Err(AllocError),
+    };
+    drop(end);
+    drop(follower);
+    status
 }
 
 fn main(rt: HostRuntime) -> ExitCode {

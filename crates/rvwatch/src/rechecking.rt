@@ -33,6 +33,9 @@ fn recheck(
         _ if follower.mode == Mode::Held => { follower.watch.explain_past(rt.alloc(), entry, edge) }
         _ => Ok(None),
     };
+    drop(end);
+    drop(follower);
+    drop(feeds);
     shown.map_err(|_| AllocError)
 }
 
