@@ -101,6 +101,7 @@ impl Watch {
             IfErr result (IsStop self.new log entry.now) }
         ensures model { self.new.run.book.model ≡ self.old.run.book.model }
         ensures harts { self.new.run.active ≡ self.old.run.active }
+        ensures waiting { self.new.waiting_gone ≡ self.old.waiting_gone }
     {
         match self.run.offer(entry) {
             Answer::Accepted => {
@@ -124,6 +125,7 @@ impl Watch {
         ensures ended { (h : ℕ) → Contains self.new.run.active.items h
             ↔ (Contains self.old.run.active.items h × (h ≢ hart)) }
         ensures model { self.new.run.book.model ≡ self.old.run.book.model }
+        ensures waiting { self.new.waiting_gone ≡ self.old.waiting_gone }
     {
         self.run.end(hart);
     }
@@ -187,6 +189,7 @@ impl Watch {
     /// Counts an entry that was taken.
     fn count(&mut self, entry: &Entry)
         ensures run { self.new.run ≡ self.old.run }
+        ensures waiting { self.new.waiting_gone ≡ self.old.waiting_gone }
         ensures events { self.new.events ≡ min (self.old.events + 1) 18446744073709551615 }
         ensures operations { self.new.operations
             ≡ min (self.old.operations + (if is_memory entry.now.event.op then 1 else 0)) 18446744073709551615 }
