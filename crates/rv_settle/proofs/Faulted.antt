@@ -2,7 +2,7 @@
 use Rattle.std.proofs.Common.{Bool, Contains, IsFalse, List, None, Option, Some, ap, arith, eq-eqb}
 use Rattle.std.proofs.Common.{false, filter}
 use Rattle.std.proofs.Common.{find, inl, inr, length, not, option_map, refl, reverse, subst, sym}
-use Rattle.std.proofs.Common.{true, unwrap_or}
+use Rattle.std.proofs.Common.{true}
 use Rattle.std.proofs.Common.{ℕ, [], ◌&&◌, ◌++◌, ◌+◌, ◌-◌, ◌<◌, ◌==◌, ◌||◌, ◌∙◌, ◌∷◌, ◌≡◌, ◌≤◌, ◌⊎◌}
 use Rattle.std.proofs.lemmas.Bool.{cases_lt, eqb-true, false≢true, le-leb, lt-leb}
 use Rattle.std.proofs.lemmas.Grind.{common_steps}
@@ -14,9 +14,10 @@ use Rattle.std.specs.Option.{option_or}
 use Rattle.std.specs.Prelude.{nat_le, nat_lt}
 use Rattle.rv_event.proofs.Beginnings.{numbered_within}
 use Rattle.rv_event.proofs.Indexed.{IndexedWithin, indexed_from_WellFormed, indexed_within}
+use Rattle.rv_event.proofs.Merged.{Contains-filter}
 use Rattle.rv_event.proofs.Names.{Contains-here, Contains-there, named-is, writer-is}
 use Rattle.rv_event.specs.Faults.{dependency_fault, deps_fault, expected, fault_if}
-use Rattle.rv_event.specs.Faults.{first_faults_within, full_fault, hart_fault, is_bad_dependency, is_lr}
+use Rattle.rv_event.specs.Faults.{first_faults_within, full_fault, hart_fault, is_bad_dependency}
 use Rattle.rv_event.specs.Faults.{is_reserved, is_sc, lowest, names_no_value, reservation_fault}
 use Rattle.rv_event.specs.Faults.{sequence_fault}
 use Rattle.rv_event.specs.Faults.{source_fault, taken_fault}
@@ -32,12 +33,13 @@ use Rattle.rv_event.specs.declared.fault.Fault.TheVariants.{Dependency, Hart, No
 use Rattle.rv_event.specs.declared.fault.Fault.TheVariants.{OtherSource, Sequence}
 use Rattle.rv_event.specs.declared.fault.Fault.TheVariants.{VersionTaken, VersionZero}
 use Rattle.rv_settle.proofs.Decided.{comes-back}
-use Rattle.rv_settle.proofs.Formed.{CountsFrom, count-high, ends-behind, ends-renumbered}
-use Rattle.rv_settle.proofs.Formed.{ends_reserved, is_high}
-use Rattle.rv_settle.proofs.Formed.{is_low, low-high, own-forgotten, own-window, shorter, window-formed}
+use Rattle.rv_settle.proofs.Counted.{CountsFrom, count-high, ends-renumbered, ends_reserved, is_high, is_low}
+use Rattle.rv_settle.proofs.Counted.{low-high, own-window}
+use Rattle.rv_settle.proofs.Formed.{shorter, window-formed}
+use Rattle.rv_settle.proofs.Pairs.{reserved-window, tells}
 use Rattle.rv_settle.proofs.Windows.{into-window, onto-window}
 use Rattle.rv_settle.specs.Fitting.{DependsWell, FitsPast, HasOldSource, IsUntaken, in_full}
-use Rattle.rv_settle.specs.Windows.{ClosesPairs, IsKept, KeepsFew, deps_from, renumbered, window}
+use Rattle.rv_settle.specs.Windows.{IsKept, KeepsFew, KeepsPair, KeepsPairs, deps_from, renumbered, window}
 
 -- two tests that pass for each other are one
 pub same-bool : (a b : Bool) → (a ≡ true → b ≡ true) → (b ≡ true → a ≡ true) → a ≡ b
@@ -74,10 +76,6 @@ pub told : (f : Fault → Fault) (b : Bool) (g : Fault) → f g ≡ g → fault_
 told f true g same = ap Some (sym same)
 told f false g same = refl
 
--- whether it is an LR
-abbrev tells : Option Event → Bool
-tells o = unwrap_or (option_map (λ (k : Event). is_lr k.op) o) false
-
 -- where the second part ends with a reservation, so does the whole
 ends-last : (xs ys : List Event) → ends_reserved ys ≡ true → ends_reserved (xs ++ ys) ≡ true
 ends-last xs ys reserved = go (find (λ (m : Event). is_exclusive m.op) (reverse ys)) refl
@@ -95,7 +93,8 @@ ends-last xs ys reserved = go (find (λ (m : Event). is_exclusive m.op) (reverse
     go None is = absurd (false≢true (sym (ap tells is) ∙ reserved))
 
 module _ (limit : ℕ) (log : List Entry) (x : Entry) (first : ℕ → ℕ) (ok : WellFormedWithin limit log)
-    (closed : ClosesPairs first (events log)) (few : KeepsFew first (events log))
+    (pairs : KeepsPairs first (events log)) (pair : KeepsPair first (events log) x.event)
+    (few : KeepsFew first (events log))
     (within : first x.event.id.hart ≤ length (of_hart x.event.id.hart (events log))) (kept : IsKept first x.event)
     (room : x.event.id.seq < first x.event.id.hart + 4096) where
   abbrev h : ℕ
@@ -123,7 +122,7 @@ module _ (limit : ℕ) (log : List Entry) (x : Entry) (first : ℕ → ℕ) (ok 
   known = indexed_within limit log ok
 
   known-window : IndexedWithin 4096 w
-  known-window = indexed_from_WellFormed (window first log) (window-formed limit log first ok closed few)
+  known-window = indexed_from_WellFormed (window first log) (window-formed limit log first ok pairs few)
 
   own-counts : CountsFrom 0 own
   own-counts k d low = let at = numbered_within limit log ok h k d low in omega (arith, at)
@@ -268,24 +267,24 @@ module _ (limit : ℕ) (log : List Entry) (x : Entry) (first : ℕ → ℕ) (ok 
       go true is = rw is (writer-same free is)
       go false is = rw is refl
 
-  -- the hart's reservation is told by what is kept
-  reserved-same : is_reserved es h ≡ is_reserved w h
-  reserved-same =
+  -- the hart's reservation is told by what is kept, where the event is an SC that comes next
+  reserved-same : x.event.id.seq ≡ length own → is_sc x.event.op ≡ true → is_reserved es h ≡ is_reserved w h
+  reserved-same next sc =
       same-bool (is_reserved es h) (is_reserved w h)
-      (λ whole. ap ends_reserved (own-window first h log) ∙ ends-renumbered first (filter (is_high n) own)
-      ∙ ends-behind (filter (is_low n) own) (filter (is_high n) own) none
-      (ap ends_reserved (sym (low-high n 0 own own-counts)) ∙ whole))
+      (reserved-window limit log first ok h es x.event refl next sc (λ m c. c)
+      (λ z c earlier. Contains-filter (λ (e : Event). h == e.id.hart) es z c (eq-eqb h z.id.hart (sym earlier.hart)))
+      pair)
       (λ part. ap ends_reserved (low-high n 0 own own-counts)
       ∙ ends-last (filter (is_low n) own) (filter (is_high n) own)
       (sym (ends-renumbered first (filter (is_high n) own)) ∙ sym (ap ends_reserved (own-window first h log)) ∙ part))
-    where
-      none : ends_reserved (filter (is_low n) own) ≡ false
-      none = ap ends_reserved (sym (own-forgotten first h es)) ∙ closed h
 
-  pub reservation : reservation_fault es x.event ≡ option_map full (reservation_fault w new)
-  reservation =
-      ap (λ (b : Bool). fault_if (is_sc x.event.op && not b) NoReservation) reserved-same
-      ∙ told full (is_sc x.event.op && not (is_reserved w h)) NoReservation refl
+  pub reservation : x.event.id.seq ≡ length own →
+      reservation_fault es x.event ≡ option_map full (reservation_fault w new)
+  reservation next = go (is_sc x.event.op) refl
+    where
+      go : (b : Bool) → is_sc x.event.op ≡ b → reservation_fault es x.event ≡ option_map full (reservation_fault w new)
+      go false is = rw is refl
+      go true is = rw (is, reserved-same next is) (told full (not (is_reserved w h)) NoReservation refl)
 
   pub full-none : x.event.id.seq < limit → x.event.id.seq ≡ length own → full_fault limit es x.event
       ≡ option_map full (full_fault 4096 w new)
@@ -368,7 +367,7 @@ module _ (limit : ℕ) (log : List Entry) (x : Entry) (first : ℕ → ℕ) (ok 
                   (
                     taken fits.free,
                     (
-                      reservation,
+                      reservation (eqb-true x.event.id.seq (length own) is),
                       (
                         full-none fits.below (eqb-true x.event.id.seq (length own) is),
                         (source fits.source, (too-many fits.few, tt)),

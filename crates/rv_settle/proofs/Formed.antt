@@ -1,261 +1,40 @@
 -- The window of a well formed log is well formed.
-use Rattle.std.proofs.Common.{ℕ, ◌++◌, ◌+◌, ◌∷◌, ◌≡◌, ◌⊎◌, ◌∙◌, ◌<◌, ◌≤◌, ◌-◌, ◌==◌, ◌&&◌, ◌||◌, [], Bool, Contains}
-use Rattle.std.proofs.Common.{List, None, Option, Some, ap, arith, cond, false, filter, find, get_or, inl, inr}
-use Rattle.std.proofs.Common.{length, length-append, map, not, option_map, refl, reverse, subst, suc, suc-le-suc, sym}
-use Rattle.std.proofs.Common.{IsFalse, ◌≢◌, append-nil, append_assoc, eq-eqb, true, unwrap_or, zero, zero-lt-suc}
+use Rattle.std.proofs.Common.{ℕ, ◌++◌, ◌∷◌, ◌≡◌, ◌⊎◌, ◌∙◌, ◌<◌, ◌≤◌, ◌-◌, ◌==◌, ◌&&◌, ◌||◌, [], Bool, Contains}
+use Rattle.std.proofs.Common.{List, None, Option, Some, ap, arith, cond, false, filter, get_or, inl, inr}
+use Rattle.std.proofs.Common.{length, length-append, map, not, refl, subst, suc, sym}
+use Rattle.std.proofs.Common.{append-nil, append_assoc, eq-eqb, true, zero}
 use Rattle.std.proofs.lemmas.Option.{none-some, same_Some}
 use Rattle.std.specs.List.{list_any}
-use Rattle.std.specs.Option.{option_or}
 use Rattle.std.specs.Prelude.{nat_le, nat_lt}
-use Rattle.std.proofs.lemmas.Bool.{cases_lt, false≢true, leb-true}
+use Rattle.std.proofs.lemmas.Bool.{false≢true, leb-true}
 use Rattle.std.proofs.lemmas.Grind.{common_steps}
-use Rattle.std.proofs.lemmas.List.{length-map, map-append, reverse-append}
-use Rattle.std.proofs.lemmas.List.Elements.{All-contains, filter-append, filter_passes}
-use Rattle.std.proofs.lemmas.List.Folds.{find-append, list_any_none}
+use Rattle.std.proofs.lemmas.List.{length-map, map-append}
+use Rattle.std.proofs.lemmas.List.Elements.{All-contains, Contains-append_left, Contains-append_right, filter-append, filter_passes}
+use Rattle.std.proofs.lemmas.List.Folds.{list_any_none}
 use Rattle.rv_event.proofs.Beginnings.{numbered_within}
-use Rattle.rv_event.proofs.Growing.{All-from_contains, filter-map}
+use Rattle.rv_event.proofs.Growing.{All-from_contains}
 use Rattle.rv_event.proofs.Indexed.{IndexedWithin, SoundWithin, indexed_within, none-lowest, sound_from_none}
 use Rattle.rv_event.proofs.Merged.{Contains-filter, Contains-unfilter}
-use Rattle.rv_event.proofs.Names.{Contains-cons, Contains-here, Contains-map, Contains-none, Contains-there, named-is}
+use Rattle.rv_event.proofs.Names.{Contains-cons, Contains-here, Contains-map, Contains-none, named-is}
 use Rattle.rv_event.proofs.Names.{writer-is}
 use Rattle.rv_event.proofs.Pushed.{WellFormed-nil, WellFormed-push, within-front}
 use Rattle.rv_event.specs.Faults.{admits, can_be_named, deps_fault, expected, fault_if, fault_of, first_faults_within}
-use Rattle.rv_event.specs.Faults.{is_bad_dependency, is_lr, is_reserved, is_sc, lowest, names_no_value}
+use Rattle.rv_event.specs.Faults.{is_bad_dependency, is_reserved, is_sc, lowest, names_no_value}
 use Rattle.rv_event.specs.Faults.{reservation_fault, source_fault, taken_fault}
 use Rattle.rv_event.specs.declared.fault.Fault.{Fault}
 use Rattle.rv_event.specs.declared.fault.Fault.TheVariants.{Dependency, Full, NoReservation, OtherSource, Sequence}
 use Rattle.rv_event.specs.declared.fault.Fault.TheVariants.{TooManyDeps}
-use Rattle.rv_event.specs.Log.{Between, events, named, of_hart, writer}
-use Rattle.rv_event.specs.Operations.{IsStore, is_exclusive, is_store}
+use Rattle.rv_event.specs.Log.{Earlier, events, named, of_hart, writer}
+use Rattle.rv_event.specs.Operations.{IsStore, is_store}
 use Rattle.rv_event.specs.WellFormed.{WellFormed, WellFormedWithin}
 use Rattle.rv_event.specs.declared.event.Dep.{Dep}
 use Rattle.rv_event.specs.declared.event.Entry.{Entry}
 use Rattle.rv_event.specs.declared.event.Event.{Event}
 use Rattle.rv_event.specs.declared.event.Id.{Id}
+use Rattle.rv_settle.proofs.Counted.{CountsFrom, count-high, is_high, own-window}
+use Rattle.rv_settle.proofs.Pairs.{reserved-window}
 use Rattle.rv_settle.proofs.Windows.{onto-window}
-use Rattle.rv_settle.specs.Windows.{ClosesPairs, IsKept, KeepsFew, KeepsPairs, renumbered, window}
-
--- to map twice is to map once
-map-twice : {X Y Z : Type 0} (f : X → Y) (g : Y → Z) (xs : List X) → map g (map f xs) ≡ map (λ x. g (f x)) xs
-map-twice f g [] = refl
-map-twice f g (x ∷ xs) = ap (λ ys. g (f x) ∷ ys) (map-twice f g xs)
-
--- two filters may be exchanged
-filter-swap : {X : Type 0} (p q : X → Bool) (xs : List X) → filter p (filter q xs) ≡ filter q (filter p xs)
-filter-swap p q [] = refl
-filter-swap {X} p q (x ∷ xs) = go (p x) (q x) refl refl (filter-swap p q xs)
-  where
-    go : (b d : Bool) → p x ≡ b → q x ≡ d → filter p (filter q xs) ≡ filter q (filter p xs) →
-        filter p (cond d (x ∷ filter q xs) (filter q xs)) ≡ filter q (cond b (x ∷ filter p xs) (filter p xs))
-    go true true e f again = rw (e, f, again)
-    go true false e f again = rw (f, again)
-    go false true e f again = rw (e, again)
-    go false false e f again = again
-
--- tests that agree on the elements keep the same ones
-pub filter-same : {X : Type 0} (p q : X → Bool) (xs : List X) → ((x : X) → Contains xs x → p x ≡ q x) →
-    filter p xs ≡ filter q xs
-filter-same p q [] same = refl
-filter-same {X} p q (x ∷ xs) same =
-    go (p x) refl (sym (same x (Contains-here x xs x refl)))
-    (filter-same p q xs (λ y c. same y (Contains-there x xs y c)))
-  where
-    go : (b : Bool) → p x ≡ b → q x ≡ p x → filter p xs ≡ filter q xs →
-        cond b (x ∷ filter p xs) (filter p xs) ≡ cond (q x) (x ∷ filter q xs) (filter q xs)
-    go true e f again = rw (f, e, again)
-    go false e f again = rw (f, e, again)
-
--- a search in what was mapped
-pub find-map : {X Y : Type 0} (f : X → Y) (p : Y → Bool) (xs : List X) →
-    find p (map f xs) ≡ option_map f (find (λ x. p (f x)) xs)
-find-map f p [] = refl
-find-map {X} {Y} f p (x ∷ xs) = go (p (f x)) (find-map f p xs)
-  where
-    go : (b : Bool) → find p (map f xs) ≡ option_map f (find (λ y. p (f y)) xs) →
-        cond b (Some (f x)) (find p (map f xs)) ≡ option_map f (cond b (Some x) (find (λ y. p (f y)) xs))
-    go true again = refl
-    go false again = again
-
--- what was mapped, from its end
-pub reverse-map : {X Y : Type 0} (f : X → Y) (xs : List X) → reverse (map f xs) ≡ map f (reverse xs)
-reverse-map f [] = refl
-reverse-map f (x ∷ xs) =
-    reverse-append (f x ∷ []) (map f xs) ∙ ap (λ ys. ys ++ f x ∷ []) (reverse-map f xs) ∙
-    sym (map-append f (reverse xs) (x ∷ [])) ∙ ap (map f) (sym (reverse-append (x ∷ []) xs))
-
--- the events have the numbers from s on
-abbrev pub CountsFrom : ℕ → List Event → Type 0
-CountsFrom s es = (k : ℕ) (d : Event) → k < length es → (get_or es k d).id.seq ≡ s + k
-
-counts-here : (s : ℕ) (e : Event) (es : List Event) → CountsFrom s (e ∷ es) → e.id.seq ≡ s
-counts-here s e es counts = let at = counts zero e (zero-lt-suc (length es)) in omega (arith, at)
-
-counts-rest : (s : ℕ) (e : Event) (es : List Event) → CountsFrom s (e ∷ es) → CountsFrom (suc s) es
-counts-rest s e es counts k d low = let at = counts (suc k) d (suc-le-suc low) in omega (arith, at)
-
-counts-behind : (s : ℕ) (xs ys : List Event) → CountsFrom s (xs ++ ys) → CountsFrom (s + length xs) ys
-counts-behind s [] ys counts k d low = let at = counts k d low in omega (arith, at)
-counts-behind s (x ∷ xs) ys counts k d low =
-    let at = counts-behind (suc s) xs ys (counts-rest s x (xs ++ ys) counts) k d low in omega (arith, at)
-
-counts-front : (s : ℕ) (xs ys : List Event) → CountsFrom s (xs ++ ys) → CountsFrom s xs
-counts-front s [] ys counts k d low = absurd (omega (arith, low))
-counts-front s (x ∷ xs) ys counts zero d low = let at = counts-here s x (xs ++ ys) counts in omega (arith, at)
-counts-front s (x ∷ xs) ys counts (suc k) d low =
-    let at = counts-front (suc s) xs ys (counts-rest s x (xs ++ ys) counts) k d (omega (arith, low)) in
-    omega (arith, at)
-
--- whether the number is below m, or not
-abbrev pub is_low : ℕ → Event → Bool
-is_low m e = nat_lt e.id.seq m
-
-abbrev pub is_high : ℕ → Event → Bool
-is_high m e = nat_le m e.id.seq
-
-low-true : (m : ℕ) (e : Event) → e.id.seq < m → is_low m e ≡ true
-low-true m e less = grind (arith, common_steps)
-
-low-false : (m : ℕ) (e : Event) → m ≤ e.id.seq → is_low m e ≡ false
-low-false m e least = grind (arith, common_steps)
-
-high-true : (m : ℕ) (e : Event) → m ≤ e.id.seq → is_high m e ≡ true
-high-true m e least = grind (arith, common_steps)
-
-high-false : (m : ℕ) (e : Event) → e.id.seq < m → is_high m e ≡ false
-high-false m e less = grind (arith, common_steps)
-
-low-lower : (m : ℕ) (e : Event) → is_low m e ≡ true → e.id.seq < m
-low-lower m e passes = grind (arith, common_steps)
-
--- from number m on all are high
-all-high : (m s : ℕ) (es : List Event) → CountsFrom s es → m ≤ s → filter (is_high m) es ≡ es
-all-high m s [] counts least = refl
-all-high m s (e ∷ es) counts least =
-    let here = counts-here s e es counts in
-    let high = high-true m e (omega (arith, here, least)) in
-    let again = all-high m (suc s) es (counts-rest s e es counts) (omega (arith, least)) in
-    rw (high, again)
-
--- and none is low
-none-low : (m s : ℕ) (es : List Event) → CountsFrom s es → m ≤ s → filter (is_low m) es ≡ []
-none-low m s [] counts least = refl
-none-low m s (e ∷ es) counts least =
-    let here = counts-here s e es counts in
-    let low = low-false m e (omega (arith, here, least)) in
-    let again = none-low m (suc s) es (counts-rest s e es counts) (omega (arith, least)) in
-    rw (low, again)
-
--- so many are high
-pub count-high : (m s : ℕ) (es : List Event) → CountsFrom s es → s ≤ m →
-    length (filter (is_high m) es) ≡ (s + length es) - m
-count-high m s [] counts most = omega (arith, most)
-count-high m s (e ∷ es) counts most =
-    go (cases_lt s m) (λ less. count-high m (suc s) es (counts-rest s e es counts) less)
-  where
-    go : (s < m) ⊎ (m ≤ s) → (s < m → length (filter (is_high m) es) ≡ (suc s + length es) - m) →
-        length (filter (is_high m) (e ∷ es)) ≡ (s + length (e ∷ es)) - m
-    go (inl less) again =
-        let here = counts-here s e es counts in
-        let high = high-false m e (omega (arith, here, less)) in
-        let rest = again less in
-        rw high (omega (arith, rest))
-    go (inr least) again = rw (all-high m s (e ∷ es) counts least) (omega (arith, least, most))
-
--- the low ones stand before the high ones
-pub low-high : (m s : ℕ) (es : List Event) → CountsFrom s es → es ≡ filter (is_low m) es ++ filter (is_high m) es
-low-high m s [] counts = refl
-low-high m s (e ∷ es) counts = go (cases_lt s m) (low-high m (suc s) es (counts-rest s e es counts))
-  where
-    go : (s < m) ⊎ (m ≤ s) → es ≡ filter (is_low m) es ++ filter (is_high m) es →
-        e ∷ es ≡ filter (is_low m) (e ∷ es) ++ filter (is_high m) (e ∷ es)
-    go (inl less) again =
-        let here = counts-here s e es counts in
-        let low = low-true m e (omega (arith, here, less)) in
-        let high = high-false m e (omega (arith, here, less)) in
-        rw (low, high) (ap (λ ys. e ∷ ys) again)
-    go (inr least) again = rw (none-low m s (e ∷ es) counts least, all-high m s (e ∷ es) counts least) refl
-
--- the events of the window are the events that are kept
-pub events-window : (first : ℕ → ℕ) (log : List Entry) → events (window first log) ≡ map (renumbered first)
-    (filter (λ (e : Event). nat_le (first e.id.hart) e.id.seq) (events log))
-events-window first log =
-    map-twice (λ (x : Entry). record x { event = renumbered first x.event }) (λ (x : Entry). x.event)
-    (filter (λ (x : Entry). nat_le (first x.event.id.hart) x.event.id.seq) log) ∙
-    sym (map-twice (λ (x : Entry). x.event) (renumbered first)
-    (filter (λ (x : Entry). nat_le (first x.event.id.hart) x.event.id.seq) log)) ∙
-    ap (map (renumbered first)) (sym (filter-map (λ (x : Entry). x.event)
-    (λ (e : Event). nat_le (first e.id.hart) e.id.seq) log))
-
--- a hart's events are of the hart
-pub of_hart-is : (h : ℕ) (es : List Event) (e : Event) → Contains (of_hart h es) e → e.id.hart ≡ h
-of_hart-is h es e c =
-    let passes = All-contains (λ (x : Event). (h == x.id.hart) ≡ true) (of_hart h es) e
-    (filter_passes (λ (x : Event). h == x.id.hart) es) c in
-    grind (arith, common_steps)
-
--- a hart's events of the window are its high ones
-pub own-window : (first : ℕ → ℕ) (h : ℕ) (log : List Entry) → of_hart h (events (window first log)) ≡
-    map (renumbered first) (filter (is_high (first h)) (of_hart h (events log)))
-own-window first h log =
-    ap (of_hart h) (events-window first log) ∙
-    filter-map (renumbered first) (λ (e : Event). h == e.id.hart)
-    (filter (λ (e : Event). nat_le (first e.id.hart) e.id.seq) (events log)) ∙
-    ap (map (renumbered first)) (filter-swap (λ (e : Event). h == e.id.hart)
-    (λ (e : Event). nat_le (first e.id.hart) e.id.seq) (events log) ∙
-    filter-same (λ (e : Event). nat_le (first e.id.hart) e.id.seq) (is_high (first h)) (of_hart h (events log))
-    (λ e c. ap (λ (k : ℕ). nat_le (first k) e.id.seq) (of_hart-is h (events log) e c)))
-
--- and of what is forgotten, its low ones
-pub own-forgotten : (first : ℕ → ℕ) (h : ℕ) (es : List Event) →
-    of_hart h (filter (λ (e : Event). nat_lt e.id.seq (first e.id.hart)) es) ≡ filter (is_low (first h)) (of_hart h es)
-own-forgotten first h es =
-    filter-swap (λ (e : Event). h == e.id.hart) (λ (e : Event). nat_lt e.id.seq (first e.id.hart)) es ∙
-    filter-same (λ (e : Event). nat_lt e.id.seq (first e.id.hart)) (is_low (first h)) (of_hart h es)
-    (λ e c. ap (λ (k : ℕ). nat_lt e.id.seq (first k)) (of_hart-is h es e c))
-
--- whether the last LR, SC or failed SC of a list is an LR
-abbrev pub ends_reserved : List Event → Bool
-ends_reserved es =
-    unwrap_or (option_map (λ (m : Event). is_lr m.op) (find (λ (m : Event). is_exclusive m.op) (reverse es))) false
-
--- where the first part does not end with a reservation, and the whole does, so does the second part
-pub ends-behind : (xs ys : List Event) → ends_reserved xs ≡ false → ends_reserved (xs ++ ys) ≡ true →
-    ends_reserved ys ≡ true
-ends-behind xs ys none whole = go (find (λ (m : Event). is_exclusive m.op) (reverse ys)) refl
-  where
-    found : find (λ (m : Event). is_exclusive m.op) (reverse (xs ++ ys)) ≡ option_or
-        (find (λ (m : Event). is_exclusive m.op) (reverse ys)) (find (λ (m : Event). is_exclusive m.op) (reverse xs))
-    found = ap (find (λ (m : Event). is_exclusive m.op)) (reverse-append xs ys) ∙
-        find-append (λ (m : Event). is_exclusive m.op) (reverse ys) (reverse xs)
-
-    go : (o : Option Event) → find (λ (m : Event). is_exclusive m.op) (reverse ys) ≡ o → ends_reserved ys ≡ true
-    go (Some m) is =
-        let at : ends_reserved (xs ++ ys) ≡ is_lr m.op =
-        ap (λ (o : Option Event). unwrap_or (option_map (λ (k : Event). is_lr k.op) o) false)
-        (found ∙ ap (λ (o : Option Event). option_or o
-        (find (λ (k : Event). is_exclusive k.op) (reverse xs))) is) in
-        rw is (sym at ∙ whole)
-    go None is =
-        let at : ends_reserved (xs ++ ys) ≡ ends_reserved xs =
-        ap (λ (o : Option Event). unwrap_or (option_map (λ (k : Event). is_lr k.op) o) false)
-        (found ∙ ap (λ (o : Option Event). option_or o
-        (find (λ (k : Event). is_exclusive k.op) (reverse xs))) is) in
-        absurd (false≢true (sym none ∙ sym at ∙ whole))
-
--- events that are renumbered end as they did
-pub ends-renumbered : (first : ℕ → ℕ) (es : List Event) → ends_reserved (map (renumbered first) es) ≡ ends_reserved es
-ends-renumbered first es =
-    go (find (λ (m : Event). is_exclusive m.op) (reverse es))
-    (ap (find (λ (m : Event). is_exclusive m.op)) (reverse-map (renumbered first) es) ∙
-    find-map (renumbered first) (λ (m : Event). is_exclusive m.op) (reverse es))
-  where
-    go : (o : Option Event) → find (λ (m : Event). is_exclusive m.op) (reverse (map (renumbered first) es)) ≡
-        option_map (renumbered first) o →
-        unwrap_or (option_map (λ (m : Event). is_lr m.op)
-        (find (λ (m : Event). is_exclusive m.op) (reverse (map (renumbered first) es)))) false ≡
-        unwrap_or (option_map (λ (m : Event). is_lr m.op) o) false
-    go (Some m) is = ap (λ (o : Option Event). unwrap_or (option_map (λ (k : Event). is_lr k.op) o) false) is
-    go None is = ap (λ (o : Option Event). unwrap_or (option_map (λ (k : Event). is_lr k.op) o) false) is
+use Rattle.rv_settle.specs.Windows.{IsKept, KeepsFew, KeepsPairs, renumbered, window}
 
 -- where there is no fault, none of the list is one
 pick : (faults : List (Option Fault)) (k : ℕ) → lowest faults ≡ None → get_or faults k None ≡ None
@@ -310,7 +89,7 @@ reserved-from true false is none = absurd (false≢true (sym none))
 reserved-from false reserved is none = absurd (false≢true is)
 
 module _ (limit : ℕ) (log : List Entry) (first : ℕ → ℕ) (ok : WellFormedWithin limit log)
-    (closed : ClosesPairs first (events log)) (few : KeepsFew first (events log)) where
+    (pairs : KeepsPairs first (events log)) (few : KeepsFew first (events log)) where
   -- each hart's events have their numbers
   counts : (part : List Entry) (rest : List Entry) → log ≡ part ++ rest → (h : ℕ) →
       CountsFrom 0 (of_hart h (events part))
@@ -356,19 +135,6 @@ module _ (limit : ℕ) (log : List Entry) (first : ℕ → ℕ) (ok : WellFormed
         ap (λ (l : List Entry). of_hart h (events l)) cut ∙
         ap (of_hart h) (map-append (λ (y : Entry). y.event) before (x ∷ rest)) ∙
         filter-append (λ (e : Event). h == e.id.hart) (events before) (events (x ∷ rest))
-
-    -- what is forgotten of the hart came before
-    forgotten : filter (is_low (first h)) own ≡ of_hart h
-        (filter (λ (e : Event). nat_lt e.id.seq (first e.id.hart)) (events log))
-    forgotten =
-        let all : CountsFrom 0 (own ++ of_hart h (events (x ∷ rest))) =
-        subst (CountsFrom 0) whole-own (counts log [] (sym (append-nil log)) h) in
-        let behind = counts-behind 0 own (of_hart h (events (x ∷ rest))) all in
-        let none = none-low (first h) (0 + length own) (of_hart h (events (x ∷ rest))) behind
-        (omega (arith, number, kept)) in
-        sym (own-forgotten first h (events log) ∙ ap (filter (is_low (first h))) whole-own ∙
-        filter-append (is_low (first h)) own (of_hart h (events (x ∷ rest))) ∙
-        ap (λ (es : List Event). filter (is_low (first h)) own ++ es) none ∙ append-nil (filter (is_low (first h)) own))
 
     known : IndexedWithin limit (events before)
     known = indexed_within limit before front
@@ -449,15 +215,38 @@ module _ (limit : ℕ) (log : List Entry) (first : ℕ → ℕ) (ok : WellFormed
             ap (λ (k : ℕ). writer (events before) from.0.word k) version ∙ known.written from.0 from.1 store-a in
             absurd (none-some from.0 (sym (sound.fresh store) ∙ old))
 
+    -- the log has the entries before, the entry, and the others
+    split : events log ≡ events before ++ events (x ∷ rest)
+    split = ap events cut ∙ map-append (λ (y : Entry). y.event) before (x ∷ rest)
+
+    in-log : (m : Event) → Contains (events before) m → Contains (events log) m
+    in-log m c = subst (λ (es : List Event). Contains es m) (sym split)
+        (Contains-append_left (events before) (events (x ∷ rest)) m c)
+
+    here : Contains (events log) x.event
+    here = subst (λ (es : List Event). Contains es x.event) (sym split)
+        (Contains-append_right (events before) (events (x ∷ rest)) x.event
+        (Contains-here x.event (events rest) x.event refl))
+
+    -- what is earlier than the event stands before it
+    inside : (z : Event) → Contains (events log) z → Earlier z x.event → Contains own z
+    inside z c earlier =
+        let less = earlier.seq in
+        let low : z.id.seq < length (of_hart z.id.hart (events before)) =
+        subst (λ (k : ℕ). z.id.seq < length (of_hart k (events before))) (sym earlier.hart)
+        (omega (arith, less, number)) in
+        let found = known.filled z.id low in
+        let there = named-is (events before) z.id found.0 found.1 in
+        let whole = indexed_within limit log ok in
+        let same : found.0 ≡ z = same_Some found.0 z (sym (whole.own found.0 (in-log found.0 there.0))
+        ∙ ap (named (events log)) (sym there.1) ∙ whole.own z c) in
+        Contains-filter (λ (e : Event). h == e.id.hart) (events before) z
+        (subst (λ (e : Event). Contains (events before) e) same there.0) (eq-eqb h z.id.hart (sym earlier.hart))
+
     -- an SC has its reservation in the window
-    reserved : is_reserved (events before) h ≡ true → is_reserved w h ≡ true
-    reserved whole =
-        let none : ends_reserved (filter (is_low (first h)) own) ≡ false = ap ends_reserved forgotten ∙ closed h in
-        let all : ends_reserved (filter (is_low (first h)) own ++ filter (is_high (first h)) own) ≡ true =
-        ap ends_reserved (sym (low-high (first h) 0 own own-counts)) ∙ whole in
-        ap ends_reserved (own-window first h before) ∙
-        ends-renumbered first (filter (is_high (first h)) own) ∙
-        ends-behind (filter (is_low (first h)) own) (filter (is_high (first h)) own) none all
+    reserved : is_sc x.event.op ≡ true → is_reserved (events before) h ≡ true → is_reserved w h ≡ true
+    reserved sc whole = reserved-window limit before first front h (events log) x.event refl number sc in-log inside
+        (pairs x.event here kept) whole
 
     -- and the hart has room
     room : (x.event.id.seq - first h) < 4096
@@ -503,7 +292,7 @@ module _ (limit : ℕ) (log : List Entry) (first : ℕ → ℕ) (ok : WellFormed
             let old : is_reserved (events before) h ≡ true =
             reserved-from (is_sc x.event.op) (is_reserved (events before) h) is
             (fault_if-none _ NoReservation (pick olds 5 faultless)) in
-            rw (is, reserved old) refl
+            rw (is, reserved is old) refl
 
         not-full : (n : ℕ) → n ≡ x.event.id.seq - first h → nat_le 4096 n ≡ false
         not-full n is = let low : n < 4096 = omega (arith, room, is) in grind (arith, common_steps)
@@ -570,131 +359,3 @@ module _ (limit : ℕ) (log : List Entry) (first : ℕ → ℕ) (ok : WellFormed
 
   pub window-formed : WellFormed (window first log)
   window-formed = grown [] log refl WellFormed-nil
-
--- the last that passes a test, where there is one
-LastOf : (Event → Bool) → List Event → Option Event → Type 0
-LastOf p es (Some m) =
-    Contains es m × (p m ≡ true) × ((z : Event) → Contains es z → p z ≡ true → z.id.seq ≤ m.id.seq)
-LastOf p es None = (z : Event) → Contains es z → p z ≡ false
-
--- a search from the end finds it
-last-of : (p : Event → Bool) (s : ℕ) (es : List Event) → CountsFrom s es → LastOf p es (find p (reverse es))
-unfolding LastOf
-last-of p s [] counts = λ z c. absurd (Contains-none z c)
-last-of p s (e ∷ es) counts =
-    subst (LastOf p (e ∷ es)) (sym (ap (find p) (reverse-append (e ∷ []) es) ∙ find-append p (reverse es) (e ∷ [])))
-    (go (find p (reverse es)) (p e) refl (last-of p (suc s) es (counts-rest s e es counts)))
-  where
-    above : (z : Event) → Contains es z → s < z.id.seq
-    above z (k, low, is) =
-        let at = counts-rest s e es counts k z low in
-        let same = ap (λ (x : Event). x.id.seq) is in
-        omega (arith, at, same)
-
-    go : (o : Option Event) (b : Bool) → p e ≡ b → LastOf p es o →
-        LastOf p (e ∷ es) (option_or o (cond b (Some e) None))
-    go (Some m) b is found = (
-      Contains-there e es m found.0,
-      found.1,
-      λ z c passes. elim (Contains-cons e es z c) [
-        | inl same ↦ (
-            let here = counts-here s e es counts in
-            let less = above m found.0 in
-            let at = ap (λ (x : Event). x.id.seq) same in
-            omega (arith, here, less, at))
-        | inr there ↦ found.2 z there passes
-      ],
-    )
-    go None true is none = (
-      Contains-here e es e refl,
-      is,
-      λ z c passes. elim (Contains-cons e es z c) [
-        | inl same ↦ (let at = ap (λ (x : Event). x.id.seq) same in omega (arith, at))
-        | inr there ↦ absurd (false≢true (sym (none z there) ∙ passes))
-      ],
-    )
-    go None false is none = λ z c. elim (Contains-cons e es z c) [
-      | inl same ↦ sym (ap p same) ∙ is
-      | inr there ↦ none z there
-    ]
-
--- where what is forgotten leaves no hart with a reservation, an SC that is kept is paired with an LR
--- that is kept
-pub pairs-kept : (limit : ℕ) (log : List Entry) (first : ℕ → ℕ) → WellFormedWithin limit log →
-    ClosesPairs first (events log) → KeepsPairs first (events log)
-unfolding LastOf
-pairs-kept limit log first ok closed lr sc c paired kept = go (cases_lt lr.id.seq (first lr.id.hart))
-  where
-    h : ℕ
-    h = lr.id.hart
-
-    known : IndexedWithin limit (events log)
-    known = indexed_within limit log ok
-
-    own : List Event
-    own = of_hart h (events log)
-
-    low : List Event
-    low = filter (is_low (first h)) own
-
-    own-counts : CountsFrom 0 own
-    own-counts k d less = let at = numbered_within limit log ok h k d less in omega (arith, at)
-
-    low-counts : CountsFrom 0 low
-    low-counts =
-        counts-front 0 low (filter (is_high (first h)) own)
-        (subst (CountsFrom 0) (low-high (first h) 0 own own-counts) own-counts)
-
-    ends : ends_reserved low ≡ false
-    ends = ap ends_reserved (sym (own-forgotten first h (events log))) ∙ closed h
-
-    in-low : lr.id.seq < first lr.id.hart → Contains low lr
-    in-low less =
-        Contains-filter (is_low (first h)) own lr
-        (Contains-filter (λ (e : Event). h == e.id.hart) (events log) lr c (eq-eqb h h refl))
-        (low-true (first h) lr less)
-
-    of-low : (m : Event) → Contains low m → Contains (events log) m × (m.id.hart ≡ lr.id.hart) ×
-        (m.id.seq < first lr.id.hart)
-    of-low m there =
-        let mine = Contains-unfilter (is_low (first h)) own m there in
-        let passes = All-contains (λ (e : Event). is_low (first h) e ≡ true) low m
-        (filter_passes (is_low (first h)) own) there in (
-          Contains-unfilter (λ (e : Event). h == e.id.hart) (events log) m mine,
-          of_hart-is h (events log) m mine,
-          low-lower (first h) m passes,
-        )
-
-    go : (lr.id.seq < first lr.id.hart) ⊎ (first lr.id.hart ≤ lr.id.seq) → IsKept first lr
-    go (inr least) = least
-    go (inl less) =
-        absurd (found (find (λ (m : Event). is_exclusive m.op) (reverse low)) refl
-        (last-of (λ (m : Event). is_exclusive m.op) 0 low low-counts))
-      where
-        lr-passes : is_exclusive lr.op ≡ true
-        lr-passes = ap is_exclusive paired.is_lr
-
-        found : (o : Option Event) → find (λ (m : Event). is_exclusive m.op) (reverse low) ≡ o →
-            LastOf (λ (m : Event). is_exclusive m.op) low o → ⊥
-        found None is last = absurd (false≢true (sym (last lr (in-low less)) ∙ lr-passes))
-        found (Some m) is last =
-            let there = of-low m last.0 in
-            let most : lr.id.seq ≤ m.id.seq = last.2 lr (in-low less) lr-passes in
-            let none : is_lr m.op ≡ false =
-            sym (ap (λ (o : Option Event). unwrap_or (option_map (λ (k : Event). is_lr k.op) o) false) is) ∙ ends in
-            let apart : m.id.seq ≢ lr.id.seq = λ same.
-            let id : m.id ≡ lr.id = grind arith in
-            let event : m ≡ lr = same_Some m lr (sym (known.own m there.0) ∙ ap (named (events log)) id ∙
-            known.own lr c) in
-            false≢true (sym none ∙ ap (λ (e : Event). is_lr e.op) event ∙ ap is_lr paired.is_lr) in
-            let base = ap first paired.earlier.hart in
-            let between : Between lr m sc = record {
-              after = record { hart = sym there.1; seq = omega (arith, most, apart) };
-              before = record {
-                hart = there.1 ∙ paired.earlier.hart;
-                seq = let low-m = there.2 in omega (arith, low-m, base, kept);
-              };
-            } in
-            let fails = All-contains (λ (e : Event). Between lr e sc → IsFalse (is_exclusive e.op)) (events log) m
-            paired.none_between there.0 between in
-            false≢true (sym fails ∙ last.1)

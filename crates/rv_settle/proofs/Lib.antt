@@ -1,5 +1,6 @@
 pub mod Bars
 pub mod Composed
+pub mod Counted
 pub mod CutStays
 pub mod Cuts
 pub mod CutsCompose
@@ -11,6 +12,7 @@ pub mod Forward
 pub mod Joined
 pub mod Kept
 pub mod Nested
+pub mod Pairs
 pub mod Reserved
 pub mod Seen
 pub mod Stays

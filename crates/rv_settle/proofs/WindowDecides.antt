@@ -14,18 +14,18 @@ use Rattle.rv_event.specs.declared.event.Event.{Event}
 use Rattle.rv_event.specs.declared.event.Id.{Id}
 use Rattle.rv_event.specs.declared.event.Op.TheVariants.{Carrier}
 use Rattle.rv_settle.proofs.Decided.{forward-back, forward-in, none-back, none-in, of_window, order-back, order-in}
-use Rattle.rv_settle.proofs.Formed.{pairs-kept, window-formed}
+use Rattle.rv_settle.proofs.Formed.{window-formed}
 use Rattle.rv_settle.proofs.Joined.{not-both}
 use Rattle.rv_settle.proofs.Kept.{enough, needed}
 use Rattle.rv_settle.proofs.Windows.{into-window, onto-window}
 use Rattle.rv_settle.specs.Cuts.{GoesForward, IsOrderOfKept, NoneStaleKept}
 use Rattle.rv_settle.specs.Past.{ComesBeforePast}
-use Rattle.rv_settle.specs.Windows.{IsKept, KeepsPairs, renumbered, window}
+use Rattle.rv_settle.specs.Windows.{IsKept, renumbered, window}
 use Rattle.rv_settle.specs.Laws.{WindowDecides}
 
 -- a log of any length is judged by its window, and the versions of its past
 pub window-decides : WindowDecides
-window-decides limit model log x active past first before ok plain closed few is_active cut below kept lawful = (
+window-decides limit model log x active past first before ok plain pairs few is_active cut below kept lawful = (
   λ some.
       let all = needed model (events log) x.event known sound active past cut some.0 is_active
       (subst (λ (es : List Event). Lawful model es some.0) grown some.1) in
@@ -81,10 +81,7 @@ window-decides limit model log x active past first before ok plain closed few is
     known-window : IndexedWithin 4096 w
     known-window =
         indexed_from_WellFormed (window first (log ++ x ∷ []))
-        (window-formed limit (log ++ x ∷ []) first ok closed few)
-
-    pairs : KeepsPairs first new
-    pairs = pairs-kept limit (log ++ x ∷ []) first ok closed
+        (window-formed limit (log ++ x ∷ []) first ok pairs few)
 
     into : (a : Event) → Contains new a → IsKept first a → Contains w (renumbered first a)
     into = into-window first (log ++ x ∷ [])

@@ -384,7 +384,7 @@ module _ {limit other : ℕ} (log : List Event) (w : List Event) (first : ℕ �
             let number : a.id.seq ≡ b.id.seq = omega (arith, seq, base, kept, kept') in
             grind arith
     reason-in AtomicIn h =
-        let kept-lr = pairs h.lr b h.of_log h.paired kept' in
+        let kept-lr = pairs b cb kept' h.lr h.of_log h.paired in
         record {
           lr = renumbered first h.lr;
           of_log = into h.lr h.of_log kept-lr;
@@ -392,7 +392,7 @@ module _ {limit other : ℕ} (log : List Event) (w : List Event) (first : ℕ �
           is_writer = writer-in a h.lr.word h.lr.read kept h.is_writer;
         }
     reason-in AtomicOut h =
-        let kept-lr = pairs h.lr a h.of_log h.paired kept in
+        let kept-lr = pairs a ca kept h.lr h.of_log h.paired in
         record {
           lr = renumbered first h.lr;
           of_log = into h.lr h.of_log kept-lr;

@@ -18,8 +18,8 @@ use Rattle.rv_settle.specs.Cuts.{GoesForward, IsCut, IsOrderOfKept, IsParted, No
 use Rattle.rv_settle.specs.Fitting.{FitsPast, in_full}
 use Rattle.rv_settle.specs.Past.{ComesBeforePast}
 use Rattle.rv_settle.specs.Settled.{AnyEdge, IsSettled}
-use Rattle.rv_settle.specs.Windows.{AreBoth, ClosesPairs, IsBelow, IsKept, KeepsFew, KeepsPairs, both_firsts}
-use Rattle.rv_settle.specs.Windows.{renumbered, window}
+use Rattle.rv_settle.specs.Windows.{AreBoth, IsBelow, IsKept, KeepsFew, KeepsPair, KeepsPairs, LeavesLastOpen}
+use Rattle.rv_settle.specs.Windows.{both_firsts, renumbered, window}
 
 -- where an edge leads from a new event of an active hart to a settled one, no order is lawful
 abbrev pub NothingComesBeforeSettled : Type 0
@@ -100,26 +100,26 @@ WindowsHaveTheStalePairs =
 
 -- Where some order was lawful before a new event of an active hart, some is with it exactly where the
 -- event does not come before the past, and some order is lawful for the window with it. So a log of any
--- length may be judged by its window, and the versions of its past. No event is a carrier, what is
--- forgotten leaves no hart with a reservation, and no hart keeps more than 4,096 events.
+-- length may be judged by its window, and the versions of its past. No event is a carrier, an SC that is
+-- kept is paired with an LR that is kept, and no hart keeps more than 4,096 events.
 abbrev pub WindowDecides : Type 0
 WindowDecides =
     (limit : ℕ) (model : MemoryModel) (log : List Entry) (x : Entry) (active : List ℕ) (past : Event → Bool)
     (first : ℕ → ℕ) (before : List Id) →
     WellFormedWithin limit (log ++ x ∷ []) → All (λ m. m.op ≢ Carrier) (events (log ++ x ∷ [])) →
-    ClosesPairs first (events (log ++ x ∷ [])) → KeepsFew first (events (log ++ x ∷ [])) →
+    KeepsPairs first (events (log ++ x ∷ [])) → KeepsFew first (events (log ++ x ∷ [])) →
     Contains active x.event.id.hart → IsCut model (events log) active past → IsBelow (events log) past first →
     IsKept first x.event → Lawful model (events log) before →
     ((order : List Id) × Lawful model (events (log ++ x ∷ [])) order)
     ↔ ((ComesBeforePast (events (log ++ x ∷ [])) past x.event → ⊥)
     × ((order : List Id) × Lawful model (events (window first (log ++ x ∷ []))) order))
 
--- the window of a well formed log is well formed, where what is forgotten leaves no hart with a
--- reservation, and no hart keeps more than 4,096 events
+-- the window of a well formed log is well formed, where an SC that is kept is paired with an LR that is
+-- kept, and no hart keeps more than 4,096 events
 abbrev pub WindowsAreWellFormed : Type 0
 WindowsAreWellFormed =
     (limit : ℕ) (log : List Entry) (first : ℕ → ℕ) →
-    WellFormedWithin limit log → ClosesPairs first (events log) → KeepsFew first (events log) →
+    WellFormedWithin limit log → KeepsPairs first (events log) → KeepsFew first (events log) →
     WellFormed (window first log)
 
 -- The past of a cut, with the past of a cut of its window, is the past of a cut. So a run may forget
@@ -129,18 +129,18 @@ CutsCompose =
     (limit : ℕ) (model : MemoryModel) (log : List Entry) (active : List ℕ) (first : ℕ → ℕ)
     (past more both : Event → Bool) →
     WellFormedWithin limit log → All (λ m. m.op ≢ Carrier) (events log) →
-    ClosesPairs first (events log) → KeepsFew first (events log) →
+    KeepsPairs first (events log) → KeepsFew first (events log) →
     IsCut model (events log) active past → IsBelow (events log) past first →
     IsCut model (events (window first log)) active more → AreBoth first (events log) past more both →
     IsCut model (events log) active both
 
--- Where some order is lawful for a log, some order is lawful for its window. No event is a carrier, what
--- is forgotten leaves no hart with a reservation, and no hart keeps more than 4,096 events.
+-- Where some order is lawful for a log, some order is lawful for its window. No event is a carrier, an SC
+-- that is kept is paired with an LR that is kept, and no hart keeps more than 4,096 events.
 abbrev pub WindowsAreLawful : Type 0
 WindowsAreLawful =
     (limit : ℕ) (model : MemoryModel) (log : List Entry) (first : ℕ → ℕ) (order : List Id) →
     WellFormedWithin limit log → All (λ m. m.op ≢ Carrier) (events log) →
-    ClosesPairs first (events log) → KeepsFew first (events log) → Lawful model (events log) order →
+    KeepsPairs first (events log) → KeepsFew first (events log) → Lawful model (events log) order →
     (rest : List Id) × Lawful model (events (window first log)) rest
 
 -- the window of a window is the window of the log from where both begin
@@ -149,13 +149,20 @@ WindowsCompose =
     (log : List Entry) (first next : ℕ → ℕ) →
     window next (window first log) ≡ window (both_firsts first next) log
 
--- Where what the log forgets leaves no hart with a reservation, and what its window forgets doesn't either,
--- both together don't.
-abbrev pub PairsStayClosed : Type 0
-PairsStayClosed =
-    (log : List Entry) (first next : ℕ → ℕ) →
-    ClosesPairs first (events log) → ClosesPairs next (events (window first log)) →
-    ClosesPairs (both_firsts first next) (events log)
+-- Where what a well formed log forgets leaves a hart with a reservation only if it has each LR, SC and
+-- failed SC of the hart, an SC that is kept is paired with an LR that is kept.
+abbrev pub PairsAreKept : Type 0
+PairsAreKept =
+    (limit : ℕ) (log : List Entry) (first : ℕ → ℕ) →
+    WellFormedWithin limit log → LeavesLastOpen first (events log) → KeepsPairs first (events log)
+
+-- Where the log keeps the LR of each SC that it keeps, and its window does, both together do.
+abbrev pub PairsStayKept : Type 0
+PairsStayKept =
+    (limit : ℕ) (log : List Entry) (first next : ℕ → ℕ) →
+    WellFormedWithin limit log → KeepsFew first (events log) →
+    KeepsPairs first (events log) → KeepsPairs next (events (window first log)) →
+    KeepsPairs (both_firsts first next) (events log)
 
 -- the past of a log with the past of its window is what stands below both numbers
 abbrev pub PastsAdd : Type 0
@@ -165,12 +172,14 @@ PastsAdd =
     AreBoth first (events log) past more both → IsBelow (events log) both (both_firsts first next)
 
 -- The fault of an entry over a log is its fault over the window, where the event fits what was
--- forgotten, and its number is one of 4,096 of the window. What is forgotten leaves no hart with a
--- reservation, and is no more of the entry's hart than it has. No hart keeps more than 4,096 events.
+-- forgotten, and its number is one of 4,096 of the window. An SC that is kept, or the entry's own, is
+-- paired with an LR that is kept. What is forgotten is no more of the entry's hart than it has. No hart
+-- keeps more than 4,096 events.
 abbrev pub WindowsHaveTheFaults : Type 0
 WindowsHaveTheFaults =
     (limit : ℕ) (log : List Entry) (x : Entry) (first : ℕ → ℕ) →
-    WellFormedWithin limit log → ClosesPairs first (events log) → KeepsFew first (events log) →
+    WellFormedWithin limit log → KeepsPairs first (events log) → KeepsPair first (events log) x.event →
+    KeepsFew first (events log) →
     first x.event.id.hart ≤ length (of_hart x.event.id.hart (events log)) → FitsPast limit log first x →
     x.event.id.seq < first x.event.id.hart + 4096 →
     fault_within limit log x

@@ -1,9 +1,10 @@
 -- Windows: the entries that a run keeps, each hart's numbers counted from its first one. These are
 -- this project's own.
-use Rattle.std.specs.Prelude.{ℕ, ◌<◌, ◌≤◌, ◌+◌, ◌-◌, ◌↔◌, ◌⊎◌, Bool, Contains, IsFalse, IsTrue, List, filter}
+use Rattle.std.specs.Prelude.{ℕ, ◌<◌, ◌≤◌, ◌+◌, ◌-◌, ◌↔◌, ◌⊎◌, Bool, Contains, IsTrue, List, filter}
 use Rattle.std.specs.Prelude.{length, map, nat_le, nat_lt}
 use Rattle.rv_event.specs.Faults.{is_reserved}
 use Rattle.rv_event.specs.Log.{of_hart}
+use Rattle.rv_event.specs.Operations.{is_exclusive}
 use Rattle.rv_event.specs.Relations.{Paired}
 use Rattle.rv_event.specs.declared.event.Dep.{Dep}
 use Rattle.rv_event.specs.declared.event.Entry.{Entry}
@@ -33,19 +34,28 @@ window first log =
     map (λ (x : Entry). record x { event = renumbered first x.event })
     (filter (λ (x : Entry). nat_le (first x.event.id.hart) x.event.id.seq) log)
 
+-- an LR of the log that is paired with the event is kept
+abbrev pub KeepsPair : (ℕ → ℕ) → List Event → Event → Type 0
+KeepsPair first log sc = (lr : Event) → Contains log lr → Paired log lr sc → IsKept first lr
+
 -- an SC that is kept is paired with an LR that is kept
 abbrev pub KeepsPairs : (ℕ → ℕ) → List Event → Type 0
-KeepsPairs first log =
-    (lr sc : Event) → Contains log lr → Paired log lr sc → IsKept first sc → IsKept first lr
+KeepsPairs first log = (sc : Event) → Contains log sc → IsKept first sc → KeepsPair first log sc
 
 -- the past is what stands below each hart's first number that is kept
 abbrev pub IsBelow : List Event → (Event → Bool) → (ℕ → ℕ) → Type 0
 IsBelow log past first = (a : Event) → Contains log a → IsTrue (past a) ↔ a.id.seq < first a.id.hart
 
--- what is forgotten leaves no hart with a reservation
-abbrev pub ClosesPairs : (ℕ → ℕ) → List Event → Type 0
-ClosesPairs first log =
-    (hart : ℕ) → IsFalse (is_reserved (filter (λ (e : Event). nat_lt e.id.seq (first e.id.hart)) log) hart)
+-- what is forgotten leaves the hart with a reservation
+abbrev pub LeavesReserved : (ℕ → ℕ) → List Event → ℕ → Type 0
+LeavesReserved first log hart =
+    IsTrue (is_reserved (filter (λ (e : Event). nat_lt e.id.seq (first e.id.hart)) log) hart)
+
+-- where it leaves a hart with a reservation, it has each LR, SC and failed SC of the hart
+abbrev pub LeavesLastOpen : (ℕ → ℕ) → List Event → Type 0
+LeavesLastOpen first log =
+    (e : Event) → Contains log e → LeavesReserved first log e.id.hart → IsTrue (is_exclusive e.op) →
+    e.id.seq < first e.id.hart
 
 -- where each hart's numbers are counted from the first one of a window's window
 abbrev pub both_firsts : (ℕ → ℕ) → (ℕ → ℕ) → ℕ → ℕ

@@ -1,6 +1,6 @@
 //! Laws over the definitions alone. Each function does nothing: its contract is the law.
 ghost use Rattle.rv_settle.specs.Laws.{CutStays, CutsCompose, KeptDecides, NothingComesBeforeSettled, OrdersJoin};
-ghost use Rattle.rv_settle.specs.Laws.{PairsStayClosed, PastIsSeen, PastsAdd, SettledStays, WindowDecides};
+ghost use Rattle.rv_settle.specs.Laws.{PairsAreKept, PairsStayKept, PastIsSeen, PastsAdd, SettledStays, WindowDecides};
 ghost use Rattle.rv_settle.specs.Laws.{WindowsAreLawful, WindowsAreWellFormed, WindowsCompose};
 ghost use Rattle.rv_settle.specs.Laws.{WindowsHaveTheEdges, WindowsHaveTheFaults, WindowsHaveTheStalePairs};
 
@@ -55,14 +55,14 @@ pub fn windows_have_the_stale_pairs()
 /// Where some order was lawful before a new event of an active hart, some is with it exactly where
 /// the event does not come before the past by its versions, and some order is lawful for the window
 /// with it, under either model. So the window judges a log of any length, with the versions of the
-/// past. No event of the log is a carrier, what is forgotten leaves no hart with a reservation, and
+/// past. No event of the log is a carrier, an SC that is kept is paired with an LR that is kept, and
 /// no hart keeps more than 4,096 events.
 pub fn window_decides()
     ensures { WindowDecides }
 {}
 
-/// The window of a well formed log is well formed, where what is forgotten leaves no hart with a
-/// reservation, and no hart keeps more than 4,096 events.
+/// The window of a well formed log is well formed, where an SC that is kept is paired with an LR
+/// that is kept, and no hart keeps more than 4,096 events.
 pub fn windows_are_well_formed()
     ensures { WindowsAreWellFormed }
 {}
@@ -74,8 +74,8 @@ pub fn cuts_compose()
 {}
 
 /// Where some order is lawful for a log, some order is lawful for its window, under either model.
-/// So a window is judged anew without a refusal. No event of the log is a carrier, what is
-/// forgotten leaves no hart with a reservation, and no hart keeps more than 4,096 events.
+/// So a window is judged anew without a refusal. No event of the log is a carrier, an SC that is
+/// kept is paired with an LR that is kept, and no hart keeps more than 4,096 events.
 pub fn windows_are_lawful()
     ensures { WindowsAreLawful }
 {}
@@ -85,10 +85,15 @@ pub fn windows_compose()
     ensures { WindowsCompose }
 {}
 
-/// Where what a log forgets leaves no hart with a reservation, and what its window forgets does not
-/// either, both together do not.
-pub fn pairs_stay_closed()
-    ensures { PairsStayClosed }
+/// Where what a well formed log forgets leaves a hart with a reservation only if it has each LR, SC
+/// and failed SC of the hart, an SC that is kept is paired with an LR that is kept.
+pub fn pairs_are_kept()
+    ensures { PairsAreKept }
+{}
+
+/// Where a log keeps the LR of each SC that it keeps, and its window does too, both together do.
+pub fn pairs_stay_kept()
+    ensures { PairsStayKept }
 {}
 
 /// The past of a log with the past of its window is what stands below the numbers of both.
@@ -97,9 +102,9 @@ pub fn pasts_add()
 {}
 
 /// The fault of an entry over a log is its fault over the window, in the log's numbers, where the
-/// event fits what was forgotten (`FitsPast`) and its number is one of 4,096 of the window. What is
-/// forgotten leaves no hart with a reservation, and is no more of the entry's hart than it has. No
-/// hart keeps more than 4,096 events.
+/// event fits what was forgotten (`FitsPast`) and its number is one of 4,096 of the window. An SC
+/// that is kept, or the entry's own, is paired with an LR that is kept. What is forgotten is no more
+/// of the entry's hart than it has. No hart keeps more than 4,096 events.
 pub fn windows_have_the_faults()
     ensures { WindowsHaveTheFaults }
 {}

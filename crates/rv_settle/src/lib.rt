@@ -17,7 +17,7 @@ mod laws;
 
 pub use laws::{
     cut_stays, cuts_compose, kept_decides, nothing_comes_before_settled, orders_join,
-    pairs_stay_closed, past_is_seen, pasts_add, settled_stays, window_decides, windows_are_lawful,
-    windows_are_well_formed, windows_compose, windows_have_the_edges, windows_have_the_faults,
-    windows_have_the_stale_pairs,
+    pairs_are_kept, pairs_stay_kept, past_is_seen, pasts_add, settled_stays, window_decides,
+    windows_are_lawful, windows_are_well_formed, windows_compose, windows_have_the_edges,
+    windows_have_the_faults, windows_have_the_stale_pairs,
 };

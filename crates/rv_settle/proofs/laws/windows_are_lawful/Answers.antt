@@ -12,15 +12,15 @@ use Rattle.rv_event.specs.declared.event.Event.{Event}
 use Rattle.rv_event.specs.declared.event.Id.{Id}
 use Rattle.rv_event.specs.declared.event.Op.TheVariants.{Carrier}
 use Rattle.rv_settle.proofs.Decided.{forward-in, none-in, order-in, to_window}
-use Rattle.rv_settle.proofs.Formed.{pairs-kept, window-formed}
+use Rattle.rv_settle.proofs.Formed.{window-formed}
 use Rattle.rv_settle.proofs.Kept.{kept, kept-forward, kept-order}
 use Rattle.rv_settle.proofs.Windows.{into-window, onto-window}
 use Rattle.rv_settle.specs.Cuts.{GoesForward, IsOrderOfKept, NoneStaleKept}
-use Rattle.rv_settle.specs.Windows.{IsKept, KeepsPairs, renumbered, window}
+use Rattle.rv_settle.specs.Windows.{IsKept, renumbered, window}
 use Rattle.rv_settle.proofs.laws.windows_are_lawful.Goals as goal
 
 pub returns : goal.returns
-returns c limit model log first order ok plain closed few lawful = (
+returns c limit model log first order ok plain pairs few lawful = (
   map (to_window first) rest,
   lawful_from_edges model w (map (to_window first) rest) known-window
       (none-in model es w first known known-window into onto none-carries pairs past stays fails none)
@@ -38,10 +38,7 @@ returns c limit model log first order ok plain closed few lawful = (
     known = indexed_within limit log ok
 
     known-window : IndexedWithin 4096 w
-    known-window = indexed_from_WellFormed (window first log) (window-formed limit log first ok closed few)
-
-    pairs : KeepsPairs first es
-    pairs = pairs-kept limit log first ok closed
+    known-window = indexed_from_WellFormed (window first log) (window-formed limit log first ok pairs few)
 
     into : (a : Event) → Contains es a → IsKept first a → Contains w (renumbered first a)
     into = into-window first log
