@@ -1,7 +1,7 @@
 -- What is found is a cut.
 use Rattle.std.proofs.Common.{Bool, IsTrue, List, ap, arith, false, filter, inl, inr, length, refl, subst, sym, ℕ}
-use Rattle.std.proofs.Common.{[], ◌∷◌, ◌≡◌, ◌≤◌}
-use Rattle.std.proofs.lemmas.Bool.{le-ltb, lt-ltb, ltb-true}
+use Rattle.std.proofs.Common.{[], ◌∙◌, ◌∷◌, ◌≡◌, ◌≤◌}
+use Rattle.std.proofs.lemmas.Bool.{false≢true, le-ltb, lt-ltb, ltb-true}
 use Rattle.std.proofs.lemmas.Grind.{common_steps}
 use Rattle.std.specs.List.{Contains}
 use Rattle.rv_book.proofs.ForwardOrders.{id_cases}
@@ -16,8 +16,8 @@ use Rattle.rv_event.specs.declared.event.Event.{Event}
 use Rattle.rv_event.specs.declared.event.Id.{Id}
 use Rattle.rv_event.specs.declared.memory_model.MemoryModel.{MemoryModel}
 use Rattle.rv_settle.specs.Settled.{IsSettled}
-use Rattle.rv_settle.specs.Windows.{ClosesPairs}
-use Rattle.rv_cut.specs.Cuts.{IsCutOf, first_of, is_past}
+use Rattle.rv_settle.specs.Windows.{LeavesReserved}
+use Rattle.rv_cut.specs.Cuts.{HasWaited, IsCutOf, first_of, is_past}
 
 -- no tie leads from what is kept into the past
 abbrev pub IsClosed : List ℕ → List Tie → Type 0
@@ -32,12 +32,12 @@ path-past firsts ties closed i j (more {j = k} step path) past =
     closed (record { from = i; to = k }) step (path-past firsts ties closed k j path past)
 
 -- below numbers to which no tie leads, and below which all is settled, is a cut
-pub found : (model : MemoryModel) (log : List Event) (active firsts : List ℕ) (ties : List Tie) →
+pub found : (model : MemoryModel) (log : List Event) (active : List ℕ) (patience : ℕ) (firsts : List ℕ) (ties : List Tie) →
     AreTiesOf model log ties → IsClosed firsts ties →
     ((p : Event) → Contains log p → IsMemory p → IsTrue (is_past firsts p.id) → IsSettled model log active p) →
-    ClosesPairs (first_of firsts) log → ((hart : ℕ) → first_of firsts hart ≤ length (of_hart hart log)) →
-    IsCutOf model log active firsts
-found model log active firsts ties are closed settled closes within = record {
+    ((hart : ℕ) → LeavesReserved (first_of firsts) log hart → HasWaited patience log firsts hart) →
+    ((hart : ℕ) → first_of firsts hart ≤ length (of_hart hart log)) → IsCutOf model log active patience firsts
+found model log active patience firsts ties are closed settled waits within = record {
   cut = λ past of_log below. record {
     of_log = of_log;
     begins = λ a p own gone earlier.
@@ -59,7 +59,7 @@ found model log active firsts ties are closed settled closes within = record {
         settled p (of_log p gone) memory
         (lt-ltb p.id.seq (first_of firsts p.id.hart) ((below p (of_log p gone)).0 gone));
   };
-  closes = closes;
+  waits = waits;
   within = within;
 }
 
@@ -69,9 +69,9 @@ filter-none p [] none = refl
 filter-none p (x ∷ xs) none = let rest = filter-none p xs none in let first = none x in grind (arith, common_steps)
 
 -- no past at all is that of a cut
-pub found-none : (model : MemoryModel) (log : List Event) (active firsts : List ℕ) →
-    ((hart : ℕ) → first_of firsts hart ≡ 0) → IsCutOf model log active firsts
-found-none model log active firsts none = record {
+pub found-none : (model : MemoryModel) (log : List Event) (active : List ℕ) (patience : ℕ) (firsts : List ℕ) →
+    ((hart : ℕ) → first_of firsts hart ≡ 0) → IsCutOf model log active patience firsts
+found-none model log active patience firsts none = record {
   cut = λ past of_log below.
       let no : (p : Event) → IsTrue (past p) → ⊥ = λ p gone.
       let low = (below p (of_log p gone)).0 gone in
@@ -82,9 +82,9 @@ found-none model log active firsts none = record {
         closed = λ a p own gone edge. absurd (no p gone);
         settled = λ p gone memory. absurd (no p gone);
       };
-  closes = λ hart.
-      ap (λ (es : List Event). is_reserved es hart)
+  waits = λ hart reserved.
+      absurd (false≢true (sym (ap (λ (es : List Event). is_reserved es hart)
       (filter-none (λ (e : Event). is_past firsts e.id) log
-      (λ e. le-ltb e.id.seq (first_of firsts e.id.hart) (omega (arith, none e.id.hart))));
+      (λ e. le-ltb e.id.seq (first_of firsts e.id.hart) (omega (arith, none e.id.hart))))) ∙ reserved));
   within = λ hart. omega (arith, none hart);
 }

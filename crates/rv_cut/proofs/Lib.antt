@@ -1,4 +1,5 @@
 pub mod Entries
+pub mod Exclusives
 pub mod Found
 pub mod Lowered
 pub mod MoreMarks

@@ -1,2 +1,3 @@
 pub mod Cuts
+pub mod Exclusives
 pub mod Marked

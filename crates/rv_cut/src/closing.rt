@@ -1,47 +1,63 @@
-//! Cuts into which no edge leads, and that leave no pair open.
-ghost use Rattle.std.specs.Prelude.{ℕ, ◌≡◌, ◌↔◌, ◌<◌, ◌==◌, ◌&&◌, if◌then◌else◌};
-ghost use Rattle.std.specs.Prelude.{All, IsTrue, false, slice_index_or};
-ghost use Rattle.rv_event.specs.Faults.{is_lr};
+//! Cuts into which no edge leads, and that leave an LR behind only where its hart went on for long
+//! without an SC.
+ghost use Rattle.std.specs.Prelude.{ℕ, ◌≡◌, ◌↔◌, ◌<◌, ◌+◌, ◌==◌, ◌&&◌, if◌then◌else◌};
+ghost use Rattle.std.specs.Prelude.{All, IsTrue, false, filter, slice_index_or};
+ghost use Rattle.rv_event.specs.Faults.{is_lr, is_reserved};
 ghost use Rattle.rv_event.specs.Log.{events};
 ghost use Rattle.rv_event.specs.Operations.{is_exclusive};
 ghost use Rattle.rv_event.proofs.Indexed.{Indexed};
-ghost use Rattle.rv_settle.specs.Windows.{ClosesPairs};
-ghost use Rattle.rv_cut.specs.Cuts.{AreLower, first_of, is_past};
+ghost use Rattle.rv_event.specs.declared.event.Event.{Event};
+ghost use Rattle.rv_settle.specs.Windows.{LeavesReserved};
+ghost use Rattle.rv_cut.specs.Cuts.{AreLower, HasWaited, first_of, is_past};
 
 use crate::cut::Cut;
+use crate::exclusive::last_exclusive;
 use crate::ordering::in_order;
 use rv_edges::Tie;
-use rv_event::{Entry, Event, NoMemory, Op};
+use rv_event::{Entry, Event, Id, NoMemory, Op};
 use std::alloc::Global;
 
 /// Keeps more where that is needed, until no edge leads into the past from an event that is kept, and
-/// no LR of the past is without an SC of the past behind it.
+/// no LR of the past is without an SC of the past behind it, but for one behind which more than
+/// `patience` events of its hart stand, none of them an LR, an SC or a failed SC.
 ///
 /// # Errors
 /// `NoMemory` where a list could not be had; the cut may be lower than before.
-pub fn close(alloc: Global, log: &[Entry], ties: &[Tie], cut: &mut Cut) -> Result<(), NoMemory>
+pub fn close(
+    alloc: Global,
+    log: &[Entry],
+    ties: &[Tie],
+    patience: u32,
+    cut: &mut Cut,
+) -> Result<(), NoMemory>
     requires { Indexed (events log.now) }
     ensures { AreLower cut.old cut.new }
 {
-    if is_closed(ties, cut) && closes_pairs(log, cut) {
+    if is_closed(ties, cut) && have_waited(log, patience, cut) {
         return Ok(());
     }
-    keep_open(alloc, log, ties, cut)
+    keep_open(alloc, log, ties, patience, cut)
 }
 
-/// Keeps more, until no edge leads into the past from an event that is kept, and no LR of the past
-/// is without an SC of the past behind it. It looks at each edge and each LR once.
+/// Keeps more, until the cut is closed as [`close`] says. It looks at each edge and each LR once.
 ///
 /// What pulls another event with it has the shape of a tie: where the event `from` is kept, the
 /// event `to` has to be.
 ///
 /// # Errors
 /// `NoMemory` where a list could not be had; the cut may be lower than before.
-fn keep_open(alloc: Global, log: &[Entry], ties: &[Tie], cut: &mut Cut) -> Result<(), NoMemory>
+fn keep_open(
+    alloc: Global,
+    log: &[Entry],
+    ties: &[Tie],
+    patience: u32,
+    cut: &mut Cut,
+) -> Result<(), NoMemory>
+    requires { Indexed (events log.now) }
     ensures { AreLower cut.old cut.new }
 {
     let mut pulls = Vec::from_slice(alloc, ties)?;
-    push_pairs(log, &mut pulls, cut)?;
+    push_pairs(log, patience, &mut pulls, cut)?;
     let mut by_hart = by_hart(alloc, pulls.as_slice())?;
     'rounds: for _ in 0..ties.len() + log.len() {
         if !pull_all(&mut by_hart, cut) {
@@ -52,8 +68,14 @@ fn keep_open(alloc: Global, log: &[Entry], ties: &[Tie], cut: &mut Cut) -> Resul
 }
 
 /// Adds that each LR is kept with the next LR, SC or failed SC of its hart. A last LR, with none of
-/// these behind it, is kept at once.
-fn push_pairs(log: &[Entry], pulls: &mut Vec<Tie>, cut: &mut Cut) -> Result<(), NoMemory>
+/// these behind it, is kept at once, where no more than `patience` events of the hart stand behind it.
+fn push_pairs(
+    log: &[Entry],
+    patience: u32,
+    pulls: &mut Vec<Tie>,
+    cut: &mut Cut,
+) -> Result<(), NoMemory>
+    requires { Indexed (events log.now) }
     ensures { AreLower cut.old cut.new }
 {
     let mut open = [None; 16];
@@ -67,12 +89,23 @@ fn push_pairs(log: &[Entry], pulls: &mut Vec<Tie>, cut: &mut Cut) -> Result<(), 
             open[id.hart as usize] = if op == Op::Lr { Some(id) } else { None };
         }
     }
+    let counts = Cut::behind(log);
     for hart in 0..16 {
         if let Some(lr) = open[hart] {
-            cut.keep(lr);
+            if !is_long(lr, patience, &counts) {
+                cut.keep(lr);
+            }
         }
     }
     Ok(())
+}
+
+/// Whether more than `patience` events of the hart stand behind this one, where it has so many.
+fn is_long(lr: Id, patience: u32, counts: &Cut) -> bool
+    ensures { IsTrue result ↔ lr.seq + patience < first_of counts.now lr.hart }
+{
+    let last = lr.seq.saturating_add(patience);
+    last < counts.first(lr.hart)
 }
 
 /// The pulls by the hart of the event that pulls, each hart's in the order of its events.
@@ -138,10 +171,40 @@ pub fn is_closed(ties: &[Tie], cut: &Cut) -> bool
         .all(|tie| !cut.is_past(tie.to) || cut.is_past(tie.from))
 }
 
-/// Whether the past leaves no hart with a reservation.
-pub fn closes_pairs(log: &[Entry], cut: &Cut) -> bool
+/// Whether the past leaves a hart with a reservation only where its LR has waited for long: it is the
+/// hart's last LR, SC or failed SC, and more than `patience` events of the hart stand behind it.
+pub fn have_waited(log: &[Entry], patience: u32, cut: &Cut) -> bool
     requires { Indexed (events log.now) }
-    ensures { IsTrue result → ClosesPairs (first_of cut.now) (events log.now) }
+    ensures { IsTrue result → (hart : ℕ) → LeavesReserved (first_of cut.now) (events log.now) hart →
+        HasWaited patience (events log.now) cut.now hart }
+{
+    let reserved = reserved_by(log, cut);
+    'harts: for hart in 0..16 {
+        if reserved[hart as usize] && !has_waited(log, hart, patience, cut) {
+            return false;
+        }
+    }
+    true
+}
+
+/// Whether the hart's last LR, SC or failed SC is of the past, and more than `patience` events of the
+/// hart stand behind it.
+fn has_waited(log: &[Entry], hart: u8, patience: u32, cut: &Cut) -> bool
+    requires { Indexed (events log.now) }
+    ensures { IsTrue result → HasWaited patience (events log.now) cut.now hart }
+{
+    let Some(last) = last_exclusive(log, hart) else {
+        return false;
+    };
+    let counts = Cut::behind(log);
+    cut.is_past(last.id) && is_long(last.id, patience, &counts)
+}
+
+/// Of each hart, whether the past leaves it with a reservation.
+fn reserved_by(log: &[Entry], cut: &Cut) -> [bool; 16]
+    requires { Indexed (events log.now) }
+    ensures { (hart : ℕ) → slice_index_or result hart false
+        ≡ is_reserved (filter (λ (e : Event). is_past cut.now e.id) (events log.now)) hart }
 {
     let mut reserved = [false; 16];
     for entry in log {
@@ -149,7 +212,7 @@ pub fn closes_pairs(log: &[Entry], cut: &Cut) -> bool
             note_reservation(&mut reserved, &entry.event);
         }
     }
-    !reserved.contains(&true)
+    reserved
 }
 
 /// Notes whether the event leaves its hart with a reservation: an LR does, an SC or a failed SC

@@ -3,7 +3,7 @@ ghost use Rattle.std.specs.Prelude.{All, Contains, IfOk};
 ghost use Rattle.rv_event.specs.Log.{events};
 ghost use Rattle.rv_cut.specs.Cuts.{IsCutOf};
 
-use crate::closing::{close, closes_pairs, is_closed};
+use crate::closing::{close, have_waited, is_closed};
 use crate::cut::Cut;
 use crate::ordering::in_order;
 use crate::reach::keep_unsettled;
@@ -14,7 +14,8 @@ use std::alloc::Global;
 
 /// A cut of the book's log whose past these harts, the only ones that are still active, can't come
 /// before any more. With a hart above 15 there is no past. No edge of the log leads into the past
-/// from what is kept, and no LR of the past waits for its SC.
+/// from what is kept. An LR of the past waits for its SC only where more than `patience` events of its
+/// hart stand behind it, none of them an LR, an SC or a failed SC.
 ///
 /// The cut is as high as it may be: an event is kept only where it or one that pulls it with it is
 /// not settled. That is not proved: a cut with no past would keep the contract too.
@@ -23,8 +24,8 @@ use std::alloc::Global;
 ///
 /// # Errors
 /// `NoMemory` where it could not be had; the book stays as it is.
-pub fn find_cut(alloc: Global, book: &Book, active: &[u8]) -> Result<Cut, NoMemory>
-    ensures { IfOk result (IsCutOf book.now.model (events book.now.log) active.now) }
+pub fn find_cut(alloc: Global, book: &Book, active: &[u8], patience: u32) -> Result<Cut, NoMemory>
+    ensures { IfOk result (IsCutOf book.now.model (events book.now.log) active.now patience) }
 {
     if active.iter().any(|hart| *hart >= 16) {
         return Ok(Cut::new());
@@ -35,8 +36,8 @@ pub fn find_cut(alloc: Global, book: &Book, active: &[u8]) -> Result<Cut, NoMemo
     let late_first = late_first(alloc, book, ties.as_slice())?;
     let mut cut = Cut::behind(log);
     keep_unsettled(alloc, model, log, late_first.as_slice(), active, &mut cut)?;
-    close(alloc, log, ties.as_slice(), &mut cut)?;
-    if is_closed(ties.as_slice(), &cut) && closes_pairs(log, &cut) {
+    close(alloc, log, ties.as_slice(), patience, &mut cut)?;
+    if is_closed(ties.as_slice(), &cut) && have_waited(log, patience, &cut) {
         Ok(cut)
     } else {
         Ok(Cut::new())

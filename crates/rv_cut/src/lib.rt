@@ -12,9 +12,12 @@
 //! - `marks`: of each event, to the bars of which harts edges lead.
 //! - `bars`: the operations of a hart that stand before what it does later, its bars.
 //! - `reach`: what edges lead to them.
-//! - `closing`: cuts into which no edge leads, and that leave no pair open.
+//! - `exclusive`: the last LR, SC or failed SC of a hart.
+//! - `closing`: cuts into which no edge leads, and that leave an LR behind only where its hart went on
+//!   for long without an SC.
 //! - `find`: the search for a cut.
-//! - `specs/`: what a cut promises (`Cuts`), what marks say (`Marked`).
+//! - `specs/`: what a cut promises (`Cuts`), which LR, SC or failed SC of a hart is the last
+//!   (`Exclusives`), what marks say (`Marked`).
 //!
 //! It stands on `rv_book` for the edges of a log and on `rv_settle` for what may be forgotten.
 #![tactic(auto)]
@@ -22,10 +25,12 @@
 mod bars;
 mod closing;
 mod cut;
+mod exclusive;
 mod find;
 mod marks;
 mod ordering;
 mod reach;
 
 pub use cut::Cut;
+pub use exclusive::last_exclusive;
 pub use find::find_cut;

@@ -25,8 +25,8 @@ pub close-requires : goal.close-requires
 close-requires c = indexed_from_WellFormed c.log-log.result.now
     (subst WellFormed (sym c.log-log.ensures.value) c.log-log.ensures.well_formed)
 
-pub closes_pairs-requires : goal.closes_pairs-requires
-closes_pairs-requires c = indexed_from_WellFormed c.log-log.result.now
+pub have_waited-requires : goal.have_waited-requires
+have_waited-requires c = indexed_from_WellFormed c.log-log.result.now
     (subst WellFormed (sym c.log-log.ensures.value) c.log-log.ensures.well_formed)
 
 pub keep_unsettled-requires-clause-edges : goal.keep_unsettled-requires-clause-edges
@@ -39,13 +39,13 @@ keep_unsettled-requires-clause-edges c = λ t own.
     (subst (λ (l : List Entry). AnyEdge c.args.book.now.model (events l) t.from t.to) (sym c.log-log.ensures.value)
     (c.in_ok-ties.ensures.each t listed))
 
-pub returns-then-closes_pairs : goal.returns-then-closes_pairs
-returns-then-closes_pairs c =
-    subst (λ (m : MemoryModel). IsCutOf m (events c.args.book.now.log) c.args.active.now firsts)
+pub returns-then-have_waited : goal.returns-then-have_waited
+returns-then-have_waited c =
+    subst (λ (m : MemoryModel). IsCutOf m (events c.args.book.now.log) c.args.active.now c.args.patience firsts)
     c.model-model.ensures.value
-    (subst (λ (l : List Entry). IsCutOf c.model-model.result (events l) c.args.active.now firsts)
-    c.log-log.ensures.value (found c.model-model.result log c.args.active.now firsts c.in_ok-ties.ties.items are
-    closed settled (c.if-closes_pairs.ensures refl) within))
+    (subst (λ (l : List Entry). IsCutOf c.model-model.result (events l) c.args.active.now c.args.patience firsts)
+    c.log-log.ensures.value (found c.model-model.result log c.args.active.now c.args.patience firsts c.in_ok-ties.ties.items are
+    closed settled (c.if-have_waited.ensures refl) within))
   where
     firsts : List ℕ
     firsts = c.close.new.cut
@@ -77,9 +77,9 @@ returns-then-closes_pairs c =
 
 pub returns : goal.returns
 returns c =
-    found-none c.args.book.now.model (events c.args.book.now.log) c.args.active.now c.new-else-is_closed.result
+    found-none c.args.book.now.model (events c.args.book.now.log) c.args.active.now c.args.patience c.new-else-is_closed.result
     c.new-else-is_closed.ensures
 
 pub returns-then-any : goal.returns-then-any
 returns-then-any c =
-    found-none c.args.book.now.model (events c.args.book.now.log) c.args.active.now c.new.result c.new.ensures
+    found-none c.args.book.now.model (events c.args.book.now.log) c.args.active.now c.args.patience c.new.result c.new.ensures

@@ -3,7 +3,7 @@ use Rattle.rv_event.specs.Faults.{is_reserved}
 use Rattle.rv_event.specs.Log.{events}
 use Rattle.rv_event.specs.declared.event.Event.{Event}
 use Rattle.rv_cut.specs.Cuts.{is_past}
-use Rattle.rv_cut.proofs.closing.closes_pairs.Given as goal
+use Rattle.rv_cut.proofs.closing.reserved_by.Given as goal
 
 abbrev pub invariant-loop-entry : goal.invariant-loop-entry
 invariant-loop-entry l = (hart : ℕ) →

@@ -1,7 +1,6 @@
 -- A hart's reservation is told by its last event of the past that opens or ends one.
-use Rattle.std.proofs.Common.{Bool, List, ap, arith, false, filter, get_or, if◌then◌else◌, sym, take, ◌&&◌, ◌==◌}
+use Rattle.std.proofs.Common.{Bool, List, ap, false, filter, get_or, if◌then◌else◌, sym, take, ◌&&◌, ◌==◌}
 use Rattle.std.proofs.Common.{◌∙◌}
-use Rattle.std.proofs.lemmas.Grind.{common_steps}
 use Rattle.std.proofs.lemmas.List.{take_all}
 use Rattle.rv_event.proofs.Scans.{event-at, events-more}
 use Rattle.rv_event.specs.Faults.{is_lr, is_reserved}
@@ -10,9 +9,9 @@ use Rattle.rv_event.specs.Operations.{is_exclusive}
 use Rattle.rv_event.specs.declared.event.Entry.{Entry}
 use Rattle.rv_event.specs.declared.event.Event.{Event}
 use Rattle.rv_settle.proofs.Reserved.{reserved-in, reserved-out}
-use Rattle.rv_cut.proofs.closing.closes_pairs.Goals.{else-is_past, then-is_past}
+use Rattle.rv_cut.proofs.closing.reserved_by.Goals.{else-is_past, then-is_past}
 use Rattle.rv_cut.specs.Cuts.{is_past}
-use Rattle.rv_cut.proofs.closing.closes_pairs.Goals as goal
+use Rattle.rv_cut.proofs.closing.reserved_by.Goals as goal
 
 pub note_reservation-requires : goal.note_reservation-requires
 note_reservation-requires c =
@@ -43,8 +42,7 @@ loop-entry-preserved c = λ hart.
     ]
 
 pub returns : goal.returns
-returns c = λ none hart.
-    sym (ap (λ (xs : List Entry). is_reserved (filter (λ (x : Event). is_past c.args.cut.now x.id) (events xs)) hart)
-    (take_all c.loop-entry.entry-index c.args.log.now c.loop-entry-test.false))
-    ∙ sym (c.loop-entry.invariant hart)
-    ∙ grind (arith, common_steps)
+returns c = λ hart.
+    c.loop-entry.invariant hart
+    ∙ ap (λ (xs : List Entry). is_reserved (filter (λ (x : Event). is_past c.args.cut.now x.id) (events xs)) hart)
+    (take_all c.loop-entry.entry-index c.args.log.now c.loop-entry-test.false)
