@@ -111,9 +111,9 @@ impl Past {
             (IsEdgeTo gone (option_copied lr.entry) event.now) }
     {
         let word = event.word;
-        let version = self.version(word);
         if self.is_loaded_below(event) {
             let reason = Reason::FromRead;
+            let version = self.version(word);
             return Some(PastEdge {
                 reason,
                 word,
@@ -122,6 +122,7 @@ impl Past {
         }
         if self.is_stored_below(event) {
             let reason = Reason::Coherence;
+            let version = self.version(word);
             return Some(PastEdge {
                 reason,
                 word,

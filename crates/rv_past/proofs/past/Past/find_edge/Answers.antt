@@ -21,7 +21,7 @@ returns-then-is_loaded_below c = λ gone are free.
 pub returns-then-is_stored_below : goal.returns-then-is_stored_below
 returns-then-is_stored_below c = λ gone are free.
     let is = c.is_stored_below.ensures.0 c.if-is_stored_below.true in
-    rw c.version-version.ensures
+    rw c.version-version-then-is_stored_below.ensures
     (told-store gone (get nat_eq c.args.self.now.newest) (get same_version c.args.self.now.awaited) are
     (option_copied c.args.lr) c.args.event.now is.0 is.1)
 
