@@ -2,14 +2,14 @@
 use Rattle.rv_book.specs.Booked.{SomeLawful}
 use Rattle.rv_cut.specs.Cuts.{first_of}
 use Rattle.rv_endless.proofs.Before.{window-more}
-use Rattle.rv_endless.proofs.Next.{kept, room, seq-is}
+use Rattle.rv_endless.proofs.Next.{kept, lr-kept, pair, room, seq-is}
 use Rattle.rv_endless.specs.Runs.{AreForgotten, IsForbidden, IsNext, StandsFor, in_window, limit}
 use Rattle.rv_endless.specs.Steps.{IsPastOf, Joins, counted_with}
 use Rattle.rv_endless.specs.declared.run.Endless.{Endless}
 use Rattle.rv_event.proofs.Common.{map-append}
 use Rattle.rv_event.proofs.Indexed.{IndexedWithin, indexed_within}
 use Rattle.rv_event.proofs.Pushed.{split_push}
-use Rattle.rv_event.specs.Faults.{fault_within, is_reserved}
+use Rattle.rv_event.specs.Faults.{fault_within}
 use Rattle.rv_event.specs.Log.{events, of_hart}
 use Rattle.rv_event.specs.Orders.{Lawful}
 use Rattle.rv_event.specs.WellFormed.{WellFormedWithin}
@@ -23,16 +23,22 @@ use Rattle.rv_settle.proofs.Faulted.{counted}
 use Rattle.rv_settle.proofs.WindowDecides.{window-decides}
 use Rattle.rv_settle.specs.Cuts.{IsCut}
 use Rattle.rv_settle.specs.Past.{ComesBeforePast}
-use Rattle.rv_settle.specs.Windows.{ClosesPairs, IsBelow, IsKept, KeepsFew, window}
+use Rattle.rv_settle.specs.Windows.{IsBelow, IsKept, KeepsFew, KeepsPairs, window}
 use Rattle.std.proofs.Common.{if◌then◌else◌, ℕ, ◌≡◌, ◌≢◌, ◌∙◌, ◌<◌, ◌≤◌, ◌+◌, ◌++◌, ◌∷◌, ◌==◌, ◌↔◌}
-use Rattle.std.proofs.Common.{[], All, Bool, Contains, IsTrue, List, None, ap, append-nil, arith}
-use Rattle.std.proofs.Common.{eq-eqb, filter, inl, inr, length, refl, rules, subst, sym}
-use Rattle.std.proofs.lemmas.Bool.{cases_eq, le-ltb, ne_eqb}
+use Rattle.std.proofs.Common.{[], All, Bool, Contains, IsTrue, List, None, ap, arith}
+use Rattle.std.proofs.Common.{eq-eqb, inl, inr, length, refl, rules, subst, sym}
+use Rattle.std.proofs.lemmas.Bool.{cases_eq, ne_eqb}
 use Rattle.std.proofs.lemmas.Grind.{get_or-set_at}
 use Rattle.std.proofs.lemmas.List.{get_or-set_other, length-append, length-set}
 use Rattle.std.proofs.lemmas.List.Elements.{All-push, Contains-append_left, Contains-push_cases}
 use Rattle.std.proofs.lemmas.List.Elements.{filter-append}
-use Rattle.std.specs.Prelude.{nat_lt, slice_index_or, slice_set}
+use Rattle.std.specs.Prelude.{slice_index_or, slice_set}
+use Rattle.std.proofs.Common.{◌⊎◌, IsFalse}
+use Rattle.rv_event.proofs.Growing.{All-from_contains}
+use Rattle.rv_event.specs.Log.{Between, Earlier}
+use Rattle.rv_event.specs.Operations.{is_exclusive}
+use Rattle.rv_event.specs.Relations.{Paired}
+use Rattle.std.proofs.lemmas.List.Elements.{All-contains}
 
 -- a well formed log stays so with an entry that has no fault
 within-push : (most : ℕ) (log : List Entry) (x : Entry) → WellFormedWithin most log → fault_within most log x ≡ None →
@@ -60,19 +66,50 @@ module _ (run : Endless) (log : List Entry) (x : Entry) (stands : StandsFor run 
   formed : WellFormedWithin limit more
   formed = within-push limit log x stands.formed sound
 
-  -- what was forgotten stays what it was
-  abbrev is_gone : Event → Bool
-  is_gone e = nat_lt e.id.seq (first e.id.hart)
+  in-more : (m : Event) → Contains (events log) m → Contains (events more) m
+  in-more m c = subst (λ (es : List Event). Contains es m) (sym grown)
+      (Contains-append_left (events log) (x.event ∷ []) m c)
 
-  gone-same : filter is_gone (events more) ≡ filter is_gone (events log)
-  gone-same = ap (filter is_gone) grown ∙ filter-append is_gone (events log) (x.event ∷ [])
-      ∙ ap (λ (xs : List Event). filter is_gone (events log) ++ xs) none ∙ append-nil (filter is_gone (events log))
-    where
-      none : filter is_gone (x.event ∷ []) ≡ []
-      none = rw (le-ltb x.event.id.seq (first h) is-kept) refl
+  old-or-new : (m : Event) → Contains (events more) m → Contains (events log) m ⊎ (x.event ≡ m)
+  old-or-new m c = Contains-push_cases (events log) x.event m (subst (λ (es : List Event). Contains es m) grown c)
 
-  closes : ClosesPairs first (events more)
-  closes hart = ap (λ (xs : List Event). is_reserved xs hart) gone-same ∙ stands.closes hart
+  known-log : IndexedWithin limit (events log)
+  known-log = indexed_within limit log stands.formed
+
+  -- what is earlier than an event with a number of the log, or than the new one, is of the log
+  earlier-old : (m e : Event) → Contains (events more) m → Earlier m e → e.id.seq ≤ length (of_hart e.id.hart
+      (events log)) → Contains (events log) m
+  earlier-old m e c earlier most = elim (old-or-new m c) [
+    | inl old ↦ old
+    | inr same ↦ (
+        let hart : h ≡ e.id.hart = ap (λ (z : Event). z.id.hart) same ∙ earlier.hart in
+        let seq = ap (λ (z : Event). z.id.seq) same in
+        let count = ap (λ (k : ℕ). length (of_hart k (events log))) hart in
+        let next-seq = seq-is run log x stands next in
+        let less = earlier.seq in
+        absurd (omega (arith, seq, count, next-seq, less, most)))
+  ]
+
+  -- an SC that is kept is paired with an LR that is kept
+  pairs : KeepsPairs first (events more)
+  pairs sc c kept lr c-lr paired = elim (old-or-new sc c) [
+    | inl old ↦ (
+        let below = known-log.below sc old in
+        stands.pairs sc old kept lr (earlier-old lr sc c-lr paired.earlier (omega (arith, below))) (record {
+          is_lr = paired.is_lr;
+          is_sc = paired.is_sc;
+          earlier = paired.earlier;
+          none_between = All-from_contains (λ m. Between lr m sc → IsFalse (is_exclusive m.op)) (events log)
+              (λ m there. All-contains (λ m'. Between lr m' sc → IsFalse (is_exclusive m'.op)) (events more) m
+              paired.none_between (in-more m there));
+        }))
+    | inr same ↦ (
+        let there : Paired (events more) lr x.event =
+        subst (λ (e : Event). Paired (events more) lr e) (sym same) paired in
+        let next-seq = seq-is run log x stands next in
+        lr-kept run log x stands next (events more) in-more lr
+        (earlier-old lr x.event c-lr there.earlier (omega (arith, next-seq))) there)
+  ]
 
   -- how many events each hart has with it
   own-more : (hart : ℕ) → of_hart hart (events more) ≡ of_hart hart (events log) ++ of_hart hart (x.event ∷ [])
@@ -103,12 +140,13 @@ module _ (run : Endless) (log : List Entry) (x : Entry) (stands : StandsFor run 
   last =
       let seq = seq-is run log x stands next in
       let count = ap (λ (xs : List Entry). length (of_hart h (events xs))) stands.window_is
-      ∙ counted limit log x first stands.formed stands.closes stands.few (stands.within h) is-kept
+      ∙ counted limit log x first stands.formed stands.pairs (pair run log x stands next) stands.few
+      (stands.within h) is-kept
       (room run log x stands next) in
       omega (arith, seq, count)
 
   pub joins : Joins run log x
-  joins = record { formed = formed; kept = is-kept; last = last; closes = closes; few = few }
+  joins = record { formed = formed; kept = is-kept; last = last; pairs = pairs; few = few }
 
   pub is-past : IsPastOf run log stands.cut.past
   is-past = record { of_log = stands.cut.cut.of_log; below = stands.cut.below }
@@ -125,7 +163,7 @@ module _ (run : Endless) (log : List Entry) (x : Entry) (stands : StandsFor run 
       ↔ ((ComesBeforePast (events more) stands.cut.past x.event → ⊥)
       × ((order : List Id) × Lawful run.book.model (events (window first more)) order))
   decides = window-decides limit run.book.model log x run.active.items stands.cut.past first stands.lawful.0 formed
-      (plain next.within.plain) closes few next.within.active stands.cut.cut stands.cut.below is-kept stands.lawful.1
+      (plain next.within.plain) pairs few next.within.active stands.cut.cut stands.cut.below is-kept stands.lawful.1
 
   -- an entry that comes before the past is forbidden
   pub forbidden-by-past : ComesBeforePast (events more) stands.cut.past x.event → IsForbidden run log x
@@ -211,6 +249,7 @@ module _ (run : Endless) (log : List Entry) (x : Entry) (stands : StandsFor run 
       );
       past = stands.gone.1.past;
       facts = stands.gone.1.facts;
+      exclusives = stands.gone.1.exclusives;
     }
 
     -- the run stands for the log with the entry
@@ -227,7 +266,7 @@ module _ (run : Endless) (log : List Entry) (x : Entry) (stands : StandsFor run 
       numbers = numbers-more;
       within = within-more;
       few = few;
-      closes = closes;
+      pairs = pairs;
       cut = record {
         past = stands.cut.past;
         below = below-more;

@@ -27,10 +27,10 @@ use Rattle.rv_settle.proofs.Bars.{earlier-new}
 use Rattle.rv_settle.proofs.Cuts.{new-id}
 use Rattle.rv_past.specs.Before.{stores_what_was_returned}
 use Rattle.rv_past.specs.Laws.{IsPartner}
-use Rattle.rv_settle.proofs.Formed.{pairs-kept, window-formed}
+use Rattle.rv_settle.proofs.Formed.{window-formed}
 use Rattle.rv_settle.proofs.Windows.{into-window, onto-window, paired-back, paired-in}
 use Rattle.rv_settle.specs.Past.{ComesBeforePast}
-use Rattle.rv_settle.specs.Windows.{IsKept, KeepsPairs, renumbered, window}
+use Rattle.rv_settle.specs.Windows.{IsKept, renumbered, window}
 use Rattle.std.proofs.Common.{ℕ, ◌≡◌, ◌∙◌, ◌<◌, ◌++◌, ◌∷◌, ◌↔◌, [], Bool, Contains, IsTrue, List}
 use Rattle.std.proofs.Common.{None, Option, Some, ap, arith, filter, map, refl, subst, sym}
 use Rattle.std.proofs.lemmas.Bool.{le-leb}
@@ -101,10 +101,12 @@ module _ (run : Endless) (log gone : List Entry) (x : Entry) (past : Event → B
 
   known-window : IndexedWithin 4096 w
   known-window = indexed_from_WellFormed (window first (log ++ x ∷ []))
-      (window-formed limit (log ++ x ∷ []) first joined.formed joined.closes joined.few)
+      (window-formed limit (log ++ x ∷ []) first joined.formed joined.pairs joined.few)
 
-  pairs : KeepsPairs first new
-  pairs = pairs-kept limit (log ++ x ∷ []) first joined.formed joined.closes
+  -- the event is the last of the log
+  here : Contains new x.event
+  here = subst (λ (es : List Event). Contains es x.event) (sym (map-append (λ (y : Entry). y.event) log (x ∷ [])))
+      (Contains-push (events log) x.event)
 
   module _ (lr : Option Event) (partner : IsPartner w (renumbered first x.event) lr) where
     -- what comes before what was forgotten comes before the past
@@ -147,7 +149,7 @@ module _ (run : Endless) (log gone : List Entry) (x : Entry) (past : Event → B
     past-before (settled.stores_too_late r p c paired is s word apart less) = go lr refl partner
       where
         kept : IsKept first r
-        kept = pairs r x.event c paired joined.kept
+        kept = joined.pairs x.event here joined.kept r c paired
 
         there : Contains w (renumbered first r)
         there = into-window first (log ++ x ∷ []) r c kept

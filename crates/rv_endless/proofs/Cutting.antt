@@ -1,6 +1,7 @@
 -- A run whose window was cut stands for the same log.
 use Rattle.rv_cut.specs.Cuts.{IsCutOf, first_of, is_past}
 use Rattle.rv_endless.proofs.Sources.{same-source, source-before}
+use Rattle.rv_endless.specs.Exclusives.{AreLast}
 use Rattle.rv_endless.specs.Forgetting.{AreFresh, HaveNumbers, IsBookOf, forgotten_of, restored}
 use Rattle.rv_endless.specs.Runs.{IsForgottenOf, StandsFor, bare, limit}
 use Rattle.rv_endless.specs.declared.run.Endless.{Endless}
@@ -25,10 +26,12 @@ use Rattle.rv_past.specs.Gone.{AreGone}
 use Rattle.rv_past.specs.declared.facts.Facts.{Facts}
 use Rattle.rv_past.specs.declared.past.Past.{Past}
 use Rattle.rv_settle.proofs.CutsCompose.{cuts-compose}
-use Rattle.rv_settle.proofs.Formed.{CountsFrom, count-high, is_high, own-window}
-use Rattle.rv_settle.proofs.Nested.{below-both, both-closed, window-twice}
+use Rattle.rv_settle.proofs.Counted.{CountsFrom, count-high, is_high, own-window}
+use Rattle.rv_settle.proofs.Formed.{window-formed}
+use Rattle.rv_settle.proofs.Pairs.{pairs-kept}
+use Rattle.rv_settle.proofs.Nested.{below-both, pairs-both, window-twice}
 use Rattle.rv_settle.specs.Cuts.{IsCut}
-use Rattle.rv_settle.specs.Windows.{AreBoth, ClosesPairs, IsBelow, IsKept, both_firsts, renumbered}
+use Rattle.rv_settle.specs.Windows.{AreBoth, IsBelow, IsKept, KeepsPairs, LeavesLastOpen, both_firsts, renumbered}
 use Rattle.rv_settle.specs.Windows.{window}
 use Rattle.std.proofs.Common.{All, ℕ, ◌≡◌, ◌≢◌, ◌∙◌, ◌<◌, ◌≤◌, ◌+◌, ◌-◌, ◌++◌, ◌∷◌, ◌&&◌, ◌||◌, ◌⊎◌}
 use Rattle.std.proofs.Common.{[], Bool, Contains, IsTrue, List, ap, arith, false, filter, inl, inr}
@@ -78,13 +81,21 @@ stands-with run log stands past facts gone known = record {
   numbers = stands.numbers;
   within = stands.within;
   few = stands.few;
-  closes = stands.closes;
+  pairs = stands.pairs;
   cut = record { past = stands.cut.past; below = stands.cut.below; cut = stands.cut.cut };
-  gone = (stands.gone.0, record { each = stands.gone.1.each; past = gone; facts = known });
+  gone = (
+    stands.gone.0,
+    record {
+      each = stands.gone.1.each;
+      past = gone;
+      facts = known;
+      exclusives = stands.gone.1.exclusives;
+    },
+  );
 }
 
-module _ (run : Endless) (log : List Entry) (stands : StandsFor run log) (cut : List ℕ)
-    (is-cut : IsCutOf run.book.model (events run.book.log) run.active.items cut) where
+module _ (run : Endless) (log : List Entry) (stands : StandsFor run log) (patience : ℕ)
+    (cut : List ℕ) (is-cut : IsCutOf run.book.model (events run.book.log) run.active.items patience cut) where
   abbrev f : ℕ → ℕ
   f = first_of run.firsts
 
@@ -274,10 +285,24 @@ module _ (run : Endless) (log : List Entry) (stands : StandsFor run log) (cut : 
   both-cut : IsCut run.book.model (events log) run.active.items both
   both-cut = cuts-compose limit run.book.model log run.active.items f stands.cut.past more both
       stands.formed stands.plain
-      stands.closes stands.few stands.cut.cut stands.cut.below
+      stands.pairs stands.few stands.cut.cut stands.cut.below
       (subst (λ (xs : List Entry). IsCut run.book.model (events xs) run.active.items more) same-window
       (is-cut.cut more (λ p is. (more-of p is).1) more-below))
       are-both
+
+  -- the window's SCs that it keeps are paired with LRs that it keeps
+  pub window-pairs : KeepsPairs g (events w)
+  window-pairs =
+      pairs-kept 4096 w g (subst (λ (xs : List Entry). WellFormed xs) (sym same-window)
+      (window-formed limit log f stands.formed stands.pairs stands.few)) leaves
+    where
+      leaves : LeavesLastOpen g (events w)
+      leaves e c reserved exclusive =
+          let waited = is-cut.waits e.id.hart reserved in
+          let most = waited.last.1 e (record { of_log = c; own = refl; exclusive = exclusive }) in
+          let low = ltb-true waited.lr.id.seq (g waited.lr.id.hart) waited.past in
+          let base = ap g waited.last.0.own in
+          omega (arith, most, low, base)
 
   both-below : IsBelow (events log) both (both_firsts f g)
   both-below = below-both log f g stands.cut.past more both stands.cut.below
@@ -307,7 +332,8 @@ module _ (run : Endless) (log : List Entry) (stands : StandsFor run log) (cut : 
       (same-counts : after.counts ≡ run.counts) (same-active : after.active ≡ run.active)
       (going : after.stopped ≡ run.stopped)
       (past : AreGone (events (stands.gone.0 ++ forgotten_of run.firsts cut w)) after.past)
-      (facts : AreFacts (stands.gone.0 ++ forgotten_of run.firsts cut w) after.facts) where
+      (facts : AreFacts (stands.gone.0 ++ forgotten_of run.firsts cut w) after.facts)
+      (exclusives : AreLast (events (stands.gone.0 ++ forgotten_of run.firsts cut w)) after.exclusives) where
     abbrev next : ℕ → ℕ
     next = first_of after.firsts
 
@@ -386,9 +412,9 @@ module _ (run : Endless) (log : List Entry) (stands : StandsFor run log) (cut : 
           (sym next-is) (within-both hart);
       few = λ hart. subst (λ (n : ℕ → ℕ). length (of_hart hart (events log)) ≤ n hart + 4096) (sym next-is)
           (let most = stands.few hart in omega (arith, most));
-      closes = subst (λ (n : ℕ → ℕ). ClosesPairs n (events log)) (sym next-is)
-          (λ hart. both-closed f g hart log (stands.closes hart)
-          (subst (λ (xs : List Entry). ClosesPairs g (events xs)) same-window is-cut.closes hart));
+      pairs = subst (λ (n : ℕ → ℕ). KeepsPairs n (events log)) (sym next-is)
+          (pairs-both limit log f g stands.formed stands.few stands.pairs
+          (subst (λ (xs : List Entry). KeepsPairs g (events xs)) same-window window-pairs));
       cut = record {
         past = both;
         below = subst (λ (n : ℕ → ℕ). IsBelow (events log) both n) (sym next-is) both-below;
@@ -402,6 +428,7 @@ module _ (run : Endless) (log : List Entry) (stands : StandsFor run log) (cut : 
           each = λ y. (each-to y, each-from y);
           past = past;
           facts = facts;
+          exclusives = exclusives;
         },
       );
     }

@@ -40,7 +40,7 @@ stands-fewer run log stands other fewer = record {
   numbers = stands.numbers;
   within = stands.within;
   few = stands.few;
-  closes = stands.closes;
+  pairs = stands.pairs;
   cut = record {
     past = stands.cut.past;
     below = stands.cut.below;
@@ -53,6 +53,11 @@ stands-fewer run log stands other fewer = record {
   };
   gone = (
     stands.gone.0,
-    record { each = stands.gone.1.each; past = stands.gone.1.past; facts = stands.gone.1.facts },
+    record {
+      each = stands.gone.1.each;
+      past = stands.gone.1.past;
+      facts = stands.gone.1.facts;
+      exclusives = stands.gone.1.exclusives;
+    },
   );
 }

@@ -3,10 +3,11 @@ pub mod Before
 pub mod Begun
 pub mod Cutting
 pub mod Ended
-pub mod Exclusives
+pub mod Partners
 pub mod Faulty
 pub mod Forgotten
 pub mod Judged
+pub mod LastForgotten
 pub mod Misfits
 pub mod Next
 pub mod Refused

@@ -14,7 +14,7 @@ use Rattle.rv_event.specs.declared.event.Op.TheVariants.{Carrier}
 use Rattle.rv_event.specs.declared.memory_model.MemoryModel.{MemoryModel}
 use Rattle.rv_settle.proofs.Formed.{window-formed}
 use Rattle.rv_settle.specs.Laws.{WindowsAreLawful}
-use Rattle.rv_settle.specs.Windows.{ClosesPairs, KeepsFew, renumbered, window}
+use Rattle.rv_settle.specs.Windows.{KeepsFew, KeepsPairs, renumbered, window}
 use Rattle.std.proofs.Common.{ℕ, ◌≡◌, ◌≢◌, ◌∙◌, ◌==◌, ◌<◌, ◌+◌, ◌++◌, ◌∷◌, [], All, Bool, List, ap}
 use Rattle.std.proofs.Common.{arith, drop, false, filter, inl, inr, length, map, sym, take}
 use Rattle.std.proofs.lemmas.List.{append_assoc}
@@ -41,7 +41,7 @@ continues-front front rest log is hart = (
 
 module _ (law : WindowsAreLawful) (model : MemoryModel) (ws : List Entry) (cut : List ℕ) (formed : WellFormed ws)
     (order : List Id) (lawful : Lawful model (events ws) order) (plain : All (λ m. m.op ≢ Carrier) (events ws))
-    (closes : ClosesPairs (first_of cut) (events ws)) (k : ℕ) (low : k < length ws) (w : Entry)
+    (pairs : KeepsPairs (first_of cut) (events ws)) (k : ℕ) (low : k < length ws) (w : Entry)
     (is : w ≡ get_or ws k w) (kept : is_past cut w.event.id ≡ false) where
   abbrev g : ℕ → ℕ
   g = first_of cut
@@ -62,7 +62,7 @@ module _ (law : WindowsAreLawful) (model : MemoryModel) (ws : List Entry) (cut :
   few hart = let most = known.few hart in omega (arith, most)
 
   formed-window : WellFormed (window g ws)
-  formed-window = window-formed 4096 ws g formed closes few
+  formed-window = window-formed 4096 ws g formed pairs few
 
   -- the window goes on with the entry
   whole : window g ws ≡ (front ++ moved ∷ []) ++ rest
@@ -74,6 +74,6 @@ module _ (law : WindowsAreLawful) (model : MemoryModel) (ws : List Entry) (cut :
   pub not-refused : IsRefusedBy model front moved → ⊥
   not-refused (inl faulty) = faulty (formed-window front rest moved (whole ∙ append_assoc front (moved ∷ []) rest))
   not-refused (inr (c, certifies)) =
-      let some = law 4096 model ws g order formed plain closes few lawful in
+      let some = law 4096 model ws g order formed plain pairs few lawful in
       no_longer_log 4096 model (front ++ moved ∷ []) (window g ws) c some.0 formed-window
       (continues-front (front ++ moved ∷ []) rest (window g ws) whole) certifies some.1

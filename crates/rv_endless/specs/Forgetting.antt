@@ -50,8 +50,9 @@ abbrev pub IsRefusedBy : MemoryModel → List Entry → Entry → Type 0
 IsRefusedBy model log x =
     (fault_of log x ≡ None → ⊥) ⊎ ((c : Certificate) × Certifies model (events (log ++ x ∷ [])) c)
 
--- the run's window is one of the window that it had, where a cut of that may forget
-pub record IsCutBy (old new : Endless) : Type 0 where
+-- the run's window is one of the window that it had, where a cut of that may forget, and waits so long for
+-- SCs
+pub record IsCutBy (patience : ℕ) (old new : Endless) : Type 0 where
   pub cut : List ℕ
-  pub is_cut : IsCutOf old.book.model (events old.book.log) old.active.items cut
+  pub is_cut : IsCutOf old.book.model (events old.book.log) old.active.items patience cut
   pub window_is : new.book.log ≡ window (first_of cut) old.book.log

@@ -1,5 +1,5 @@
 pub mod Answers
+pub mod Exclusives
 pub mod Forgetting
-pub mod Partners
 pub mod Runs
 pub mod Steps

@@ -12,7 +12,7 @@ use Rattle.rv_event.specs.WellFormed.{WellFormedWithin}
 use Rattle.rv_event.specs.declared.event.Entry.{Entry}
 use Rattle.rv_event.specs.declared.event.Event.{Event}
 use Rattle.rv_event.specs.declared.event.Id.{Id}
-use Rattle.rv_event.specs.declared.event.Op.TheVariants.{Carrier}
+use Rattle.rv_event.specs.declared.event.Op.TheVariants.{Carrier, Sc}
 use Rattle.rv_event.specs.declared.fault.Fault.{Fault}
 use Rattle.rv_event.specs.declared.fault.Fault.TheVariants.{Dependency, OtherSource, Sequence}
 use Rattle.rv_event.specs.declared.fault.Fault.TheVariants.{TooManyDeps, VersionTaken}
@@ -24,7 +24,10 @@ use Rattle.rv_past.specs.declared.facts.Misfit.TheVariants as misfit
 use Rattle.rv_past.specs.declared.facts.Misfit.TheVariants.{Depends}
 use Rattle.rv_past.specs.Gone.{AreGone}
 use Rattle.rv_settle.specs.Cuts.{IsCut}
-use Rattle.rv_settle.specs.Windows.{ClosesPairs, IsBelow, KeepsFew, renumbered, window}
+use Rattle.rv_settle.specs.Windows.{IsBelow, KeepsFew, KeepsPairs, renumbered, window}
+use Rattle.rv_cut.specs.Exclusives.{IsLastExclusive}
+use Rattle.rv_endless.specs.Exclusives.{AreLast}
+use Rattle.rv_endless.specs.declared.exclusives.Exclusive.{Exclusive}
 use Rattle.rv_endless.specs.declared.answer.Answer.{Answer}
 use Rattle.rv_endless.specs.declared.answer.Answer.TheVariants as answer
 use Rattle.rv_endless.specs.declared.answer.Answer.TheVariants.{Accepted, BeforePast, Forbidden}
@@ -32,7 +35,7 @@ use Rattle.rv_endless.specs.declared.answer.Answer.TheVariants.{Malformed, NoMem
 use Rattle.rv_endless.specs.declared.answer.Answer.TheVariants.{Stopped, Taken}
 use Rattle.rv_endless.specs.declared.answer.Beyond.{Beyond}
 use Rattle.rv_endless.specs.declared.answer.Beyond.TheVariants as why
-use Rattle.rv_endless.specs.declared.answer.Beyond.TheVariants.{Inactive, LastNumber, WindowFull}
+use Rattle.rv_endless.specs.declared.answer.Beyond.TheVariants.{Inactive, LastNumber, LrForgotten, WindowFull}
 use Rattle.rv_endless.specs.declared.run.Endless.{Endless}
 
 -- how many events of a hart a log may have: as many as there are numbers of 32 bits
@@ -56,6 +59,7 @@ pub record AreForgotten (run : Endless) (log gone : List Entry) : Type 0 where
   pub each : (y : Entry) → Contains gone y ↔ IsForgottenOf run.firsts log y
   pub past : AreGone (events gone) run.past
   pub facts : AreFacts gone run.facts
+  pub exclusives : AreLast (events gone) run.exclusives
 
 -- the events that were forgotten are the past of a cut of the log
 pub record AreCut (run : Endless) (log : List Entry) : Type 0 where
@@ -65,8 +69,8 @@ pub record AreCut (run : Endless) (log : List Entry) : Type 0 where
 
 -- The run goes on, and stands for the log: the log is well formed, no event is a carrier, and some order
 -- is lawful for it; the window is that of the log, the counts are those of its harts; what was forgotten
--- is the past of a cut, leaves no hart with a reservation, and is known; and no hart keeps more than 4,096
--- events.
+-- is the past of a cut, and is known; an SC that is kept is paired with an LR that is kept; and no hart
+-- keeps more than 4,096 events.
 pub record StandsFor (run : Endless) (log : List Entry) : Type 0 where
   pub going : IsFalse run.stopped
   pub book_going : IsFalse run.book.stopped
@@ -79,7 +83,7 @@ pub record StandsFor (run : Endless) (log : List Entry) : Type 0 where
   pub numbers : (hart : ℕ) → length (of_hart hart (events log)) < limit
   pub within : (hart : ℕ) → first_of run.firsts hart ≤ length (of_hart hart (events log))
   pub few : KeepsFew (first_of run.firsts) (events log)
-  pub closes : ClosesPairs (first_of run.firsts) (events log)
+  pub pairs : KeepsPairs (first_of run.firsts) (events log)
   pub cut : AreCut run log
   pub gone : (gone : List Entry) × AreForgotten run log gone
 
@@ -129,6 +133,13 @@ pub record IsEdgeIntoPast (run : Endless) (log : List Entry) (x : Entry) (edge :
   pub word : past.word ≡ edge.word
   pub version : version_by edge.reason past ≡ edge.version
 
+-- what was forgotten leaves the hart with a reservation, and the window has no LR, SC or failed SC of it
+pub record HasLrForgotten (run : Endless) (hart : ℕ) : Type 0 where
+  pub last : Exclusive
+  pub known : slice_index_or run.exclusives hart None ≡ Some last
+  pub lr : IsTrue last.is_lr
+  pub none : IsLastExclusive (events run.book.log) hart None
+
 -- why an entry of one of the 16 harts can't be judged
 abbrev pub IsBeyond : Endless → Entry → Beyond → Type 0
 IsBeyond run x Inactive = Contains run.active.items x.event.id.hart → ⊥
@@ -136,13 +147,16 @@ IsBeyond run x why.Carrier = x.event.op ≡ Carrier
 IsBeyond run x WindowFull =
     first_of run.firsts x.event.id.hart + 4096 ≤ slice_index_or run.counts x.event.id.hart 0
 IsBeyond run x LastNumber = slice_index_or run.counts x.event.id.hart 0 ≡ 4294967295
+IsBeyond run x LrForgotten = (x.event.op ≡ Sc) × HasLrForgotten run x.event.id.hart
 
--- it can be: its hart is active, it is no carrier, and there is room for it
+-- it can be: its hart is active, it is no carrier, there is room for it, and it is no SC whose LR was
+-- forgotten
 pub record IsWithin (run : Endless) (x : Entry) : Type 0 where
   pub active : Contains run.active.items x.event.id.hart
   pub plain : x.event.op ≢ Carrier
   pub room : slice_index_or run.counts x.event.id.hart 0 < first_of run.firsts x.event.id.hart + 4096
   pub numbers : slice_index_or run.counts x.event.id.hart 0 < 4294967295
+  pub pair : x.event.op ≡ Sc → HasLrForgotten run x.event.id.hart → ⊥
 
 -- and its number is the next one of its hart
 pub record IsNext (run : Endless) (x : Entry) : Type 0 where

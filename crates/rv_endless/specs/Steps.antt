@@ -13,7 +13,7 @@ use Rattle.rv_event.specs.declared.fault.Fault.{Fault}
 use Rattle.rv_past.specs.declared.edge.PastEdge.{PastEdge}
 use Rattle.rv_past.specs.declared.facts.Misfit.{Misfit}
 use Rattle.rv_settle.specs.Fitting.{in_full}
-use Rattle.rv_settle.specs.Windows.{ClosesPairs, IsBelow, IsKept, KeepsFew}
+use Rattle.rv_settle.specs.Windows.{IsBelow, IsKept, KeepsFew, KeepsPairs}
 use Rattle.rv_endless.specs.Runs.{HasNumber, HasStopped, in_window, limit, misfit_answer, misfit_number}
 use Rattle.rv_endless.specs.declared.answer.Answer.{Answer}
 use Rattle.rv_endless.specs.declared.answer.Answer.TheVariants as answer
@@ -71,5 +71,5 @@ pub record Joins (run : Endless) (log : List Entry) (x : Entry) : Type 0 where
   pub formed : WellFormedWithin limit (log ++ x ∷ [])
   pub kept : IsKept (first_of run.firsts) x.event
   pub last : length (of_hart x.event.id.hart (events run.book.log)) ≤ (in_window run x).event.id.seq
-  pub closes : ClosesPairs (first_of run.firsts) (events (log ++ x ∷ []))
+  pub pairs : KeepsPairs (first_of run.firsts) (events (log ++ x ∷ []))
   pub few : KeepsFew (first_of run.firsts) (events (log ++ x ∷ []))

@@ -9,7 +9,7 @@ ghost use Rattle.rv_event.specs.declared.event.Entry.{Entry};
 ghost use Rattle.rv_cut.specs.Cuts.{first_of};
 ghost use Rattle.rv_past.specs.Facts.{AreFacts, HasRoom};
 ghost use Rattle.rv_past.specs.Gone.{AreGone, HasPlaces};
-ghost use Rattle.rv_settle.specs.Windows.{ClosesPairs, window};
+ghost use Rattle.rv_settle.specs.Windows.{KeepsPairs, window};
 ghost use Rattle.rv_endless.specs.Forgetting.{AreFresh, HaveNumbers, IsBookOf, IsRefusedBy};
 ghost use Rattle.rv_endless.specs.Forgetting.{forgotten_of, restored};
 ghost use Rattle.rv_endless.specs.Runs.{limit};
@@ -23,7 +23,7 @@ use rv_settle::windows_are_lawful;
 use std::alloc::Global;
 
 /// A new book of what the cut keeps, as its window has it. None where the book refuses an entry, which
-/// it never does of a log without carriers, where what is forgotten leaves no hart with a reservation.
+/// it never does of a log without carriers, where an SC that is kept is paired with an LR that is kept.
 ///
 /// # Errors
 /// `NoMemory` where it could not be had.
@@ -31,7 +31,7 @@ pub(crate) fn book_of_kept(alloc: Global, book: &Book, cut: &Cut) -> Result<Opti
     ensures book { IfOk result (λ new. IfSome new (λ kept. IsBookOf kept book.now.model
         (window (first_of cut.now) book.now.log))) }
     ensures some { All (λ m. m.op ≢ Carrier) (events book.now.log) →
-        ClosesPairs (first_of cut.now) (events book.now.log) → IfOk result IsSome }
+        KeepsPairs (first_of cut.now) (events book.now.log) → IfOk result IsSome }
 {
     // For the proof alone, which has from this call that the window has a lawful order.
     windows_are_lawful();
@@ -88,7 +88,7 @@ pub(crate) fn forget(
 }
 
 /// The entry of the window with its number in the log, and no dependencies.
-fn restore(alloc: Global, firsts: &Cut, entry: &Entry) -> Entry
+pub(crate) fn restore(alloc: Global, firsts: &Cut, entry: &Entry) -> Entry
     ensures { entry.now.event.id.seq + first_of firsts.now entry.now.event.id.hart < limit →
         result ≡ restored firsts.now entry.now }
 {

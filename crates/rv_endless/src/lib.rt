@@ -10,22 +10,25 @@
 //! - `run`: the run, and how an entry is judged.
 //! - `answer`: what an offer came to.
 //! - `forget`: what a cut forgets, and the book of what it keeps.
+//! - `exclusives`: of each hart, the last LR, SC or failed SC that was forgotten.
 //! - `window`: an entry as its window has it, and the LR with which an SC of the window is paired.
 //! - `numbers`: faults of the window in the numbers of the log.
 //! - `specs/`: for which logs a run stands, and what an answer tells of them (`Runs`, `Answers`); what
 //!   the steps of a judgement tell (`Steps`); what a cut forgets (`Forgetting`); the last LR, SC or
-//!   failed SC of a hart (`Partners`).
+//!   failed SC of a hart that was forgotten (`Exclusives`).
 //!
 //! It stands on `rv_book` for the window, on `rv_settle` for what may be forgotten, and on `rv_past`
 //! for what is known of it. `rv_cut` finds what may be forgotten.
 #![tactic(auto)]
 
 mod answer;
+mod exclusives;
 mod forget;
 mod numbers;
 mod run;
 mod window;
 
 pub use answer::{Answer, Beyond};
+pub use exclusives::Exclusive;
 pub use run::Endless;
 pub use window::{find_partner, renumber};

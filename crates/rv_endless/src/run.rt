@@ -13,7 +13,7 @@ ghost use Rattle.rv_settle.specs.Windows.{window};
 ghost use Rattle.rv_endless.specs.Answers.{IfBeforePast, IfBeyond, IfForbidden, IfMalformed, OnAccepted};
 ghost use Rattle.rv_endless.specs.Answers.{OnRefused, OnTaken, OnUnjudged};
 ghost use Rattle.rv_endless.specs.Forgetting.{IsCutBy};
-ghost use Rattle.rv_endless.specs.Runs.{AreForgotten, HasStopped, IsAnswered, IsBeyond, IsEdgeIntoPast};
+ghost use Rattle.rv_endless.specs.Runs.{AreForgotten, HasLrForgotten, HasStopped, IsAnswered, IsBeyond, IsEdgeIntoPast};
 ghost use Rattle.rv_endless.specs.Runs.{IsForbidden, IsNext};
 ghost use Rattle.rv_endless.specs.Runs.{IsTakenBefore, IsWithin, KeepsSettings, StandsFor, in_window, limit};
 ghost use Rattle.rv_endless.specs.Runs.{misfit_answer, misfit_number};
@@ -21,11 +21,12 @@ ghost use Rattle.rv_endless.specs.Steps.{IsEdgeExplained, IsExplained, IsOffered
 ghost use Rattle.rv_endless.specs.declared.answer.Answer.TheVariants as answer;
 
 use crate::answer::{Answer, Beyond};
+use crate::exclusives::{Exclusive, forget_exclusives};
 use crate::forget::{book_of_kept, forget};
 use crate::numbers::full_fault;
 use crate::window::{find_partner, renumber};
 use rv_book::{Book, Offer};
-use rv_cut::{Cut, find_cut};
+use rv_cut::{Cut, find_cut, last_exclusive};
 use rv_event::{Entry, Event, Fault, MemoryModel, NoMemory, Op, find_fault};
 use rv_past::{Facts, Misfit, Past, PastEdge};
 use std::alloc::Global;
@@ -48,6 +49,8 @@ pub struct Endless {
     pub past: Past,
     /// What the faults of new events ask of it.
     pub facts: Facts,
+    /// Of each hart, the last LR, SC or failed SC that was forgotten.
+    pub exclusives: [Option<Exclusive>; 16],
     /// The harts that are active.
     pub active: Vec<u8>,
     /// Whether an entry was refused.
@@ -73,6 +76,7 @@ impl Endless {
             counts: [0; 16],
             past: Past::new(alloc),
             facts: Facts::new(alloc),
+            exclusives: [None; 16],
             active,
             stopped: false,
         }
@@ -124,32 +128,37 @@ impl Endless {
     /// Forgets what no active hart can come before any more, where something is: these events leave the
     /// window. So a run whose harts synchronise again and again keeps a window of bounded size.
     ///
+    /// An LR that waits for its SC is kept, until more than `patience` events of its hart stand behind it.
+    /// An SC that comes still later can't be judged.
+    ///
     /// It costs what it takes to find the cut, and to judge anew what is kept.
     ///
     /// # Errors
     /// `NoMemory` where it could not be had; nothing is forgotten.
-    pub fn cut(&mut self) -> Result<(), NoMemory>
+    pub fn cut(&mut self, patience: u32) -> Result<(), NoMemory>
         ensures stands { (log : List Entry) → StandsFor self.old log → StandsFor self.new log }
-        ensures done { (log : List Entry) → StandsFor self.old log → OnOk result (IsCutBy self.old self.new) }
+        ensures done { (log : List Entry) → StandsFor self.old log →
+            OnOk result (IsCutBy patience self.old self.new) }
         ensures kept { OnErr result ((self.new.book ≡ self.old.book) × (self.new.firsts ≡ self.old.firsts)) }
         ensures harts { self.new.active ≡ self.old.active }
         ensures model { self.new.book.model ≡ self.old.book.model }
     {
-        let cut = find_cut(self.alloc, &self.book, self.active.as_slice())?;
+        let cut = find_cut(self.alloc, &self.book, self.active.as_slice(), patience)?;
         let Some(book) = book_of_kept(self.alloc, &self.book, &cut)? else {
             return Ok(());
         };
-        let count = self.book.log().len();
-        self.past.reserve(count)?;
-        self.facts.reserve(count)?;
+        let window = self.book.log();
+        self.past.reserve(window.len())?;
+        self.facts.reserve(window.len())?;
         forget(
             self.alloc,
             &mut self.past,
             &mut self.facts,
-            self.book.log(),
+            window,
             &self.firsts,
             &cut,
         );
+        forget_exclusives(self.alloc, &mut self.exclusives, window, &self.firsts, &cut);
         self.firsts = self.firsts.then(&cut);
         self.book = book;
         Ok(())
@@ -197,7 +206,23 @@ impl Endless {
         if count == u32::MAX {
             return Some(Beyond::LastNumber);
         }
+        if event.op == Op::Sc && self.has_lr_forgotten(event.id.hart) {
+            return Some(Beyond::LrForgotten);
+        }
         None
+    }
+
+    /// Whether what was forgotten leaves the hart with a reservation, and the window has no LR, SC or
+    /// failed SC of it.
+    fn has_lr_forgotten(&self, hart: u8) -> bool
+        requires { hart < 16 }
+        ensures { IsTrue result ↔ HasLrForgotten self.now hart }
+    {
+        let last = self.exclusives[hart as usize];
+        match last {
+            Some(last) if last.is_lr => last_exclusive(self.book.log(), hart).is_none(),
+            _ => false,
+        }
     }
 
     /// Judges an entry whose number is the next one of its hart.

@@ -3,11 +3,12 @@ ghost use Rattle.std.specs.Prelude.{◌≡◌, ◌++◌, ◌∷◌, ◌≤◌, [
 ghost use Rattle.std.specs.Option.{option_copied};
 ghost use Rattle.rv_event.specs.Log.{events, of_hart};
 ghost use Rattle.rv_event.specs.declared.event.Event.{Event};
-ghost use Rattle.rv_event.specs.WellFormed.{WellFormed};
+ghost use Rattle.rv_event.proofs.Indexed.{Indexed};
 ghost use Rattle.rv_settle.specs.Windows.{counted_from, deps_from};
 ghost use Rattle.rv_past.specs.Laws.{IsPartner};
-ghost use Rattle.rv_endless.specs.Partners.{IsLastExclusive};
+ghost use Rattle.rv_cut.specs.Exclusives.{IsLastExclusive};
 
+use rv_cut::last_exclusive;
 use rv_event::{Dep, Deps, Entry, Event, Id, NoMemory, Op};
 use std::alloc::Global;
 
@@ -55,30 +56,39 @@ fn renumber_deps(alloc: Global, deps: &Deps, first: u32) -> Result<Deps, NoMemor
 }
 
 /// The LR with which the event is paired that comes after all of its hart's in the log, where it is
-/// an SC with one. It costs a step for each event since that one for an SC, and nothing for another
-/// event.
+/// an SC with one. It costs a step for each event since that one for an SC where the log is in the
+/// order of the hart's numbers, else a pass over the log; and nothing for another event.
 pub fn find_partner<'a>(log: &'a [Entry], event: &Event) -> Option<&'a Event>
-    ensures { WellFormed log.now → length (of_hart event.now.id.hart (events log.now)) ≤ event.now.id.seq →
+    ensures { Indexed (events log.now) → length (of_hart event.now.id.hart (events log.now)) ≤ event.now.id.seq →
         IsPartner (events log.now ++ event.now ∷ []) event.now (option_copied result) }
 {
     if event.op != Op::Sc {
         return None;
     }
-    let last = last_exclusive(log, event.id.hart)?;
+    let last = exclusive_before(log, event.id)?;
     if last.op == Op::Lr { Some(last) } else { None }
 }
 
-/// The last LR, SC or failed SC of the hart.
-fn last_exclusive(log: &[Entry], hart: u8) -> Option<&Event>
-    ensures { WellFormed log.now → IsLastExclusive (events log.now) hart (option_copied result) }
+/// The last LR, SC or failed SC of the hart before its next event, which has this id. It looks at
+/// the log from its end for as long as the hart's numbers come one below the other.
+fn exclusive_before(log: &[Entry], next: Id) -> Option<&Event>
+    ensures { Indexed (events log.now) → length (of_hart next.hart (events log.now)) ≤ next.seq →
+        IsLastExclusive (events log.now) next.hart (option_copied result) }
 {
+    let mut number = next.seq;
     let mut rest = log.len();
     'later: while rest > 0 {
         rest -= 1;
         let event = &log[rest].event;
-        if event.id.hart == hart && event.op.is_exclusive() {
-            return Some(event);
+        if event.id.hart == next.hart {
+            if number == 0 || event.id.seq != number - 1 {
+                break;
+            }
+            if event.op.is_exclusive() {
+                return Some(event);
+            }
+            number -= 1;
         }
     }
-    None
+    last_exclusive(log, next.hart)
 }

@@ -8,7 +8,7 @@ use Rattle.rv_event.specs.WellFormed.{WellFormed}
 use Rattle.rv_event.specs.declared.event.Entry.{Entry}
 use Rattle.rv_event.specs.declared.event.Op.TheVariants.{Carrier}
 use Rattle.rv_event.specs.declared.memory_model.MemoryModel.{MemoryModel}
-use Rattle.rv_settle.specs.Windows.{ClosesPairs, counted_from, renumbered, window}
+use Rattle.rv_settle.specs.Windows.{KeepsPairs, counted_from, renumbered, window}
 use Rattle.std.proofs.Common.{ℕ, ◌≡◌, ◌≢◌, ◌∙◌, ◌++◌, ◌∷◌, [], All, List, ap, subst, sym, take}
 use Rattle.rv_endless.proofs.forget.book_of_kept.Goals as goal
 
@@ -19,7 +19,7 @@ moved-is : (cut : List ℕ) (x moved : Entry) (first : ℕ) → first ≡ first_
 moved-is cut x moved first is same = same ∙ ap (λ (n : ℕ). record x { event = counted_from n x.event }) is
 
 pub returns-then-not-branch-clause-some : goal.returns-then-not-branch-clause-some
-returns-then-not-branch-clause-some c = λ plain closes.
+returns-then-not-branch-clause-some c = λ plain pairs.
     let here = sym c.log-entry-items.ensures.value in
     let moved = moved-is c.args.cut.now c.entry-item.result c.in_ok-moved.moved c.first.result c.first.ensures
     c.in_ok-moved.ensures in
@@ -29,7 +29,7 @@ returns-then-not-branch-clause-some c = λ plain closes.
     (subst (λ (xs : List Entry). Lawful c.args.book.now.model (events xs) c.args.book.now.order) here
     c.model.ensures.lawful)
     (subst (λ (xs : List Entry). All (λ m. m.op ≢ Carrier) (events xs)) here plain)
-    (subst (λ (xs : List Entry). ClosesPairs (first_of c.args.cut.now) (events xs)) here closes)
+    (subst (λ (xs : List Entry). KeepsPairs (first_of c.args.cut.now) (events xs)) here pairs)
     c.entries.entry-index c.entries-test.true c.entry-item.result c.entry-item.is
     (sym c.is_past.ensures ∙ c.if-is_past.false)
     (subst (λ (x : Entry). IsRefusedBy c.args.book.now.model

@@ -1,6 +1,5 @@
 -- The LR is the last of its hart that opens or closes a reservation.
-use Rattle.rv_endless.proofs.Exclusives.{partner-never, partner-none, partner-some}
-use Rattle.rv_event.proofs.Indexed.{indexed_from_WellFormed}
+use Rattle.rv_endless.proofs.Partners.{partner-never, partner-none, partner-some}
 use Rattle.rv_event.specs.Log.{events}
 use Rattle.rv_event.specs.declared.event.Event.{Event}
 use Rattle.rv_event.specs.declared.event.Op.TheVariants.{Lr, Sc}
@@ -10,22 +9,19 @@ use Rattle.std.specs.Option.{option_copied}
 use Rattle.rv_endless.proofs.window.find_partner.Goals as goal
 
 pub returns-in_err-last : goal.returns-in_err-last
-returns-in_err-last c = λ formed last.
-    let indexed = indexed_from_WellFormed c.args.log.now formed in
+returns-in_err-last c = λ indexed last.
     subst (λ (o : Option (Bor Event)). IsPartner (events c.args.log.now ++ c.args.event.now ∷ []) c.args.event.now
     (option_copied o)) (sym c.from_residual.ensures)
-    (partner-never (events c.args.log.now) c.args.event.now indexed last (c.in_err-last.ensures formed))
+    (partner-never (events c.args.log.now) c.args.event.now indexed last (c.in_err-last.ensures indexed last))
 
 pub returns-then-eq : goal.returns-then-eq
-returns-then-eq c = λ formed last.
-    let indexed = indexed_from_WellFormed c.args.log.now formed in
+returns-then-eq c = λ indexed last.
     let sc : c.args.event.now.op ≡ Sc = search rules in
     let lr : c.in_ok-last.last.now.op ≡ Lr = search rules in
     partner-some (events c.args.log.now) c.args.event.now indexed last c.in_ok-last.last.now
-    (c.in_ok-last.ensures formed) sc lr
+    (c.in_ok-last.ensures indexed last) sc lr
 
 pub returns-else-eq : goal.returns-else-eq
-returns-else-eq c = λ formed last.
-    let indexed = indexed_from_WellFormed c.args.log.now formed in
+returns-else-eq c = λ indexed last.
     partner-none (events c.args.log.now) c.args.event.now indexed last c.in_ok-last.last.now
-    (c.in_ok-last.ensures formed) (λ lr. search rules)
+    (c.in_ok-last.ensures indexed last) (λ lr. search rules)

@@ -4,8 +4,8 @@ use Rattle.rv_endless.specs.Runs.{AreForgotten, IsEdgeIntoPast, in_window}
 use Rattle.rv_endless.specs.Steps.{IsPastOf, Joins}
 use Rattle.rv_endless.specs.declared.run.Endless.{Endless}
 use Rattle.rv_event.proofs.Common.{map-append}
+use Rattle.rv_event.proofs.Indexed.{Indexed, indexed_from_WellFormed}
 use Rattle.rv_event.specs.Log.{events, of_hart}
-use Rattle.rv_event.specs.WellFormed.{WellFormed}
 use Rattle.rv_event.specs.declared.event.Entry.{Entry}
 use Rattle.rv_event.specs.declared.event.Event.{Event}
 use Rattle.rv_past.specs.Before.{ComesBefore, IsEdgeTo}
@@ -47,10 +47,11 @@ partner-in run log seen x y lr joins window-is is same found =
 
 pub returns : goal.returns
 returns c = λ log gone past window-is moved-is forgotten of free joins.
-    let formed = subst WellFormed (sym c.log.ensures.value) c.log.ensures.well_formed in
+    let indexed = subst (λ (xs : List Entry). Indexed (events xs)) (sym c.log.ensures.value)
+    (indexed_from_WellFormed c.args.self.now.book.log c.log.ensures.well_formed) in
     let partner = partner-in c.args.self.now log c.log.result.now c.args.entry.now c.args.moved.now
     (option_copied c.find_partner-lr.result) joins window-is moved-is c.log.ensures.value
-    (λ last. c.find_partner-lr.ensures formed last) in
+    (λ last. c.find_partner-lr.ensures indexed last) in
     told c.args.self.now log gone c.args.entry.now past forgotten of joins (option_copied c.find_partner-lr.result)
     partner c.find_edge.result (c.find_edge.ensures (events gone) forgotten.past free)
   where

@@ -1,4 +1,4 @@
-use Rattle.rv_endless.proofs.Begun.{begun}
+use Rattle.rv_endless.proofs.Begun.{begun, none-at}
 use Rattle.rv_event.specs.Log.{events}
 use Rattle.rv_event.specs.Orders.{Lawful}
 use Rattle.rv_event.specs.declared.event.Entry.{Entry}
@@ -10,4 +10,4 @@ returns-clause-stands c =
     begun _ c.new-book.ensures.log c.new-book.result.order
     (subst (λ (log : List Entry). Lawful c.new-book.result.model (events log) c.new-book.result.order)
     c.new-book.ensures.log c.model.ensures.lawful)
-    c.new.ensures refl c.new-2.ensures c.new-3.ensures refl c.new-book.ensures.going
+    c.new.ensures refl c.new-2.ensures c.new-3.ensures (none-at 16) refl c.new-book.ensures.going
