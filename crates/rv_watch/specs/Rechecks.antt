@@ -1,31 +1,32 @@
 -- What a recheck tells: the circle by an event that was forgotten. These are this project's own.
-use Rattle.std.specs.Prelude.{ℕ, ◌≡◌, ◌==◌, Any, List, Some, [], count_by}
-use Rattle.rv_book.specs.Booked.{IsForbiddenOn}
+use Rattle.std.specs.Prelude.{◌≡◌, ◌≢◌, ◌==◌, ◌++◌, ◌∷◌, Any, IsFalse, List, None, Some, [], count_by}
+use Rattle.rv_book.specs.Booked.{IsForbiddenOn, SomeLawful}
 use Rattle.rv_cert.specs.Refusals.{Refusal}
 use Rattle.rv_cert.specs.declared.certificate.Certificate.{Certificate}
+use Rattle.rv_event.specs.Faults.{fault_of}
 use Rattle.rv_event.specs.Operations.{IsLoad, IsStore}
 use Rattle.rv_event.specs.declared.event.Entry.{Entry}
 use Rattle.rv_event.specs.declared.event.Event.{Event}
 use Rattle.rv_event.specs.declared.reason.Reason.{Reason}
 use Rattle.rv_event.specs.declared.reason.Reason.TheVariants.{AtomicIn, AtomicOut, Coherence, FromRead}
 use Rattle.rv_event.specs.declared.reason.Reason.TheVariants.{Preserved, ReadsFrom}
+use Rattle.rv_past.specs.Before.{version_by}
 use Rattle.rv_past.specs.declared.edge.PastEdge.{PastEdge}
-use Rattle.rv_watch.specs.Names.{certificate_named}
+use Rattle.rv_watch.specs.Names.{certificate_named, in_log}
 use Rattle.rv_watch.specs.declared.watch.Watch.{Watch}
 
--- an edge of this reason may lead to the operation with this version: reads-from leads to a load, others to
--- a store
-abbrev pub IsEndBy : Reason → Event → ℕ → Type 0
-IsEndBy ReadsFrom p version = IsLoad p × (p.read ≡ version)
-IsEndBy FromRead p version = IsStore p × (p.wrote ≡ version)
-IsEndBy Coherence p version = IsStore p × (p.wrote ≡ version)
-IsEndBy AtomicOut p version = IsStore p × (p.wrote ≡ version)
-IsEndBy AtomicIn p version = IsStore p × (p.wrote ≡ version)
-IsEndBy (Preserved k) p version = IsStore p × (p.wrote ≡ version)
+-- reads-from leads to a load, each other reason to a store
+abbrev pub IsEndBy : Reason → Event → Type 0
+IsEndBy ReadsFrom p = IsLoad p
+IsEndBy FromRead p = IsStore p
+IsEndBy Coherence p = IsStore p
+IsEndBy AtomicOut p = IsStore p
+IsEndBy AtomicIn p = IsStore p
+IsEndBy (Preserved k) p = IsStore p
 
 -- the edge may lead to the operation
 abbrev pub IsEndOf : PastEdge → Event → Type 0
-IsEndOf edge p = (p.word ≡ edge.word) × IsEndBy edge.reason p edge.version
+IsEndOf edge p = IsEndBy edge.reason p × (p.word ≡ edge.word) × (version_by edge.reason p ≡ edge.version)
 
 -- the window has such an operation
 abbrev pub HasEnd : Watch → PastEdge → Type 0
@@ -52,3 +53,13 @@ abbrev pub IsShownBy : Watch → Entry → Certificate → Type 0
 IsShownBy w x told =
     (r : Refusal) × IsForbiddenOn w.run.book.model w.run.book.log (as_next w.run.book.log x) r
     × (told ≡ certificate_named w.run.firsts (Some ((as_next w.run.book.log x).event.id, x.event.id)) r.certificate)
+
+-- the window lacks events of the entry's hart that come before it
+abbrev pub HasGap : Watch → Entry → Type 0
+HasGap w x = in_log w.run.firsts (as_next w.run.book.log x).event.id ≢ x.event.id
+
+-- the window forbids the entry as the next one of its hart
+pub record Forbids (w : Watch) (x : Entry) : Type 0 where
+  pub going : IsFalse w.run.book.stopped
+  pub sound : fault_of w.run.book.log (as_next w.run.book.log x) ≡ None
+  pub none : SomeLawful w.run.book.model (w.run.book.log ++ as_next w.run.book.log x ∷ []) → ⊥

@@ -1,5 +1,5 @@
 -- Watches, the logs for which they stand, and why they stop. These are this project's own.
-use Rattle.std.specs.Prelude.{ℕ, ◌≡◌, ◌<◌, ◌&&◌, Bool, List, Some, count_by, length, min, nat_eq, not}
+use Rattle.std.specs.Prelude.{ℕ, ◌≡◌, ◌+◌, ◌-◌, ◌<◌, ◌&&◌, Bool, List, Some, count_by, length, min, nat_eq, not}
 use Rattle.std.specs.HashMap.{get}
 use Rattle.std.specs.HashSet.{contains}
 use Rattle.rv_book.specs.Booked.{IsForbiddenOn}
@@ -49,3 +49,7 @@ IsStop w log x (stop.BeforePast edge) = IsForbidden w.run log x × IsEdgeIntoPas
 IsStop w log x (stop.Beyond b) = (x.event.id.hart < 16) × IsBeyond w.run x b × IsWatchOf w log
 IsStop w log x stop.Stopped = ⊥
 IsStop w log x stop.NoMemory = IsWatchOf w log
+
+-- a cut counts the loads that waited in the window, and wait there no more
+abbrev pub IsCounted : Watch → Watch → Type 0
+IsCounted old new = new.waiting_gone ≡ min (old.waiting_gone + (waiting_in old.run - waiting_in new.run)) most

@@ -19,7 +19,7 @@ pub(crate) struct Naming<'a> {
 
 impl Naming<'_> {
     /// The name of the event that the window has under this id.
-    fn name(&self, id: Id) -> Id
+    pub(crate) fn name(&self, id: Id) -> Id
         ensures { result ≡ named self.now.firsts.now self.now.refused id }
     {
         if let Some((refused, own)) = self.refused {

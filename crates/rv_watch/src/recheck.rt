@@ -1,10 +1,10 @@
 //! The circle of an event that comes before what was forgotten, from the window that had it.
 ghost use Rattle.std.specs.Prelude.{◌≡◌, ◌++◌, ◌∷◌, [], IfErr, IfOk, IfSome, IsFalse, IsTrue, List, None};
-ghost use Rattle.std.specs.Prelude.{◌<◌, ◌↔◌, length};
+ghost use Rattle.std.specs.Prelude.{◌<◌, ◌↔◌, ◌⊎◌, length};
 ghost use Rattle.rv_event.specs.Faults.{fault_within};
 ghost use Rattle.rv_event.specs.declared.event.Entry.{Entry};
 ghost use Rattle.rv_endless.specs.Runs.{limit};
-ghost use Rattle.rv_watch.specs.Rechecks.{HasEnd, IsEndOf, IsShownBy, as_next};
+ghost use Rattle.rv_watch.specs.Rechecks.{Forbids, HasEnd, HasGap, IsEndOf, IsShownBy, as_next};
 ghost use Rattle.rv_watch.specs.Watches.{IsStop, IsWatchOf};
 
 use crate::naming::Naming;
@@ -36,7 +36,7 @@ impl Watch {
         ensures { IfOk result (λ would. IsTrue would → HasEnd self.now edge) }
     {
         let run = &self.run;
-        let cut = find_cut(alloc, &run.book, run.active.as_slice())?;
+        let cut = find_cut(alloc, &run.book, run.active.as_slice(), self.patience)?;
         for entry in run.book.log() {
             if is_end(edge, &entry.event) && cut.is_past(entry.event.id) {
                 return Ok(true);
@@ -82,11 +82,16 @@ impl Watch {
         entry: &Entry,
         edge: PastEdge,
     ) -> Result<Option<Certificate>, NoMemory>
-        ensures { IfOk result (λ told. IfSome told (IsShownBy self.old entry.now)) }
+        ensures shown { IfOk result (λ told. IfSome told (IsShownBy self.old entry.now)) }
+        ensures none { IfOk result (λ told. told ≡ None →
+            HasGap self.old entry.now ⊎ (Forbids self.old entry.now → ⊥)) }
     {
         let next = next_of(alloc, self.run.book.log(), entry);
-        let first = self.run.firsts.first(entry.event.id.hart);
-        let has_gap = next.event.id.seq.saturating_add(first) != entry.event.id.seq;
+        let naming = Naming {
+            firsts: &self.run.firsts,
+            refused: None,
+        };
+        let has_gap = naming.name(next.event.id) != entry.event.id;
         if has_gap && entry.event.op == Op::Sc && edge.reason != Reason::AtomicOut {
             return Ok(None);
         }

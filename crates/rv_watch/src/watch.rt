@@ -1,12 +1,12 @@
 //! The run with its counts, and when it forgets.
-ghost use Rattle.std.specs.Prelude.{ℕ, ◌≡◌, ◌≢◌, ◌↔◌, ◌++◌, ◌∷◌, ◌+◌, [], Contains, IfErr, List, None, OnOk};
+ghost use Rattle.std.specs.Prelude.{ℕ, ◌≡◌, ◌≢◌, ◌↔◌, ◌++◌, ◌∷◌, ◌+◌, [], Contains, IfErr, List, None, OnErr, OnOk};
 ghost use Rattle.std.specs.Prelude.{if◌then◌else◌, length, min};
 ghost use Rattle.rv_event.specs.Faults.{fault_within};
 ghost use Rattle.rv_event.specs.Operations.{is_memory};
 ghost use Rattle.rv_event.specs.declared.event.Entry.{Entry};
 ghost use Rattle.rv_endless.specs.Forgetting.{IsCutBy};
 ghost use Rattle.rv_endless.specs.Runs.{limit};
-ghost use Rattle.rv_watch.specs.Watches.{IsStop, IsWatchOf, waiting_in, waits_in};
+ghost use Rattle.rv_watch.specs.Watches.{IsCounted, IsStop, IsWatchOf, waiting_in, waits_in};
 
 use crate::stop::Stop;
 use rv_endless::{Answer, Endless};
@@ -43,6 +43,8 @@ pub struct Watch {
     pub operations: u64,
     /// How many loads that were forgotten wait, as they were counted; 2^64 - 1 where there are more.
     pub waiting_gone: u64,
+    /// How many events of its hart an LR is kept for that waits for its SC.
+    pub patience: u32,
     rule: CutRule,
     /// How many events were taken since the last cut.
     since: u32,
@@ -51,18 +53,28 @@ pub struct Watch {
 }
 
 impl Watch {
-    /// Before any event, under a memory model, where these harts are active. It takes no memory; the
+    /// Before any event, under a memory model, where these harts are active. An LR that waits for its SC
+    /// is kept until more than `patience` events of its hart stand behind it. It takes no memory; the
     /// allocator serves the calls to come.
-    pub fn new(alloc: Global, model: MemoryModel, active: Vec<u8>, rule: CutRule) -> Watch
+    pub fn new(
+        alloc: Global,
+        model: MemoryModel,
+        active: Vec<u8>,
+        rule: CutRule,
+        patience: u32,
+    ) -> Watch
         ensures stands { IsWatchOf result [] }
         ensures model { result.run.book.model ≡ model }
         ensures active { result.run.active ≡ active }
+        ensures rule { result.rule ≡ rule }
+        ensures patience { result.patience ≡ patience }
     {
         Watch {
             run: Endless::new(alloc, model, active),
             events: 0,
             operations: 0,
             waiting_gone: 0,
+            patience,
             rule,
             since: 0,
             kept: 0,
@@ -173,12 +185,14 @@ impl Watch {
     pub fn cut(&mut self) -> Result<(), NoMemory>
         ensures stands { (log : List Entry) → IsWatchOf self.old log → IsWatchOf self.new log }
         ensures done { (log : List Entry) → IsWatchOf self.old log →
-            OnOk result (IsCutBy self.old.run self.new.run) }
+            OnOk result (IsCutBy self.old.patience self.old.run self.new.run) }
         ensures model { self.new.run.book.model ≡ self.old.run.book.model }
         ensures harts { self.new.run.active ≡ self.old.run.active }
+        ensures waiting { OnOk result (IsCounted self.old self.new) }
+        ensures kept { OnErr result (self.new.waiting_gone ≡ self.old.waiting_gone) }
     {
         let before = self.waiting_in_window();
-        self.run.cut()?;
+        self.run.cut(self.patience)?;
         let gone = before.saturating_sub(self.waiting_in_window());
         self.waiting_gone = self.waiting_gone.saturating_add(gone as u64);
         self.since = 0;
