@@ -55,7 +55,7 @@ impl Follower {
         let is_told = errors.is_terminal() && !rt.stdout().is_terminal();
         let harts = Vec::from_slice(rt.alloc(), words.harts.as_slice())?;
         Ok(Follower {
-            watch: Watch::new(rt.alloc(), words.model, harts, words.rule),
+            watch: Watch::new(rt.alloc(), words.model, harts, words.rule, words.patience),
             sources: [None; 16],
             progress: Progress::new(rt, errors, is_told),
             mode,

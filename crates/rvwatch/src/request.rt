@@ -23,6 +23,8 @@ Usage: rvmon --harts LIST [WORD..] [FILE..]
   --cut K           forget what can be after each K events; where it is not said, as
                     often as is quick
   --model rvwmo|tso the memory model; rvwmo where it is not said
+  --sc-within N     an SC stands at most N events of its hart behind its LR, as long as that
+                    is kept; 1024 where it is not said
   --recheck         where an event comes before what was forgotten, read the files once
                     more, and show the circle in place of the line past
 
@@ -42,7 +44,11 @@ tells why, and the word and the version of what was forgotten.
 Status: 0 allowed, 1 forbidden, 2 malformed, a source that is not in the format, or
 wrong words, 3 reading, writing or memory failed, or an event can't be judged: its hart
 was not declared or has ended, or 4096 events of its hart are kept, since some hart has
-not passed them. It is told then what the events before it come to.";
+not passed them, or it is an SC whose LR was forgotten. It is told then what the events
+before it come to.";
+
+/// How many events an SC stands behind its LR at most, where that is not said.
+const SC_WITHIN: u32 = 1_024;
 
 /// The highest hart.
 const LAST_HART: u8 = 15;
@@ -61,6 +67,8 @@ pub(crate) struct Words {
     pub(crate) model: MemoryModel,
     /// The files of the traces; none for standard input.
     pub(crate) files: Vec<String>,
+    /// How many events an SC stands behind its LR at most.
+    pub(crate) patience: u32,
     /// Whether the files are read again for a circle.
     pub(crate) recheck: bool,
     /// Whether help is asked for.
@@ -82,6 +90,9 @@ pub(crate) enum WordsFault {
     /// `--model` has no model behind it.
     #[error("--model takes rvwmo or tso")]
     Model,
+    /// `--sc-within` has no number of events behind it.
+    #[error("--sc-within takes a number of events, 1 or more")]
+    ScWithin,
     /// There is nothing to read twice.
     #[error("--recheck takes files, as it reads them twice")]
     Recheck,
@@ -105,6 +116,8 @@ enum Setting {
     Cut,
     /// `--model`.
     Model,
+    /// `--sc-within`.
+    ScWithin,
 }
 
 impl Setting {
@@ -114,6 +127,7 @@ impl Setting {
             "--harts" => Some(Setting::Harts),
             "--cut" => Some(Setting::Cut),
             "--model" => Some(Setting::Model),
+            "--sc-within" => Some(Setting::ScWithin),
             _ => None,
         }
     }
@@ -124,6 +138,7 @@ impl Setting {
             Setting::Harts => WordsFault::Harts,
             Setting::Cut => WordsFault::Cut,
             Setting::Model => WordsFault::Model,
+            Setting::ScWithin => WordsFault::ScWithin,
         }
     }
 }
@@ -166,14 +181,10 @@ fn harts_of(alloc: Global, text: &str) -> Result<Vec<u8>, WordsFault> {
     Ok(harts)
 }
 
-/// The rule by which so many events are judged between two cuts.
-fn rule_of(text: &str) -> Option<CutRule> {
+/// A number of events, 1 or more.
+fn count_of(text: &str) -> Option<u32> {
     let count = u32::from_str_radix(text, 10).ok()?;
-    if count == 0 {
-        None
-    } else {
-        Some(CutRule::Every(count))
-    }
+    if count == 0 { None } else { Some(count) }
 }
 
 impl Words {
@@ -184,6 +195,7 @@ impl Words {
             rule: CutRule::Grown,
             model: MemoryModel::Rvwmo,
             files: Vec::new(alloc),
+            patience: SC_WITHIN,
             recheck: false,
             help: false,
         }
@@ -193,9 +205,13 @@ impl Words {
     fn set(&mut self, alloc: Global, setting: Setting, value: &str) -> Result<(), WordsFault> {
         match (setting, value) {
             (Setting::Harts, text) => self.harts = harts_of(alloc, text)?,
-            (Setting::Cut, text) => match rule_of(text) {
-                Some(rule) => self.rule = rule,
+            (Setting::Cut, text) => match count_of(text) {
+                Some(count) => self.rule = CutRule::Every(count),
                 None => return Err(WordsFault::Cut),
+            },
+            (Setting::ScWithin, text) => match count_of(text) {
+                Some(count) => self.patience = count,
+                None => return Err(WordsFault::ScWithin),
             },
             (Setting::Model, "rvwmo") => self.model = MemoryModel::Rvwmo,
             (Setting::Model, "tso") => self.model = MemoryModel::Ztso,

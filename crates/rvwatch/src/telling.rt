@@ -57,6 +57,10 @@ fn tell_beyond<E: Write>(errors: &mut E, id: Id, beyond: Beyond) {
         ),
         Beyond::Carrier => writeln!(errors, "rvmon: {id} is a carrier"),
         Beyond::LastNumber => writeln!(errors, "rvmon: no number left for hart {hart} at {id}"),
+        Beyond::LrForgotten => writeln!(
+            errors,
+            "rvmon: LR forgotten at {id}: its SC stands too many events behind it; see --sc-within"
+        ),
     };
 }
 
