@@ -51,6 +51,28 @@ const NOT_CLOSED: &[Row] = &[
     other!(0:1, FENCE_ALL),
 ];
 
+/// An LR waits for its SC, and four events of its hart stand behind it.
+const WAITS: &[Row] = &[
+    lr!(0:0, X = 0),
+    other!(0:1, FENCE_ALL),
+    store!(0:2, Y = 1),
+    other!(0:3, FENCE_ALL),
+    store!(0:4, Y = 2),
+];
+
+/// A fifth event stands behind it.
+const HAS_WAITED: &[Row] = &[
+    lr!(0:0, X = 0),
+    other!(0:1, FENCE_ALL),
+    store!(0:2, Y = 1),
+    other!(0:3, FENCE_ALL),
+    store!(0:4, Y = 2),
+    other!(0:5, FENCE_ALL),
+];
+
+/// How many events of its hart stand behind an LR that is kept.
+const PATIENCE: u32 = 4;
+
 const TESTS: &[CutTest] = &[
     CutTest {
         name: "a barrier of both harts",
@@ -88,12 +110,24 @@ const TESTS: &[CutTest] = &[
         active: &[0],
         firsts: [0, 0],
     },
+    CutTest {
+        name: "an LR waits for its SC",
+        rows: WAITS,
+        active: &[0],
+        firsts: [0, 0],
+    },
+    CutTest {
+        name: "an LR has waited for long",
+        rows: HAS_WAITED,
+        active: &[0],
+        firsts: [6, 0],
+    },
 ];
 
 /// The cut of the execution is the one that was told.
 fn assert_cut(rt: &impl Abort, alloc: Global, test: &CutTest) {
     let book = book_of(rt, alloc, MemoryModel::Rvwmo, test.rows);
-    let cut = find_cut(alloc, &book, test.active).expect(rt, "memory");
+    let cut = find_cut(alloc, &book, test.active, PATIENCE).expect(rt, "memory");
     drop(book);
     let found = [cut.first(0), cut.first(1)];
     assert_eq!(rt; found, test.firsts, "{}", test.name);
