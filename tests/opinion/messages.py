@@ -3,6 +3,9 @@
 A hart stores to a shared word, and tells it by a flag behind a fence. Who loads the flag bars what it does later: by a
 fence, a branch, an address or an acquire annotation, some of which bar loads alone, or stores alone. Late loads and
 stores of older versions then try what the bars leave open. So a past that forgets too much shows.
+
+Harts swap the value of a word too: by an LR, and an SC, a failed SC or neither some events later. So LRs are forgotten
+that still wait.
 """
 
 import random
@@ -11,7 +14,7 @@ from collections import Counter
 from opinion.model import Event
 from opinion.traces import HEADER, Trace, row_of
 
-SHARED, FIRST_FLAG, FIRST_READ, FIRST_COUNTER = 3, 10, 20, 30
+SHARED, FIRST_FLAG, FIRST_READ, FIRST_COUNTER, SWAPPED = 3, 10, 20, 30, 40
 BARS = ["r-r", "rw-r", "r-w", "rw-w", "r-rw", "branch", "address", "acquire"]
 
 
@@ -25,6 +28,7 @@ class Messages:
         self.versions = Counter()
         self.events = []
         self.late = []
+        self.is_reserved = [False] * self.count
 
     def add(self, hart, operation, word=0, read=0, wrote=0, annotation="", dependencies=()):
         """Adds an event, and gives its number."""
@@ -68,6 +72,23 @@ class Messages:
             else:
                 self.add(hart, "F", annotation=bar)
 
+    def swap(self, hart):
+        """A hart loads the swapped word by an LR, or ends a swap that it began."""
+        version = self.versions[SWAPPED]
+        if not self.is_reserved[hart]:
+            self.add(hart, "LR", SWAPPED, read=version)
+            self.is_reserved[hart] = True
+            return
+        operation = self.dice.choice(["SC", "SC", "SF", "LR"])
+        if operation == "SC":
+            self.versions[SWAPPED] += 1
+            self.add(hart, "SC", SWAPPED, wrote=version + 1)
+        elif operation == "SF":
+            self.add(hart, "SF", SWAPPED)
+        else:
+            self.add(hart, "LR", SWAPPED, read=version)
+        self.is_reserved[hart] = operation == "LR"
+
     def come_late(self, hart):
         """A hart loads or stores an older version of a shared word."""
         operation, word, version = late = self.dice.choice(self.late)
@@ -80,6 +101,8 @@ class Messages:
     def round(self):
         """A message to most harts, and perhaps a late event."""
         teller = self.dice.randrange(self.count)
+        if self.dice.random() < 0.4:
+            self.swap(self.dice.randrange(self.count))
         self.tell(teller)
         for hart in range(self.count):
             if hart != teller and self.dice.random() < 0.9:

@@ -6,14 +6,20 @@ from opinion.model import certifies, is_edge
 from opinion.outcomes import possible_outcomes
 
 LAST_HART = 15
+FORGOTTEN = re.compile(
+    r"rvmon: allowed so far: ([0-9]+) events, .*\n"
+    r"rvmon: LR forgotten at h([0-9]+):([0-9]+): its SC stands too many events behind it; see --sc-within\n"
+)
 PAST = re.compile(r"past: (h\S+) (from-read|coherence|reads-from|atomic-out) word ([0-9]+) version ([0-9]+)")
 
 
-def window_words(trace, cut_each):
-    """The words that have a trace judged as a run of any length, where the harts of its rows are declared."""
+def window_words(trace, cut_each, within):
+    """The words that have a trace judged as a run of any length, where the harts of its rows are declared, and an SC
+    stands so many events behind its LR."""
     numbers = re.findall(r"^([0-9]{1,10}),", "\n".join(trace.sources), re.M)
     harts = sorted({int(number) for number in numbers if int(number) <= LAST_HART}) or [0]
-    return ["--harts", ",".join(map(str, harts)), "--cut", str(cut_each), "--model", trace.model]
+    words = ["--harts", ",".join(map(str, harts)), "--cut", str(cut_each), "--model", trace.model]
+    return [*words, "--sc-within", str(within)]
 
 
 def window_outcomes(trace):
@@ -31,6 +37,8 @@ def complaint_of_window(trace, answers, outcomes):
     answer, rechecked = answers
     if len(trace.sources) > 1 and answer.returncode == 3 and answer.stderr.endswith(", or it has ended\n"):
         return None
+    if forgotten := FORGOTTEN.fullmatch(answer.stderr):
+        return complaint_of_forgotten(trace, *map(int, forgotten.groups()), outcomes)
     lines = answer.stdout.splitlines()
     if not lines or answer.stderr:
         return "it was not judged"
@@ -49,6 +57,20 @@ def complaint_of_window(trace, answers, outcomes):
     if not any(leads_back(log, rest) for log in outcomes[first]):
         return "there is no such edge to what was forgotten"
     return complaint_of_recheck(first, rechecked, outcomes[first])
+
+
+def complaint_of_forgotten(trace, taken, hart, number, outcomes):
+    """What is wrong where so many events were taken, and that one is said to be an SC whose LR was forgotten."""
+    within = int(trace.words[trace.words.index("--sc-within") + 1])
+    rows = [line.split(",") for source in trace.sources for line in source.splitlines()]
+    own = {int(row[1]): row[2] for row in rows if row[0] == str(hart)}
+    before = [other for other in range(number) if own[other] in ("LR", "SC", "SF")]
+    if own[number] != "SC" or not before or own[before[-1]] != "LR":
+        return "no LR was forgotten"
+    if number - before[-1] <= within:
+        return "the LR is forgotten too early"
+    counts = (int(found[1]) for found in (re.search(r" after ([0-9]+) events", outcome) for outcome in outcomes) if found)
+    return None if all(count >= taken for count in counts) else "more is taken than some order is lawful for"
 
 
 def complaint_of_same(answer, rechecked):
