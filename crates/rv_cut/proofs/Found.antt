@@ -32,7 +32,8 @@ path-past firsts ties closed i j (more {j = k} step path) past =
     closed (record { from = i; to = k }) step (path-past firsts ties closed k j path past)
 
 -- below numbers to which no tie leads, and below which all is settled, is a cut
-pub found : (model : MemoryModel) (log : List Event) (active : List ℕ) (patience : ℕ) (firsts : List ℕ) (ties : List Tie) →
+pub found : (model : MemoryModel) (log : List Event) (active : List ℕ) (patience : ℕ) (firsts : List ℕ)
+    (ties : List Tie) →
     AreTiesOf model log ties → IsClosed firsts ties →
     ((p : Event) → Contains log p → IsMemory p → IsTrue (is_past firsts p.id) → IsSettled model log active p) →
     ((hart : ℕ) → LeavesReserved (first_of firsts) log hart → HasWaited patience log firsts hart) →

@@ -141,14 +141,16 @@ module _ (run : Endless) (log : List Entry) (x : Entry) (stands : StandsFor run 
 
   same-dependency : DependsOnValues forgotten n e → dependency_fault es e ≡ option_map to-log (dependency_fault w new)
   same-dependency good = dependency limit log x fst stands.formed stands.pairs (pair run log x stands next)
-      stands.few (stands.within h) (kept run log x stands next) (room run log x stands next) (depends-well run log x stands next good)
+      stands.few (stands.within h) (kept run log x stands next) (room run log x stands next)
+      (depends-well run log x stands next good)
 
   same-zero : zero_fault e ≡ option_map to-log (zero_fault new)
   same-zero = told to-log (is_store e.op && (e.wrote == 0)) VersionZero refl
 
   same-taken : IsUnwritten forgotten e → taken_fault es e ≡ option_map to-log (taken_fault w new)
   same-taken free = taken limit log x fst stands.formed stands.pairs (pair run log x stands next)
-      stands.few (stands.within h) (kept run log x stands next) (room run log x stands next) (untaken run log x stands next free)
+      stands.few (stands.within h) (kept run log x stands next) (room run log x stands next)
+      (untaken run log x stands next free)
 
   same-reservation : reservation_fault es e ≡ option_map to-log (reservation_fault w new)
   same-reservation = reservation limit log x fst stands.formed stands.pairs (pair run log x stands next)
@@ -157,12 +159,13 @@ module _ (run : Endless) (log : List Entry) (x : Entry) (stands : StandsFor run 
 
   same-full : full_fault limit es e ≡ option_map to-log (full_fault 4096 w new)
   same-full = full-none limit log x fst stands.formed stands.pairs (pair run log x stands next)
-      stands.few (stands.within h) (kept run log x stands next) (room run log x stands next) (below run log x stands next)
-      (seq-is run log x stands next)
+      stands.few (stands.within h) (kept run log x stands next) (room run log x stands next)
+      (below run log x stands next) (seq-is run log x stands next)
 
   same-source : HasSource forgotten x → source_fault log x ≡ option_map to-log (source_fault wl (in_window run x))
   same-source own = source limit log x fst stands.formed stands.pairs (pair run log x stands next)
-      stands.few (stands.within h) (kept run log x stands next) (room run log x stands next) (old-source run log x stands next own)
+      stands.few (stands.within h) (kept run log x stands next) (room run log x stands next)
+      (old-source run log x stands next own)
 
   -- what doesn't fit is a fault over the log
   bad-dependency : DependsBadly forgotten n e → dependency_fault es e ≡ Some Dependency

@@ -22,8 +22,8 @@ use Rattle.rv_settle.proofs.Faulted.{fault-same}
 use Rattle.rv_settle.specs.Fitting.{DependsWell, FitsPast, HasOldSource, IsUntaken, in_full}
 use Rattle.rv_settle.proofs.Windows.{onto-window}
 use Rattle.rv_settle.specs.Windows.{IsKept, KeepsPair}
-use Rattle.std.proofs.Common.{[], refl, ℕ, ◌≡◌, ◌∙◌, ◌<◌, ◌≤◌, ◌+◌, Contains, IsFalse, IsTrue, List, None, Option, Some, ap}
-use Rattle.std.proofs.Common.{arith, inl, inr, length, option_map, slice_index_or, subst, sym}
+use Rattle.std.proofs.Common.{[], refl, ℕ, ◌≡◌, ◌∙◌, ◌<◌, ◌≤◌, ◌+◌, Contains, IsFalse, IsTrue, List, None, Option, Some}
+use Rattle.std.proofs.Common.{ap, arith, inl, inr, length, option_map, slice_index_or, subst, sym}
 use Rattle.std.proofs.lemmas.Bool.{cases_lt, false≢true}
 use Rattle.std.proofs.lemmas.List.Elements.{All-contains}
 use Rattle.std.proofs.lemmas.Option.{same_Some}

@@ -44,7 +44,8 @@ returns-then-have_waited c =
     subst (λ (m : MemoryModel). IsCutOf m (events c.args.book.now.log) c.args.active.now c.args.patience firsts)
     c.model-model.ensures.value
     (subst (λ (l : List Entry). IsCutOf c.model-model.result (events l) c.args.active.now c.args.patience firsts)
-    c.log-log.ensures.value (found c.model-model.result log c.args.active.now c.args.patience firsts c.in_ok-ties.ties.items are
+    c.log-log.ensures.value (found c.model-model.result log c.args.active.now c.args.patience firsts
+    c.in_ok-ties.ties.items are
     closed settled (c.if-have_waited.ensures refl) within))
   where
     firsts : List ℕ
@@ -77,9 +78,11 @@ returns-then-have_waited c =
 
 pub returns : goal.returns
 returns c =
-    found-none c.args.book.now.model (events c.args.book.now.log) c.args.active.now c.args.patience c.new-else-is_closed.result
+    found-none c.args.book.now.model (events c.args.book.now.log) c.args.active.now c.args.patience
+    c.new-else-is_closed.result
     c.new-else-is_closed.ensures
 
 pub returns-then-any : goal.returns-then-any
 returns-then-any c =
-    found-none c.args.book.now.model (events c.args.book.now.log) c.args.active.now c.args.patience c.new.result c.new.ensures
+    found-none c.args.book.now.model (events c.args.book.now.log) c.args.active.now c.args.patience c.new.result
+    c.new.ensures
