@@ -20,7 +20,7 @@ is_past firsts i = nat_lt i.seq (first_of firsts i.hart)
 abbrev pub AreLower : List ℕ → List ℕ → Type 0
 AreLower old new = (hart : ℕ) → first_of new hart ≤ first_of old hart
 
--- the hart's last LR, SC or failed SC is of the past, and more than so many of its events stand behind it
+-- the hart's last LR, SC or failed SC is of the past, and so many of its events or more stand behind it
 pub record HasWaited (patience : ℕ) (log : List Event) (firsts : List ℕ) (hart : ℕ) : Type 0 where
   pub lr : Event
   pub last : IsLastExclusive log hart (Some lr)

@@ -18,8 +18,8 @@ use rv_event::{Entry, Event, Id, NoMemory, Op};
 use std::alloc::Global;
 
 /// Keeps more where that is needed, until no edge leads into the past from an event that is kept, and
-/// no LR of the past is without an SC of the past behind it, but for one behind which more than
-/// `patience` events of its hart stand, none of them an LR, an SC or a failed SC.
+/// no LR of the past is without an SC of the past behind it, but for one behind which `patience`
+/// events of its hart or more stand, none of them an LR, an SC or a failed SC.
 ///
 /// # Errors
 /// `NoMemory` where a list could not be had; the cut may be lower than before.
@@ -68,7 +68,7 @@ fn keep_open(
 }
 
 /// Adds that each LR is kept with the next LR, SC or failed SC of its hart. A last LR, with none of
-/// these behind it, is kept at once, where no more than `patience` events of the hart stand behind it.
+/// these behind it, is kept at once, where fewer than `patience` events of the hart stand behind it.
 fn push_pairs(
     log: &[Entry],
     patience: u32,
@@ -100,7 +100,7 @@ fn push_pairs(
     Ok(())
 }
 
-/// Whether more than `patience` events of the hart stand behind this one, where it has so many.
+/// Whether `patience` events of the hart or more stand behind this one, where it has so many.
 fn is_long(lr: Id, patience: u32, counts: &Cut) -> bool
     ensures { IsTrue result ↔ lr.seq + patience < first_of counts.now lr.hart }
 {
@@ -172,7 +172,7 @@ pub fn is_closed(ties: &[Tie], cut: &Cut) -> bool
 }
 
 /// Whether the past leaves a hart with a reservation only where its LR has waited for long: it is the
-/// hart's last LR, SC or failed SC, and more than `patience` events of the hart stand behind it.
+/// hart's last LR, SC or failed SC, and `patience` events of the hart or more stand behind it.
 pub fn have_waited(log: &[Entry], patience: u32, cut: &Cut) -> bool
     requires { Indexed (events log.now) }
     ensures { IsTrue result → (hart : ℕ) → LeavesReserved (first_of cut.now) (events log.now) hart →
@@ -187,8 +187,8 @@ pub fn have_waited(log: &[Entry], patience: u32, cut: &Cut) -> bool
     true
 }
 
-/// Whether the hart's last LR, SC or failed SC is of the past, and more than `patience` events of the
-/// hart stand behind it.
+/// Whether the hart's last LR, SC or failed SC is of the past, and `patience` events of the hart or
+/// more stand behind it.
 fn has_waited(log: &[Entry], hart: u8, patience: u32, cut: &Cut) -> bool
     requires { Indexed (events log.now) }
     ensures { IsTrue result → HasWaited patience (events log.now) cut.now hart }

@@ -14,8 +14,8 @@ use std::alloc::Global;
 
 /// A cut of the book's log whose past these harts, the only ones that are still active, can't come
 /// before any more. With a hart above 15 there is no past. No edge of the log leads into the past
-/// from what is kept. An LR of the past waits for its SC only where more than `patience` events of its
-/// hart stand behind it, none of them an LR, an SC or a failed SC.
+/// from what is kept. An LR of the past waits for its SC only where `patience` events of its hart or
+/// more stand behind it, none of them an LR, an SC or a failed SC.
 ///
 /// The cut is as high as it may be: an event is kept only where it or one that pulls it with it is
 /// not settled. That is not proved: a cut with no past would keep the contract too.

@@ -38,7 +38,7 @@ pub enum Beyond {
     WindowFull,
     /// Its hart has as many events as there are numbers.
     LastNumber,
-    /// It is an SC, and the LR with which it would be paired was forgotten: more events of its hart than
-    /// a cut waits for stand between them.
+    /// It is an SC, and the LR with which it would be paired was forgotten: so many events of its hart
+    /// stand between them as a cut waits for, or more.
     LrForgotten,
 }

@@ -128,8 +128,8 @@ impl Endless {
     /// Forgets what no active hart can come before any more, where something is: these events leave the
     /// window. So a run whose harts synchronise again and again keeps a window of bounded size.
     ///
-    /// An LR that waits for its SC is kept, until more than `patience` events of its hart stand behind it.
-    /// An SC that comes still later can't be judged.
+    /// An LR that waits for its SC is kept, until `patience` events of its hart stand behind it. An SC
+    /// that comes still later can't be judged.
     ///
     /// It costs what it takes to find the cut, and to judge anew what is kept.
     ///

@@ -51,26 +51,24 @@ const NOT_CLOSED: &[Row] = &[
     other!(0:1, FENCE_ALL),
 ];
 
-/// An LR waits for its SC, and four events of its hart stand behind it.
+/// An LR waits for its SC, and three events of its hart stand behind it.
 const WAITS: &[Row] = &[
     lr!(0:0, X = 0),
     other!(0:1, FENCE_ALL),
     store!(0:2, Y = 1),
     other!(0:3, FENCE_ALL),
-    store!(0:4, Y = 2),
 ];
 
-/// A fifth event stands behind it.
+/// A fourth event stands behind it.
 const HAS_WAITED: &[Row] = &[
     lr!(0:0, X = 0),
     other!(0:1, FENCE_ALL),
     store!(0:2, Y = 1),
     other!(0:3, FENCE_ALL),
-    store!(0:4, Y = 2),
-    other!(0:5, FENCE_ALL),
+    other!(0:4, FENCE_ALL),
 ];
 
-/// How many events of its hart stand behind an LR that is kept.
+/// An LR is kept until so many events of its hart stand behind it.
 const PATIENCE: u32 = 4;
 
 const TESTS: &[CutTest] = &[
@@ -120,7 +118,7 @@ const TESTS: &[CutTest] = &[
         name: "an LR has waited for long",
         rows: HAS_WAITED,
         active: &[0],
-        firsts: [6, 0],
+        firsts: [5, 0],
     },
 ];
 

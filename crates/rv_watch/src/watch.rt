@@ -54,7 +54,7 @@ pub struct Watch {
 
 impl Watch {
     /// Before any event, under a memory model, where these harts are active. An LR that waits for its SC
-    /// is kept until more than `patience` events of its hart stand behind it. It takes no memory; the
+    /// is kept until `patience` events of its hart stand behind it. It takes no memory; the
     /// allocator serves the calls to come.
     pub fn new(
         alloc: Global,
