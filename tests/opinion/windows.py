@@ -69,8 +69,9 @@ def complaint_of_forgotten(trace, taken, hart, number, outcomes):
         return "no LR was forgotten"
     if number - before[-1] <= within:
         return "the LR is forgotten too early"
-    counts = (int(found[1]) for found in (re.search(r" after ([0-9]+) events", outcome) for outcome in outcomes) if found)
-    return None if all(count >= taken for count in counts) else "more is taken than some order is lawful for"
+    refusals = [re.search(r" after ([0-9]+) events", outcome) for outcome in outcomes]
+    is_lawful = any(refusal is None or int(refusal[1]) >= taken for refusal in refusals)
+    return None if is_lawful else "more is taken than some order is lawful for"
 
 
 def complaint_of_same(answer, rechecked):
