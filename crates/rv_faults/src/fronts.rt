@@ -91,13 +91,17 @@ fn a_cut_source_is_answered_whichever_it_is(rt: HostRuntime) {
         kind: FaultKind::Fields,
         row: 2,
     };
-    for (texts, number) in [([whole, cut], 1), ([cut, whole], 0)] {
-        match run_texts(&rt, rt.alloc(), &texts) {
-            Err(RunFault::Trace { source, fault }) => {
-                assert_eq!(rt; (source, fault), (number, wanted));
-            }
-            _ => panic!(rt; "no fault"),
+    assert_fault(&rt, run_texts(&rt, rt.alloc(), &[whole, cut]), 1, wanted);
+    assert_fault(&rt, run_texts(&rt, rt.alloc(), &[cut, whole]), 0, wanted);
+}
+
+/// Wants the fault of this source.
+fn assert_fault(rt: &impl Abort, ran: Result<Outcome, RunFault>, number: u8, wanted: TraceFault) {
+    match ran {
+        Err(RunFault::Trace { source, fault }) => {
+            assert_eq!(rt; (source, fault), (number, wanted));
         }
+        _ => panic!(rt; "no fault"),
     }
 }
 
@@ -105,14 +109,21 @@ fn a_cut_source_is_answered_whichever_it_is(rt: HostRuntime) {
 fn the_same_event_from_two_sources_is_malformed_whichever_comes_first(rt: HostRuntime) {
     let one = "hart,seq,op,word,read,wrote,ann,deps\n0,0,S,0,,1,,\n".as_bytes();
     let other = "hart,seq,op,word,read,wrote,ann,deps\n0,0,S,0,,2,,\n".as_bytes();
-    for texts in [[one, other], [other, one], [one, one]] {
-        let Ok(Outcome::Malformed(malformed)) = run_texts(&rt, rt.alloc(), &texts) else {
-            panic!(rt; "not malformed");
-        };
-        assert_eq!(rt; malformed.fault(), Fault::Sequence(1));
-        assert_eq!(rt; malformed.refused(), Id { hart: 0, seq: 0 });
-        assert_eq!(rt; malformed.evidence().len(), 2);
-        assert!(rt; malformed.evidence()[0].source != malformed.evidence()[1].source);
+    assert_twice(&rt, run_texts(&rt, rt.alloc(), &[one, other]));
+    assert_twice(&rt, run_texts(&rt, rt.alloc(), &[other, one]));
+    assert_twice(&rt, run_texts(&rt, rt.alloc(), &[one, one]));
+}
+
+/// The first event of hart 0 came from both sources.
+fn assert_twice(rt: &impl Abort, ran: Result<Outcome, RunFault>) {
+    let Ok(Outcome::Malformed(malformed)) = ran else {
+        panic!(rt; "not malformed");
+    };
+    assert_eq!(rt; malformed.fault(), Fault::Sequence(1));
+    assert_eq!(rt; malformed.refused(), Id { hart: 0, seq: 0 });
+    match malformed.evidence() {
+        [first, second] => assert!(rt; first.source != second.source),
+        _ => panic!(rt; "not two entries"),
     }
 }
 
@@ -129,8 +140,5 @@ fn a_record_that_never_ends_is_a_fault_of_the_run(rt: HostRuntime) {
         kind: FaultKind::Read,
         row: 1,
     };
-    match run_all(&rt, rt.alloc(), readers) {
-        Err(RunFault::Trace { source, fault }) => assert_eq!(rt; (source, fault), (0, wanted)),
-        _ => panic!(rt; "no fault"),
-    }
+    assert_fault(&rt, run_all(&rt, rt.alloc(), readers), 0, wanted);
 }

@@ -1,6 +1,6 @@
 //! Out of memory in whole passes and runs: it is answered as such, or the outcome is that of the
 //! execution.
-use crate::traces::{Class, LitmusTest, class_of, entries_of, litmus_tests, texts_of};
+use crate::traces::{Class, LitmusTest, class_of, entries_of, litmus_tests, text_of};
 use rv_event::NoMemory;
 use rv_run::{RunFault, Settings, replay, run};
 use rv_trace::FaultKind;
@@ -71,7 +71,8 @@ fn assert_run<RT: Threads + Wait + Sync + Abort>(
         slots,
         model: one.model,
     };
-    let [first, second] = texts_of(rt, alloc, one.rows);
+    let first = text_of(rt, alloc, one.rows, Some(0));
+    let second = text_of(rt, alloc, one.rows, Some(1));
     let texts = [first.as_str().as_bytes(), second.as_str().as_bytes()];
     let first = class_of_run(rt, alloc, &texts, settings);
     let class = match first {

@@ -1,5 +1,5 @@
 //! The litmus tests, as entries and as the text of sources.
-use rv_event::{DepKind, Entry, MemoryModel, NoMemory, Op, Set};
+use rv_event::{DepKind, Entry, Event, MemoryModel, NoMemory, Op, Set};
 use rv_litmus::allowed::allowed;
 use rv_litmus::circles::circles;
 use rv_litmus::refused::{STALE, TAKEN, UNRESERVED};
@@ -182,41 +182,36 @@ fn text_with(alloc: Global, rows: &[Row], hart: Option<u8>) -> Result<String, No
     Ok(text)
 }
 
-/// The source of all rows, also where one allocation is refused.
-pub fn text_of(rt: &impl Abort, alloc: Global, rows: &[Row]) -> String {
-    match text_with(alloc, rows, None) {
+/// The source of all rows or of one hart's, also where one allocation is refused. No litmus test has
+/// more than two harts.
+pub fn text_of(rt: &impl Abort, alloc: Global, rows: &[Row], hart: Option<u8>) -> String {
+    match text_with(alloc, rows, hart) {
         Ok(text) => text,
-        Err(NoMemory) => text_with(alloc, rows, None).expect(rt, "memory"),
+        Err(NoMemory) => text_with(alloc, rows, hart).expect(rt, "memory"),
     }
 }
 
-/// The sources of two harts: no litmus test has more.
-fn texts_with(alloc: Global, rows: &[Row]) -> Result<[String; 2], NoMemory> {
-    let first = text_with(alloc, rows, Some(0))?;
-    let second = text_with(alloc, rows, Some(1))?;
-    Ok([first, second])
-}
-
-/// The sources of two harts, also where one allocation is refused.
-pub fn texts_of(rt: &impl Abort, alloc: Global, rows: &[Row]) -> [String; 2] {
-    match texts_with(alloc, rows) {
-        Ok(texts) => texts,
-        Err(NoMemory) => texts_with(alloc, rows).expect(rt, "memory"),
+/// Whether the next entry has this event.
+pub fn is_next(next: Option<&Entry>, event: &Event) -> bool {
+    match next {
+        Some(entry) => entry.event == *event,
+        None => false,
     }
 }
 
 #[test]
 fn rows_are_written_as_a_trace_has_them(rt: HostRuntime) {
-    let text = text_of(&rt, rt.alloc(), &UNRESERVED);
+    let text = text_of(&rt, rt.alloc(), &UNRESERVED, None);
     assert_eq!(rt;
         text.as_str(),
         "hart,seq,op,word,read,wrote,ann,deps\n0,0,LR,0,0,,,\n0,1,SF,0,,,,\n0,2,SC,0,,1,,\n"
     );
-    let [first, second] = texts_of(&rt, rt.alloc(), &TAKEN);
+    let first = text_of(&rt, rt.alloc(), &TAKEN, Some(0));
     assert_eq!(rt;
         first.as_str(),
         "hart,seq,op,word,read,wrote,ann,deps\n0,0,S,0,,3,,\n"
     );
+    let second = text_of(&rt, rt.alloc(), &TAKEN, Some(1));
     assert_eq!(rt;
         second.as_str(),
         "hart,seq,op,word,read,wrote,ann,deps\n1,0,S,0,,3,,\n"

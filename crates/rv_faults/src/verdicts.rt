@@ -40,14 +40,16 @@ fn assert_raised(rt: &impl Abort, alloc: Global, verdict: Verdict, entries: &[En
         assert!(rt; cell.read(&mut cell.note()).is_none());
         assert!(rt; matches!(cell.raise(alloc, &mut note, back), Raise::Raised));
     }
-    assert!(rt;
-        cell.read(&mut note)
-            .is_some_and(|known| known.evidence() == entries)
-    );
-    assert!(rt;
-        cell.read(&mut cell.note())
-            .is_some_and(|known| known.evidence() == entries)
-    );
+    assert_known(rt, cell.read(&mut note), entries);
+    assert_known(rt, cell.read(&mut cell.note()), entries);
+}
+
+/// A verdict of these entries is known.
+fn assert_known(rt: &impl Abort, known: Option<&Verdict>, entries: &[Entry]) {
+    match known {
+        Some(verdict) => assert!(rt; verdict.evidence() == entries),
+        None => panic!(rt; "no verdict"),
+    }
 }
 
 #[test]

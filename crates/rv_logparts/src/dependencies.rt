@@ -1,100 +1,19 @@
-//! Instructions in a row, and the events from which registers were computed. Their dependencies are
-//! those that the manual's section 14.1 ("Syntactic Dependencies") names in its prose. What may panic
-//! stands in functions of its own, so that few paths lead through a test.
-use rv_flow::{Carrier, Flow, HartTrace, Lists, Step, Unlisted};
-use rv_insn::{Insn, Unit, Width, decode};
+//! What the rows of a hart list, and the carriers that they take. `tests/dependencies` compares the
+//! dependencies themselves with the manual's definition. What may panic stands in functions of its
+//! own, so that few paths lead through a test.
+use rv_flow::{Carrier, HartTrace, Lists, Unlisted};
+use rv_insn::{Insn, Width, decode};
 use rv_rows::Row;
-use std::alloc::Global;
 use std::process::Abort;
 
 /// `lw a0, 0(a1)`
 const LOAD: u32 = 0x0005_a503;
-/// `xor a2, a0, a0`
-const XOR: u32 = 0x00a5_4633;
-/// `addi a2, zero, 3`
-const IMMEDIATE: u32 = 0x0030_0613;
-/// `add a0, a0, a2`
-const ADD: u32 = 0x00c5_0533;
-/// `sw a2, 0(a3)`
-const STORE: u32 = 0x00c6_a023;
-/// `addi zero, a0, 0`
-const DISCARD: u32 = 0x0005_0013;
-
 /// `add a1, a1, a0`
 const SUM: u32 = 0x00a5_85b3;
 /// `sw a1, 0(a3)`
 const STORE_SUM: u32 = 0x00b6_a023;
 /// `bnez a1, .+8`
 const BRANCH_ON_SUM: u32 = 0x0005_9463;
-/// `sw zero, 0(a0)`
-const STORE_BY_LAST: u32 = 0x0005_2023;
-
-/// The register of this number.
-fn register(number: u8) -> Unit {
-    Unit::X(number)
-}
-
-/// The flow of these words, of which some make an event.
-fn flow_of(rt: &impl Abort, alloc: Global, words: &[(u32, Option<u32>)]) -> Flow {
-    let mut flow = Flow::new(alloc);
-    for &(word, event) in words {
-        let Ok(insn) = decode(word, Width::Rv64) else {
-            panic!(rt; "{word:x} is not decoded");
-        };
-        let event = match event {
-            Some(number) if number < 4096 => Some(number),
-            _ => None,
-        };
-        if flow.push(Step { insn, event }).is_err() {
-            panic!(rt; "out of memory");
-        }
-    }
-    flow
-}
-
-/// The register holds just these of the first four events.
-fn assert_held(rt: &impl Abort, flow: &Flow, number: u8, events: [bool; 4]) {
-    let mut row = Row::new();
-    flow.gather(register(number), &mut row);
-    for (event, is_held) in events.into_iter().enumerate() {
-        assert_eq!(rt;
-            row.has(event),
-            is_held,
-            "event {event} of register {number}"
-        );
-    }
-}
-
-#[test]
-fn a_value_goes_on_through_arithmetic(rt: HostRuntime) {
-    let flow = flow_of(&rt, rt.alloc(), &[(LOAD, Some(2)), (XOR, None)]);
-    assert_held(&rt, &flow, 10, [false, false, true, false]);
-    assert_held(&rt, &flow, 12, [false, false, true, false]);
-    assert_held(&rt, &flow, 11, [false; 4]);
-}
-
-#[test]
-fn a_later_write_takes_the_place_of_an_earlier(rt: HostRuntime) {
-    let words = [(LOAD, Some(0)), (XOR, None), (IMMEDIATE, None)];
-    let flow = flow_of(&rt, rt.alloc(), &words);
-    assert_held(&rt, &flow, 12, [false; 4]);
-    assert_held(&rt, &flow, 10, [true, false, false, false]);
-}
-
-#[test]
-fn a_value_of_two_loads_has_both(rt: HostRuntime) {
-    let words = [(LOAD, Some(0)), (XOR, None), (LOAD, Some(1)), (ADD, None)];
-    let flow = flow_of(&rt, rt.alloc(), &words);
-    assert_held(&rt, &flow, 10, [true, true, false, false]);
-}
-
-#[test]
-fn neither_a_store_nor_x0_passes_a_value_on(rt: HostRuntime) {
-    let words = [(LOAD, Some(0)), (STORE, None), (DISCARD, None)];
-    let flow = flow_of(&rt, rt.alloc(), &words);
-    assert_held(&rt, &flow, 0, [false; 4]);
-    assert_held(&rt, &flow, 13, [false; 4]);
-}
 
 /// The row has so many events from 0 on, and no others below 200.
 fn assert_first(rt: &impl Abort, row: &Row, count: usize) {
@@ -109,37 +28,6 @@ fn insn_of(rt: &impl Abort, word: u32) -> Insn {
         Ok(insn) => insn,
         Err(_) => panic!(rt; "{word:x} is not decoded"),
     }
-}
-
-#[test]
-fn a_running_sum_has_each_of_a_hundred_loads(rt: HostRuntime) {
-    let mut words = Vec::new(rt.alloc());
-    for event in 0..100u32 {
-        add_word(&rt, &mut words, LOAD, Some(event));
-        add_word(&rt, &mut words, SUM, None);
-    }
-    add_word(&rt, &mut words, BRANCH_ON_SUM, None);
-    let flow = flow_of(&rt, rt.alloc(), words.as_slice());
-    assert_first(&rt, flow.data(insn_of(&rt, STORE_SUM)), 100);
-    assert_first(&rt, flow.address(insn_of(&rt, STORE_SUM)), 0);
-    assert_first(&rt, flow.control(), 100);
-}
-
-fn add_word(rt: &impl Abort, words: &mut Vec<(u32, Option<u32>)>, word: u32, event: Option<u32>) {
-    words.push((word, event)).expect(rt, "memory");
-}
-
-#[test]
-fn an_address_is_that_of_the_last_load_alone(rt: HostRuntime) {
-    let words = [(LOAD, Some(0)), (SUM, None), (LOAD, Some(1))];
-    let flow = flow_of(&rt, rt.alloc(), &words);
-    assert_last(&rt, flow.address(insn_of(&rt, STORE_BY_LAST)));
-    assert_first(&rt, flow.control(), 0);
-}
-
-/// The row has event 1, and not event 0.
-fn assert_last(rt: &impl Abort, row: &Row) {
-    assert!(rt; row.has(1) && !row.has(0));
 }
 
 /// Loads so many values, and adds each to a register.

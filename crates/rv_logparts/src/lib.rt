@@ -4,7 +4,7 @@
 //! they stand here in place of the crates that they test.
 //!
 //! - `instructions`: words that GNU binutils disassembles, of `rv_insn`.
-//! - `dependencies`: instructions in a row, of `rv_flow`.
+//! - `dependencies`: the rows' lists and their carriers, of `rv_flow`.
 //! - `records`: lines of a log, of `rv_log`.
 //! - `words`: words of memory and the order of stores, of `rv_memory`.
 //! - `values`: the records of stores and the values of versions, of `rv_values`.

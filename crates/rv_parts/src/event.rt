@@ -27,13 +27,17 @@ fn load(alloc: Global, hart: u8, seq: u32, deps: &[Dep]) -> Result<Event, AllocE
 }
 
 /// Two events: a store of version 1 of word 0, and a load that depends on it.
-fn example_events(alloc: Global) -> Result<[Event; 2], AllocError> {
+fn example_events(alloc: Global) -> Result<Vec<Event>, AllocError> {
     let store = Event {
         op: Op::Store,
         wrote: 1,
         ..load(alloc, 0, 0, &[])?
     };
-    Ok([store, load(alloc, 1, 1, &[address(0)])?])
+    let next = load(alloc, 1, 1, &[address(0)])?;
+    let mut events = Vec::new(alloc);
+    events.push(store)?;
+    events.push(next)?;
+    Ok(events)
 }
 
 /// Their chunk text, for source 0 and number 0.
@@ -51,7 +55,7 @@ fn example_words() -> [u64; 58] {
 /// Their chunk.
 fn example_chunk(rt: &impl Abort, alloc: Global) -> Chunk {
     let events = example_events(alloc).expect(rt, "memory");
-    pack(&events, 0, 0).expect(rt, "a chunk")
+    pack(events.as_slice(), 0, 0).expect(rt, "a chunk")
 }
 
 #[test]
@@ -68,7 +72,7 @@ fn example_is_unpacked(rt: HostRuntime) {
     let chunk = Chunk::of_words(&example_words()).expect(&rt, "a chunk text");
     let events = unpack(rt.alloc(), &chunk).expect(&rt, "memory");
     let expected = example_events(rt.alloc()).expect(&rt, "memory");
-    assert!(rt; events.as_slice() == &expected[..]);
+    assert!(rt; events.as_slice() == expected.as_slice());
 }
 
 #[test]

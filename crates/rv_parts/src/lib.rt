@@ -3,10 +3,9 @@
 //! It has tests alone, and they call public functions alone. A crate with tests is proved twice, so
 //! they stand here in place of the crates that they test.
 //!
-//! - `rows`: sets, rows and the steps of a sweep, of `rv_rows`.
 //! - `event`: printed texts and copies of `rv_event`, chunk texts and refusals to pack of
 //!   `rv_chunk`.
-//! - `rank`: placements by the order keeper of `rv_rank`, some of them beside brute force.
+//! - `rank`: placements by the order keeper of `rv_rank`.
 //! - `hart`: the links by rules of a hart's next event, of `rv_hart`.
 //! - `versions`: the links by versions of a log's next event, of `rv_versions`.
 //!
@@ -19,7 +18,5 @@ mod event;
 mod hart;
 #[cfg(test)]
 mod rank;
-#[cfg(test)]
-mod rows;
 #[cfg(test)]
 mod versions;

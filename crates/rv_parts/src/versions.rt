@@ -214,7 +214,7 @@ fn loads_are_linked_to_the_nearest_stores(rt: HostRuntime) {
     assert_links(&rt, alloc, &log, &own, &[], &[]);
     let store = event(alloc, Op::Store, id(2, 0), 7, (0, 3));
     let before = [link(0, 1, Reason::Coherence), link(1, 1, Reason::FromRead)];
-    assert_links(&rt, alloc, &log, &store, &before, &[]);
+    assert_links(&rt, alloc, log.as_slice(), &store, &before, &[]);
 }
 
 #[test]
@@ -328,20 +328,26 @@ fn what_is_popped_is_found_no_more(rt: HostRuntime) {
 
 /// Stores and loads of a word whose higher versions come first, with loads of one version by two
 /// harts.
-fn late_events(alloc: Global) -> [Event; 5] {
-    [
-        event(alloc, Op::Store, id(0, 0), 7, (0, 4)),
-        event(alloc, Op::Load, id(1, 0), 7, (4, 0)),
-        event(alloc, Op::Store, id(2, 0), 7, (0, 2)),
-        event(alloc, Op::Load, id(3, 0), 7, (2, 0)),
-        event(alloc, Op::Load, id(4, 0), 7, (2, 0)),
-    ]
+fn late_events(rt: &impl Abort, alloc: Global) -> Vec<Event> {
+    let mut events = Vec::new(alloc);
+    for (op, hart, versions) in [
+        (Op::Store, 0, (0, 4)),
+        (Op::Load, 1, (4, 0)),
+        (Op::Store, 2, (0, 2)),
+        (Op::Load, 3, (2, 0)),
+        (Op::Load, 4, (2, 0)),
+    ] {
+        events
+            .push(event(alloc, op, id(hart, 0), 7, versions))
+            .expect(rt, "memory");
+    }
+    events
 }
 
 #[test]
 fn what_comes_late_stands_by_its_version(rt: HostRuntime) {
     let alloc = rt.alloc();
-    let log = late_events(alloc);
+    let log = late_events(&rt, alloc);
     let before = [
         link(2, 0, Reason::Coherence),
         link(3, 0, Reason::FromRead),
@@ -349,20 +355,20 @@ fn what_comes_late_stands_by_its_version(rt: HostRuntime) {
     ];
     let after = [link(0, 0, Reason::Coherence)];
     let store = event(alloc, Op::Store, id(5, 0), 7, (0, 3));
-    assert_links(&rt, alloc, &log, &store, &before, &after);
+    assert_links(&rt, alloc, log.as_slice(), &store, &before, &after);
     let load = event(alloc, Op::Load, id(5, 0), 7, (2, 0));
     let writer = [link(2, 0, Reason::ReadsFrom)];
     let next = [link(0, 0, Reason::FromRead)];
-    assert_links(&rt, alloc, &log, &load, &writer, &next);
+    assert_links(&rt, alloc, log.as_slice(), &load, &writer, &next);
     let lowest = event(alloc, Op::Store, id(5, 0), 7, (0, 1));
     let above = [link(2, 0, Reason::Coherence)];
-    assert_links(&rt, alloc, &log, &lowest, &[], &above);
+    assert_links(&rt, alloc, log.as_slice(), &lowest, &[], &above);
 }
 
 #[test]
 fn what_came_late_is_taken_out_of_the_middle(rt: HostRuntime) {
     let alloc = rt.alloc();
-    let mut versions = log_of(&rt, alloc, &late_events(alloc));
+    let mut versions = log_of(&rt, alloc, late_events(&rt, alloc).as_slice());
     let store = event(alloc, Op::Store, id(5, 0), 7, (0, 3));
     push(&rt, alloc, &mut versions, &store);
     assert!(rt; versions.writer(7, 3) == Some(id(5, 0)));

@@ -2,6 +2,5 @@
 mod gates;
 mod leaving;
 mod meeting;
-mod replays;
 mod rows;
 mod runs;

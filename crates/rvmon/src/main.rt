@@ -27,13 +27,9 @@ ghost use Rattle.rvmon.specs.Starting.{EndsAsked, IsWork, IsWorkBy, nothing_know
 mod backing;
 mod ending;
 mod form;
-#[cfg(test)]
-mod in_memory;
 mod listing;
 mod opening;
 mod progress;
-#[cfg(test)]
-mod tests;
 mod words;
 mod work;
 
