@@ -1,15 +1,18 @@
 //! Bytes that were handed over and not taken yet.
-ghost use Rattle.std.specs.Prelude.{◌≡◌, ◌≤◌, ◌↔◌, [], length, take, drop, IsTrue};
+ghost use Rattle.std.specs.Prelude.{◌≡◌, ◌≤◌, ◌↔◌, ◌+◌, ◌++◌, [], length, take, drop, IsTrue};
 
 use std::marker::Model;
 
 /// How many bytes are handed over at once.
 pub(crate) const SIZE: usize = 16384;
 
+/// How many bytes there is room for.
+const ROOM: usize = 2 * SIZE;
+
 /// Bytes that were put and not taken yet, which are taken row by row.
 #[derive(Drop)]
 pub(crate) struct Lines {
-    bytes: [u8; SIZE],
+    bytes: [u8; ROOM],
     from: usize,
     to: usize,
 }
@@ -21,7 +24,7 @@ impl Model for Lines {
 
     ghost view = { λ l. slice_range l.bytes l.from l.to };
 
-    ghost invariant = { λ l. (l.from ≤ l.to) × (l.to ≤ 16384) };
+    ghost invariant = { λ l. (l.from ≤ l.to) × (l.to ≤ 32768) };
 }
 
 /// Whether a byte ends a line. A line that has no other bytes is no row.
@@ -49,7 +52,7 @@ impl Lines {
         ensures { result ≡ [] }
     {
         Lines {
-            bytes: [0; SIZE],
+            bytes: [0; ROOM],
             from: 0,
             to: 0,
         }
@@ -58,7 +61,7 @@ impl Lines {
     /// The bytes, in order.
     fn as_slice(&self) -> &[u8]
         ensures value { result.now ≡ self.now }
-        ensures fits { length result.now ≤ SIZE }
+        ensures fits { length result.now ≤ ROOM }
     {
         &self.bytes[self.from..self.to]
     }
@@ -78,15 +81,23 @@ impl Lines {
             .any(|b| *b == b'\n')
     }
 
-    /// Puts bytes in the place of those that are there.
-    pub(crate) fn put(&mut self, block: &[u8])
-        requires { length block.now ≤ SIZE }
-        ensures { self.new ≡ block.now }
+    /// Whether more may be put behind these: no row stands here, and a block has room.
+    pub(crate) fn has_room(&self) -> bool
+        ensures { IsTrue result → length self.now ≤ SIZE }
     {
-        let count = block.len();
-        self.bytes[..count].copy_from_slice(block);
+        self.as_slice().len() <= SIZE && !self.has_row()
+    }
+
+    /// Puts bytes behind those that are there.
+    pub(crate) fn put(&mut self, block: &[u8])
+        requires { length self.old + length block.now ≤ ROOM }
+        ensures { self.new ≡ self.old ++ block.now }
+    {
+        let count = self.to - self.from;
+        self.bytes.copy_within(self.from..self.to, 0);
+        self.bytes[count..count + block.len()].copy_from_slice(block);
         self.from = 0;
-        self.to = count;
+        self.to = count + block.len();
     }
 
     /// Passes over so many bytes.

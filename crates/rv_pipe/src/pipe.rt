@@ -32,7 +32,7 @@ struct Held {
 impl Held {
     /// Whether whoever takes a row has to wait for it.
     fn is_dry(&self) -> bool {
-        self.end.is_none() && !self.lines.has_row()
+        self.end.is_none() && self.lines.has_room()
     }
 }
 
@@ -45,7 +45,8 @@ pub(crate) enum Lack {
     Ended(End),
 }
 
-/// What a source's bytes pass through, at most 16 KiB at a time, with the bell that tells of them.
+/// What a source's bytes pass through, 16 KiB at a time, with the bell that tells of them. A row that
+/// is not whole stays until the rest of it came.
 ///
 /// One thread hands bytes over, by [`pump`], and one takes them, by a [`crate::Piped`].
 #[derive(Drop)]
@@ -89,12 +90,12 @@ impl Pipe {
         self.bell.wake(self.source);
     }
 
-    /// Hands over the bytes where none are left of those before, and says whether it did.
+    /// Hands over the bytes where no row is left of those before, and says whether it did.
     fn try_put<RT: Wait>(&self, rt: &RT, block: &[u8]) -> bool
         requires { length block.now ≤ SIZE }
     {
         let mut held = self.held.lock(rt);
-        if !held.lines.is_empty() {
+        if !held.lines.has_room() {
             return false;
         }
         held.lines.put(block);
@@ -105,8 +106,8 @@ impl Pipe {
         true
     }
 
-    /// Hands over the bytes once those before are taken, and says whether it did: not where the run
-    /// is over.
+    /// Hands over the bytes once the rows before are taken, and says whether it did: not where the
+    /// run is over.
     fn put<RT: Wait>(&self, rt: &RT, block: &[u8]) -> bool
         requires { length block.now ≤ SIZE }
     {
@@ -132,7 +133,7 @@ impl Pipe {
         if count > 0 {
             let dry = held.is_dry();
             self.bell.tell(self.source, dry);
-            if held.lines.is_empty() {
+            if dry {
                 self.taken.notify_all();
             }
             return Ok(count);

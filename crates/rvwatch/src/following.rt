@@ -2,14 +2,20 @@
 
 use crate::progress::Progress;
 use crate::request::Words;
+use crate::turns::{Next, Turns};
 use rv_cert::Certificate;
 use rv_event::{Entry, Id};
 use rv_past::PastEdge;
+use rv_pipe::Bell;
 use rv_trace::{Feed, FeedFault, FeedRow};
 use rv_watch::{Stop, Watch};
 use std::alloc::AllocError;
-use std::fs::File;
 use std::io::{IsTerminal, Read};
+use std::thread;
+use std::time::Duration;
+
+/// For how many milliseconds nobody looks again where no row is to be read.
+const MOMENT: u64 = 1;
 
 /// How following the sources ended.
 #[derive(Drop)]
@@ -62,10 +68,16 @@ impl Follower {
         })
     }
 
-    /// Takes a row of each source in turn until all have ended, or something is wrong. A source that
-    /// is silent holds up the others, so that none runs ahead of the rest.
-    pub(crate) fn follow<R: Read>(&mut self, rt: &HostRuntime, feeds: &mut [Feed<R>]) -> End {
-        let end = match self.take_turns(rt, feeds) {
+    /// Takes a row of each source in turn until all have ended, or something is wrong. One that is
+    /// silent, as the bell tells, is passed over. But the others don't run far ahead of it: 1,024
+    /// rows ahead they wait for it, for ten seconds at most.
+    pub(crate) fn follow<R: Read>(
+        &mut self,
+        rt: &HostRuntime,
+        feeds: &mut [Feed<R>],
+        bell: &Bell,
+    ) -> End {
+        let end = match self.take_turns(rt, feeds, bell) {
             Ok(()) => End::Over,
             Err(end) => end,
         };
@@ -74,30 +86,54 @@ impl Follower {
     }
 
     /// Takes turns until there is nothing left to take.
-    fn take_turns<R: Read>(&mut self, rt: &HostRuntime, feeds: &mut [Feed<R>]) -> Result<(), End> {
+    fn take_turns<R: Read>(
+        &mut self,
+        rt: &HostRuntime,
+        feeds: &mut [Feed<R>],
+        bell: &Bell,
+    ) -> Result<(), End> {
+        let mut turns = Turns::new(feeds.len());
         'turns: for _ in 0..u64::MAX {
-            if !self.take_turn(rt, feeds)? {
-                return Ok(());
+            match turns.next(bell) {
+                Next::Read(rows) => self.take_turn(rt, feeds, bell, &mut turns, rows)?,
+                Next::Rest => thread::sleep(rt, Duration::from_millis(MOMENT)),
+                Next::Hold => {
+                    thread::sleep(rt, Duration::from_millis(MOMENT));
+                    turns.hold(bell);
+                }
+                Next::End => return Ok(()),
             }
         }
         Ok(())
     }
 
-    /// Takes a row of each source that has one. `false` where none has.
-    fn take_turn<R: Read>(&mut self, rt: &HostRuntime, feeds: &mut [Feed<R>]) -> Result<bool, End> {
-        let mut is_given = false;
+    /// Takes a row of each source that has one, of those of which so many rows were taken.
+    fn take_turn<R: Read>(
+        &mut self,
+        rt: &HostRuntime,
+        feeds: &mut [Feed<R>],
+        bell: &Bell,
+        turns: &mut Turns,
+        rows: u64,
+    ) -> Result<(), End> {
         'sources: for source in 0..feeds.len() {
+            if !turns.is_next(bell, source, rows) {
+                continue;
+            }
             let number = (source % 256) as u8;
             match feeds[source].next_row() {
                 Ok(Some(row)) => {
+                    turns.count_row(source);
                     self.take(rt, number, row)?;
-                    is_given = true;
                 }
-                Ok(None) => self.end_source(number),
+                Ok(None) => {
+                    turns.end(source);
+                    self.end_source(number);
+                }
                 Err(fault) => return Err(End::Faulty(number, fault)),
             }
         }
-        Ok(is_given)
+        Ok(())
     }
 
     /// Takes a row of a source.
@@ -144,19 +180,4 @@ impl Follower {
             }
         }
     }
-}
-
-/// The feeds of the files that the words name, in their order; the name of one that does not open.
-pub(crate) fn open_all(
-    rt: &HostRuntime,
-    words: &Words,
-) -> Result<Result<Vec<Feed<File>>, String>, AllocError> {
-    let mut feeds = Vec::new(rt.alloc());
-    for name in words.files.iter() {
-        let Ok(file) = File::open(rt, name.as_str()) else {
-            return Ok(Err(String::from_str(rt.alloc(), name.as_str())?));
-        };
-        feeds.push(Feed::new(rt.alloc(), file))?;
-    }
-    Ok(Ok(feeds))
 }

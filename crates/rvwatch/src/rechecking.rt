@@ -4,28 +4,32 @@
 //! more. So what is kept has the circle, as soon as the event comes; or the window is full before,
 //! and the event is offered to what is kept until then.
 
-use crate::following::{End, Follower, Mode, open_all};
+use crate::following::{End, Follower, Mode};
 use crate::request::Words;
+use crate::sources::open_all;
 use rv_cert::Certificate;
 use rv_event::Entry;
 use rv_past::PastEdge;
 use rv_watch::{Stop, certificate_in_log};
 use std::alloc::AllocError;
 use std::io::Write;
+use std::sync::Wait;
+use std::thread::Threads;
 
 /// Reads the files again, keeps from then on what the edge leads to, and shows by what is kept why
 /// the entry is forbidden. `None` where that can't be had.
-fn recheck(
+fn recheck<RT: Threads + Wait + Copy + Send + 'static>(
     rt: &HostRuntime,
+    threads: &RT,
     words: &Words,
     entry: &Entry,
     edge: PastEdge,
 ) -> Result<Option<Certificate>, AllocError> {
-    let Ok(mut feeds) = open_all(rt, words)? else {
+    let Ok(mut sources) = open_all(rt, threads, words.files.as_slice())? else {
         return Ok(None);
     };
     let mut follower = Follower::new(rt, words, Mode::Until(edge))?;
-    let end = follower.follow(rt, feeds.as_mut_slice());
+    let end = follower.follow(rt, sources.feeds.as_mut_slice(), &sources.bell);
     let shown = match &end {
         End::Stopped(stopped, Stop::Forbidden(forbidden)) if stopped.event.id == entry.event.id => {
             certificate_in_log(rt.alloc(), &follower.watch, forbidden).map(Some)
@@ -35,20 +39,24 @@ fn recheck(
     };
     drop(end);
     drop(follower);
-    drop(feeds);
+    drop(sources);
     shown.map_err(|_| AllocError)
 }
 
 /// What a recheck, where it is asked for, makes of the end of a run over files.
-pub(crate) fn rechecked<E: Write>(
+pub(crate) fn rechecked<RT: Threads + Wait + Copy + Send + 'static, E: Write>(
     rt: &HostRuntime,
+    threads: &RT,
     words: &Words,
     end: End,
     errors: &mut E,
 ) -> Result<End, AllocError> {
     let shown = match &end {
         End::Stopped(entry, Stop::BeforePast(edge)) if words.recheck => {
-            recheck(rt, words, entry, *edge)?.map(|shown| End::Shown(entry.event.id, shown))
+            recheck(rt, threads, words, entry, *edge)?.map(|shown| End::Shown(
+                entry.event.id,
+                shown,
+            ))
         }
         _ => return Ok(end),
     };
