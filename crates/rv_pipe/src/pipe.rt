@@ -30,7 +30,8 @@ struct Held {
 }
 
 impl Held {
-    /// Whether whoever takes a row has to wait for it.
+    /// Whether whoever takes a row has to wait for it. Of one that is too long for the room, what is
+    /// there is taken at once.
     fn is_dry(&self) -> bool {
         self.end.is_none() && self.lines.has_room()
     }
@@ -45,8 +46,8 @@ pub(crate) enum Lack {
     Ended(End),
 }
 
-/// What a source's bytes pass through, 16 KiB at a time, with the bell that tells of them. A row that
-/// is not whole stays until the rest of it came.
+/// What a source's bytes pass through, 16 KiB at a time, with the bell that tells of them. A row
+/// that is not whole stays until the rest of it came.
 ///
 /// One thread hands bytes over, by [`pump`], and one takes them, by a [`crate::Piped`].
 #[derive(Drop)]

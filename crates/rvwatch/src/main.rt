@@ -1,6 +1,6 @@
 //! Judges runs of any length: `rvmon --harts LIST [WORD..] [FILE..]`.
 //!
-//! The rows of the sources are taken in turn, one of each, and each event is judged when it is read.
+//! The rows of the sources are taken in turn, and each event is judged when it is read.
 //! What no active hart can come before any more is forgotten, so that memory does not grow with the
 //! run where its harts synchronise again and again. Where an event comes before what was forgotten,
 //! `--recheck` reads the files again, keeps that from then on, and shows a circle.
@@ -12,10 +12,10 @@
 //! - `rechecking`: the sources once more, for a circle.
 //! - `telling`: what is printed, and the exit status.
 //!
-//! It stands on `rv_watch` for the judgement and the texts of refusals, on `rv_trace` for the rows, on
-//! `rv_pipe` for sources that may be silent, on the crates whose types these name, and on the kit's
-//! `either` and `thiserror`. Each event is judged as `rv_watch` says; no promise stands on how the
-//! program reads and writes.
+//! It stands on `rv_watch` for the judgement and the texts of refusals, on `rv_trace` for the rows,
+//! on `rv_pipe` for sources that may be silent, on the crates whose types these name, and on the
+//! kit's `either` and `thiserror`. Each event is judged as `rv_watch` says; no promise stands on how
+//! the program reads and writes.
 #![tactic(auto)]
 
 mod following;

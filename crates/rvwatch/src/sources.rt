@@ -1,8 +1,8 @@
 //! Where the rows of a run come from.
 //!
-//! A file whose bytes are all there is read where it is used. A FIFO or a device may be silent for as
-//! long as it likes, so a thread of its own opens and reads it. Nobody waits for that thread, and it
-//! ends with the program.
+//! A file whose bytes are all there is read where it is used. A FIFO or a device may be silent for
+//! as long as it likes, so a thread of its own opens and reads it. Nobody waits for that thread, and
+//! it ends with the program.
 
 use either::Either;
 use rv_pipe::{Bell, End, Pipe, Piped, pump};
