@@ -27,7 +27,7 @@ mod telling;
 mod turns;
 
 use crate::following::{End, Follower, Mode};
-use crate::rechecking::rechecked;
+use crate::rechecking::{rechecked, tell_unread};
 use crate::request::{HELP, Words, WordsFault, request_of};
 use crate::sources::open_all;
 use crate::telling::{ALLOWED, WRONG_INPUT, settle, tell_failure};
@@ -90,6 +90,7 @@ fn follow_files<RT: Threads + Wait + Copy + Send + 'static, E: Write>(
         }
     }
     if has_pipe {
+        tell_unread(words, &end, errors);
         return Ok(Some(end));
     }
     rechecked(rt, threads, words, end, errors).map(Some)

@@ -68,3 +68,13 @@ pub(crate) fn rechecked<RT: Threads + Wait + Copy + Send + 'static, E: Write>(
     }
     Ok(shown.unwrap_or(end))
 }
+
+/// Tells that a recheck is asked for and can't be had, as a FIFO is read once.
+pub(crate) fn tell_unread<E: Write>(words: &Words, end: &End, errors: &mut E) {
+    if words.recheck && matches!(end, End::Stopped(_, Stop::BeforePast(_))) {
+        let _ = writeln!(
+            errors,
+            "rvmon: a FIFO can't be read again, so no circle is shown"
+        );
+    }
+}
