@@ -64,6 +64,8 @@ def complaint_of_forgotten(trace, taken, hart, number, outcomes):
     within = int(trace.words[trace.words.index("--sc-within") + 1])
     rows = [line.split(",") for source in trace.sources for line in source.splitlines()]
     own = {int(row[1]): row[2] for row in rows if row[0] == str(hart)}
+    if any(other not in own for other in range(number)):
+        return "its number is not the next of its hart, which is not told"
     before = [other for other in range(number) if own[other] in ("LR", "SC", "SF")]
     if own[number] != "SC" or not before or own[before[-1]] != "LR":
         return "no LR was forgotten"
