@@ -2,7 +2,7 @@
 use Rattle.rv_cut.specs.Cuts.{first_of}
 use Rattle.rv_cut.specs.Exclusives.{IsExclusiveOf, IsLastExclusive}
 use Rattle.rv_endless.specs.Exclusives.{IsLastOf}
-use Rattle.rv_endless.specs.Runs.{IsNext, StandsFor, bare, in_window, limit}
+use Rattle.rv_endless.specs.Runs.{HasLrForgotten, IsNext, StandsFor, bare, in_window, limit}
 use Rattle.rv_endless.specs.declared.exclusives.Exclusive.{Exclusive}
 use Rattle.rv_endless.specs.declared.run.Endless.{Endless}
 use Rattle.rv_event.proofs.Indexed.{IndexedWithin, indexed_within}
@@ -195,7 +195,9 @@ module _ (run : Endless) (log : List Entry) (x : Entry) (stands : StandsFor run 
                     ∙ ap (named (events log)) id ∙ known.own lr c) in
                     let lr-is : IsTrue l.is_lr = sym last.lr ∙ ap (λ (e : Event). is_lr e.op) (sym same)
                     ∙ ap (λ (e : Event). is_lr e.op) event ∙ ap is_lr paired.is_lr in
-                    next.within.pair paired.is_sc (record { last = l; known = is; lr = lr-is; none = none-kept }))
+                    let left : HasLrForgotten run x.event.id.hart =
+                    record { last = l; known = is; lr = lr-is; none = none-kept } in
+                    next.within.pair paired.is_sc next.seq left)
               ]
 
   pub pair : KeepsPair first (events log) x.event

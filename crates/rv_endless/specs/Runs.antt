@@ -140,6 +140,10 @@ pub record HasLrForgotten (run : Endless) (hart : ℕ) : Type 0 where
   pub lr : IsTrue last.is_lr
   pub none : IsLastExclusive (events run.book.log) hart None
 
+-- its number is the next one of its hart
+abbrev pub IsNumbered : Endless → Entry → Type 0
+IsNumbered run x = x.event.id.seq ≡ slice_index_or run.counts x.event.id.hart 0
+
 -- why an entry of one of the 16 harts can't be judged
 abbrev pub IsBeyond : Endless → Entry → Beyond → Type 0
 IsBeyond run x Inactive = Contains run.active.items x.event.id.hart → ⊥
@@ -147,22 +151,22 @@ IsBeyond run x why.Carrier = x.event.op ≡ Carrier
 IsBeyond run x WindowFull =
     first_of run.firsts x.event.id.hart + 4096 ≤ slice_index_or run.counts x.event.id.hart 0
 IsBeyond run x LastNumber = slice_index_or run.counts x.event.id.hart 0 ≡ 4294967295
-IsBeyond run x LrForgotten = (x.event.op ≡ Sc) × HasLrForgotten run x.event.id.hart
+IsBeyond run x LrForgotten = (x.event.op ≡ Sc) × IsNumbered run x × HasLrForgotten run x.event.id.hart
 
--- it can be: its hart is active, it is no carrier, there is room for it, and it is no SC whose LR was
--- forgotten
+-- it can be: its hart is active, it is no carrier, there is room for it, and it is not the hart's next
+-- event and an SC whose LR was forgotten
 pub record IsWithin (run : Endless) (x : Entry) : Type 0 where
   pub active : Contains run.active.items x.event.id.hart
   pub plain : x.event.op ≢ Carrier
   pub room : slice_index_or run.counts x.event.id.hart 0 < first_of run.firsts x.event.id.hart + 4096
   pub numbers : slice_index_or run.counts x.event.id.hart 0 < 4294967295
-  pub pair : x.event.op ≡ Sc → HasLrForgotten run x.event.id.hart → ⊥
+  pub pair : x.event.op ≡ Sc → IsNumbered run x → HasLrForgotten run x.event.id.hart → ⊥
 
 -- and its number is the next one of its hart
 pub record IsNext (run : Endless) (x : Entry) : Type 0 where
   pub hart : x.event.id.hart < 16
   pub within : IsWithin run x
-  pub seq : x.event.id.seq ≡ slice_index_or run.counts x.event.id.hart 0
+  pub seq : IsNumbered run x
 
 -- the run has stopped, and its window is as it was
 abbrev pub HasStopped : Endless → Endless → Type 0

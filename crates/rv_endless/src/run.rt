@@ -206,7 +206,7 @@ impl Endless {
         if count == u32::MAX {
             return Some(Beyond::LastNumber);
         }
-        if event.op == Op::Sc && self.has_lr_forgotten(event.id.hart) {
+        if event.op == Op::Sc && event.id.seq == count && self.has_lr_forgotten(event.id.hart) {
             return Some(Beyond::LrForgotten);
         }
         None
