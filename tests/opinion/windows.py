@@ -63,7 +63,10 @@ def complaint_of_forgotten(trace, taken, hart, number, outcomes):
     """What is wrong where so many events were taken, and that one is said to be an SC whose LR was forgotten."""
     within = int(trace.words[trace.words.index("--sc-within") + 1])
     rows = [line.split(",") for source in trace.sources for line in source.splitlines()]
-    own = {int(row[1]): row[2] for row in rows if row[0] == str(hart)}
+    own = {}
+    for row in rows:
+        if len(row) > 2 and row[0].isdigit() and row[1].isdigit() and int(row[0]) == hart:
+            own.setdefault(int(row[1]), row[2])
     if any(other not in own for other in range(number)):
         return "its number is not the next of its hart, which is not told"
     before = [other for other in range(number) if own[other] in ("LR", "SC", "SF")]
