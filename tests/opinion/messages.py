@@ -15,6 +15,7 @@ from opinion.model import Event
 from opinion.traces import HEADER, Trace, row_of
 
 SHARED, FIRST_FLAG, FIRST_READ, FIRST_COUNTER, SWAPPED = 3, 10, 20, 30, 40
+LATE_ROUNDS = 12
 BARS = ["r-r", "rw-r", "r-w", "rw-w", "r-rw", "branch", "address", "acquire"]
 
 
@@ -98,8 +99,8 @@ class Messages:
             self.late.remove(late)
             self.add(hart, "S", word, wrote=version)
 
-    def round(self):
-        """A message to most harts, and perhaps a late event."""
+    def round(self, late):
+        """A message to most harts, and with this chance a late event."""
         teller = self.dice.randrange(self.count)
         if self.dice.random() < 0.4:
             self.swap(self.dice.randrange(self.count))
@@ -107,8 +108,15 @@ class Messages:
         for hart in range(self.count):
             if hart != teller and self.dice.random() < 0.9:
                 self.hear(hart, teller)
-        if self.late and self.dice.random() < 0.5:
+        if self.late and self.dice.random() < late:
             self.come_late(self.dice.randrange(self.count))
+
+
+    def trace(self):
+        """The trace of these events."""
+        lines = [HEADER, *(",".join(row_of(event)) for event in self.events)]
+        model = self.dice.choice(["rvwmo", "rvwmo", "tso"])
+        return Trace(["".join(line + "\n" for line in lines)], model, [], False, False)
 
 
 def message_trace(seed):
@@ -116,6 +124,15 @@ def message_trace(seed):
     dice = random.Random(seed)
     messages = Messages(dice)
     for _ in range(dice.randint(1, 4)):
-        messages.round()
-    lines = [HEADER, *(",".join(row_of(event)) for event in messages.events)]
-    return Trace(["".join(line + "\n" for line in lines)], dice.choice(["rvwmo", "rvwmo", "tso"]), [], False, False)
+        messages.round(0.5)
+    return messages.trace()
+
+
+def long_message_trace(seed, count):
+    """The trace of this seed in which so many events come before the first late one."""
+    messages = Messages(random.Random(seed))
+    while len(messages.events) < count:
+        messages.round(0)
+    for _ in range(LATE_ROUNDS):
+        messages.round(0.3)
+    return messages.trace()

@@ -59,6 +59,20 @@ def complaint_of_window(trace, answers, outcomes):
     return complaint_of_recheck(first, rechecked, outcomes[first])
 
 
+def complaint_of_long(whole, answers):
+    """What is wrong with two answers to a trace that was judged as a whole too; the second one reads the trace again."""
+    answer, rechecked = answers
+    (told, *shown), (first, *rest) = (whole.stdout.splitlines() or [""], answer.stdout.splitlines() or [""])
+    is_taken = first.endswith(": fault 5 version taken") and told.startswith(first + " by ")
+    if answer.stderr or answer.returncode != whole.returncode or not (is_taken or first == told):
+        return f"judged as a whole it is: {told}"
+    if not rest or not rest[0].startswith("past: "):
+        return complaint_of_same(answer, rechecked)
+    again, *circle = rechecked.stdout.splitlines() or [""]
+    is_shown = again == first and circle and circle[0].startswith(("circle of ", "stale "))
+    return None if is_shown and not rechecked.stderr and shown else "with --recheck it has no circle"
+
+
 def complaint_of_forgotten(trace, taken, hart, number, outcomes):
     """What is wrong where so many events were taken, and that one is said to be an SC whose LR was forgotten."""
     within = int(trace.words[trace.words.index("--sc-within") + 1])

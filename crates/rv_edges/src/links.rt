@@ -96,7 +96,9 @@ impl KeptLinks {
         requires { length log.now ≡ length self.now }
         ensures { IfOk result (λ ties. ties.items ≡ ties_of (kept_from (events log.now) self.now)) }
     {
-        ties_from(alloc, log, self.links.as_slice(), self.sides.as_slice())
+        let links = self.links.as_slice();
+        let sides = self.sides.as_slice();
+        ties_from(alloc, log, links, sides)
     }
 
     /// Adds those of one event more.

@@ -7,7 +7,7 @@ ghost use Rattle.rv_hart.specs.Kept.{hart_of, IsKept, IsPartner, IsStaleBy};
 ghost use Rattle.rv_hart.specs.Rows.{IsBefore};
 
 use crate::own_events::OwnEvents;
-use crate::sets::{Sets, push_carried, sets_of};
+use crate::sets::{Sets, pop_carried, push_carried, sets_of};
 use crate::words::Words;
 use rv_event::{Event, Id, MemoryModel, NoMemory, Op};
 use rv_rows::{Row, Rows};
@@ -75,7 +75,7 @@ impl Kept {
             return Err(NoMemory::from(error));
         }
         if let Err(error) = self.words.add(events, event) {
-            self.carried.pop();
+            pop_carried(&mut self.carried);
             self.rows.pop();
             return Err(error);
         }
@@ -93,7 +93,7 @@ impl Kept {
     {
         self.words.drop_last(events, event);
         self.rows.pop();
-        self.carried.pop();
+        pop_carried(&mut self.carried);
         self.sets = sets_of(self.model, events, &self.carried);
     }
 

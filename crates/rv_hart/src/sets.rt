@@ -217,6 +217,14 @@ pub fn push_carried(event: &Event, sets: &Sets, carried: &mut Rows) -> Result<()
     }
 }
 
+/// Takes off what the last event stands for. It takes no memory.
+pub fn pop_carried(carried: &mut Rows)
+    requires { 0 < length carried.old }
+    ensures { (front : List (List ℕ)) (last : List ℕ) → carried.old ≡ front ++ last ∷ [] → carried.new ≡ front }
+{
+    carried.pop();
+}
+
 /// The sets of a hart's events. `carried` has the memory operations behind each.
 pub fn sets_of(model: MemoryModel, events: &OwnEvents<'_>, carried: &Rows) -> Sets
     requires carried { AreCarriedRows events.now carried.now }

@@ -1,5 +1,6 @@
 //! Bytes that were handed over and not taken yet.
-ghost use Rattle.std.specs.Prelude.{◌≡◌, ◌≤◌, ◌↔◌, ◌+◌, ◌++◌, [], length, take, drop, IsTrue};
+ghost use Rattle.std.specs.Prelude.{◌≡◌, ◌≢◌, ◌≤◌, ◌<◌, ◌↔◌, ◌+◌, ◌++◌, [], length, take, drop, IsTrue, false};
+ghost use Rattle.rv_pipe.specs.Rows.{has_row, is_line_end};
 
 use std::marker::Model;
 
@@ -28,13 +29,16 @@ impl Model for Lines {
 }
 
 /// Whether a byte ends a line. A line that has no other bytes is no row.
-fn ends_line(byte: u8) -> bool {
+fn ends_line(byte: u8) -> bool
+    ensures { result ≡ is_line_end byte }
+{
     byte == b'\n' || byte == b'\r'
 }
 
 /// The place behind the first row and its line feed, or that behind the last byte.
 fn row_end(bytes: &[u8]) -> usize
-    ensures { result ≤ length bytes.now }
+    ensures bound { result ≤ length bytes.now }
+    ensures some { bytes.now ≢ [] → 0 < result }
 {
     let blank = match bytes.iter().position(|b| !ends_line(*b)) {
         Some(at) => at,
@@ -66,15 +70,10 @@ impl Lines {
         &self.bytes[self.from..self.to]
     }
 
-    /// Whether all bytes were taken.
-    pub(crate) fn is_empty(&self) -> bool
-        ensures { IsTrue result ↔ self.now ≡ [] }
-    {
-        self.as_slice().is_empty()
-    }
-
     /// Whether a row stands here: a line feed, behind something that is none.
-    pub(crate) fn has_row(&self) -> bool {
+    fn has_row(&self) -> bool
+        ensures { result ≡ has_row self.now }
+    {
         self.as_slice()
             .iter()
             .skip_while(|b| ends_line(**b))
@@ -83,7 +82,7 @@ impl Lines {
 
     /// Whether more may be put behind these: no row stands here, and a block has room.
     pub(crate) fn has_room(&self) -> bool
-        ensures { IsTrue result → length self.now ≤ SIZE }
+        ensures { IsTrue result ↔ (length self.now ≤ SIZE) × (has_row self.now ≡ false) }
     {
         self.as_slice().len() <= SIZE && !self.has_row()
     }
@@ -111,6 +110,7 @@ impl Lines {
     /// Takes bytes: to the end of the first row, or as many as there is room for.
     pub(crate) fn take(&mut self, buf: &mut [u8]) -> usize
         ensures bound { result ≤ length buf.new }
+        ensures some { self.old ≢ [] → 0 < length buf.new → 0 < result }
         ensures taken { take result buf.new ≡ take result self.old }
         ensures left { self.new ≡ drop result self.old }
     {

@@ -1,5 +1,6 @@
 //! The two ends of a pipe: a thread that reads a source, and whoever takes what came.
-ghost use Rattle.std.specs.Prelude.{◌≡◌, ◌≤◌, length, IfOk};
+ghost use Rattle.std.specs.Prelude.{◌≡◌, ◌≤◌, ◌<◌, ◌↔◌, length, IfOk, IsTrue, None, false};
+ghost use Rattle.rv_pipe.specs.Rows.{has_row};
 
 use crate::bell::Bell;
 use crate::lines::{Lines, SIZE};
@@ -32,7 +33,10 @@ struct Held {
 impl Held {
     /// Whether whoever takes a row has to wait for it. Of one that is too long for the room, what is
     /// there is taken at once.
-    fn is_dry(&self) -> bool {
+    fn is_dry(&self) -> bool
+        ensures { IsTrue result ↔ (self.now.end ≡ None) × (length self.now.lines ≤ SIZE)
+            × (has_row self.now.lines ≡ false) }
+    {
         self.end.is_none() && self.lines.has_room()
     }
 }
@@ -127,7 +131,7 @@ impl Pipe {
 
     /// Takes bytes, if some are there: to the end of a row, or as many as there is room for.
     pub(crate) fn take<RT: Wait>(&self, rt: &RT, buf: &mut [u8]) -> Result<usize, Lack>
-        ensures { IfOk result (λ n. n ≤ length buf.new) }
+        ensures { IfOk result (λ count. (0 < count) × (count ≤ length buf.new)) }
     {
         let mut held = self.held.lock(rt);
         let count = held.lines.take(buf);

@@ -9,6 +9,6 @@ ties_from-requires-clause-long c =
       arith,
       c.requires,
       ap length c.self.view_is,
-      ap length c.as_slice-2.ensures.value,
+      ap length c.as_slice-sides.ensures.value,
       length-own_from c.self.inside.links.items c.self.inside.sides.items,
     )

@@ -52,8 +52,8 @@ returns-in-Err-add-clause-unchanged c =
     let pushed : IsPushed k.rows c.args.row.now c.push.new.self = c.in_ok-push.ensures.pushed in
     let carried : AreCarriedWith c.args.event.now k.sets k.carried c.push_carried.new.carried =
     c.in_default.ensures.pushed in
-    kept-same c.args.events.now k _ c.requires.kept refl (c.pop-in-Err-add-2.ensures k.rows pushed.last pushed.is_last)
-    (c.pop-in-Err-add.ensures k.carried carried.last carried.is_last) refl c.in-Err-add.ensures.unchanged
+    kept-same c.args.events.now k _ c.requires.kept refl (c.pop-in-Err-add.ensures k.rows pushed.last pushed.is_last)
+    (c.pop_carried.ensures k.carried carried.last carried.is_last) refl c.in-Err-add.ensures.unchanged
 
 pub absorb-requires-clause-dependencies : goal.absorb-requires-clause-dependencies
 absorb-requires-clause-dependencies c =
