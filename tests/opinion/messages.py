@@ -15,7 +15,7 @@ from opinion.model import Event
 from opinion.traces import HEADER, Trace, row_of
 
 SHARED, FIRST_FLAG, FIRST_READ, FIRST_COUNTER, SWAPPED = 3, 10, 20, 30, 40
-LATE_ROUNDS = 12
+LATE_ROUNDS = 4
 BARS = ["r-r", "rw-r", "r-w", "rw-w", "r-rw", "branch", "address", "acquire"]
 
 
@@ -29,7 +29,7 @@ class Messages:
         self.versions = Counter()
         self.events = []
         self.late = []
-        self.is_reserved = [False] * self.count
+        self.reserved = [None] * self.count
 
     def add(self, hart, operation, word=0, read=0, wrote=0, annotation="", dependencies=()):
         """Adds an event, and gives its number."""
@@ -73,14 +73,17 @@ class Messages:
             else:
                 self.add(hart, "F", annotation=bar)
 
-    def swap(self, hart):
-        """A hart loads the swapped word by an LR, or ends a swap that it began."""
-        version = self.versions[SWAPPED]
-        if not self.is_reserved[hart]:
+    def swap(self, hart, is_sound):
+        """A hart loads the swapped word by an LR, or ends a swap that it began: where that is to be sound, by an SC only
+        if nobody stored since."""
+        version, loaded = self.versions[SWAPPED], self.reserved[hart]
+        if loaded is None:
             self.add(hart, "LR", SWAPPED, read=version)
-            self.is_reserved[hart] = True
+            self.reserved[hart] = version
             return
         operation = self.dice.choice(["SC", "SC", "SF", "LR"])
+        if operation == "SC" and is_sound and version != loaded:
+            operation = "SF"
         if operation == "SC":
             self.versions[SWAPPED] += 1
             self.add(hart, "SC", SWAPPED, wrote=version + 1)
@@ -88,7 +91,7 @@ class Messages:
             self.add(hart, "SF", SWAPPED)
         else:
             self.add(hart, "LR", SWAPPED, read=version)
-        self.is_reserved[hart] = operation == "LR"
+        self.reserved[hart] = version if operation == "LR" else None
 
     def come_late(self, hart):
         """A hart loads or stores an older version of a shared word."""
@@ -100,10 +103,10 @@ class Messages:
             self.add(hart, "S", word, wrote=version)
 
     def round(self, late):
-        """A message to most harts, and with this chance a late event."""
+        """A message to most harts, and with this chance a late event. Where there is no chance, all is sound."""
         teller = self.dice.randrange(self.count)
         if self.dice.random() < 0.4:
-            self.swap(self.dice.randrange(self.count))
+            self.swap(self.dice.randrange(self.count), not late)
         self.tell(teller)
         for hart in range(self.count):
             if hart != teller and self.dice.random() < 0.9:

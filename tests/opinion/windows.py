@@ -69,7 +69,7 @@ def complaint_of_long(whole, answers):
     if not rest or not rest[0].startswith("past: "):
         return complaint_of_same(answer, rechecked)
     again, *circle = rechecked.stdout.splitlines() or [""]
-    is_shown = again == first and circle and circle[0].startswith(("circle of ", "stale "))
+    is_shown = again == first and circle and circle[0].startswith(("circle of ", "stale: "))
     return None if is_shown and not rechecked.stderr and shown else "with --recheck it has no circle"
 
 

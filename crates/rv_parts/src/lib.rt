@@ -8,8 +8,12 @@
 //! - `rank`: placements by the order keeper of `rv_rank`.
 //! - `hart`: the links by rules of a hart's next event, of `rv_hart`.
 //! - `versions`: the links by versions of a log's next event, of `rv_versions`.
+//! - `reader`: how often the trace reader of `rv_trace` asks its source.
+//! - `instructions`: words that GNU binutils disassembles, of `rv_insn`.
 //!
-//! It stands on each crate that it tests, and on the definitions of `rv_cover`.
+//! What the programs print of each wrong row, of wrong words and of commit logs stands in documents,
+//! as commands, and second opinions in Python read random ones. It stands on each crate that it tests,
+//! and on the definitions of `rv_cover`.
 #![tactic(auto)]
 
 #[cfg(test)]
@@ -17,6 +21,10 @@ mod event;
 #[cfg(test)]
 mod hart;
 #[cfg(test)]
+mod instructions;
+#[cfg(test)]
 mod rank;
+#[cfg(test)]
+mod reader;
 #[cfg(test)]
 mod versions;
