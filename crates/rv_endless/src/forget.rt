@@ -1,6 +1,6 @@
 //! What a cut forgets: its events go into what is known of the past, and the others into a new
 //! window.
-ghost use Rattle.std.specs.Prelude.{◌≡◌, ◌≢◌, ◌<◌, ◌+◌, ◌++◌, All, IfOk, IfSome, IsFalse, IsSome};
+ghost use Rattle.std.specs.Prelude.{◌≡◌, ◌≢◌, ◌<◌, ◌+◌, ◌++◌, [], All, IfOk, IfSome, IsFalse, IsSome};
 ghost use Rattle.std.specs.Prelude.{IsTrue, List, length};
 ghost use Rattle.rv_book.specs.Booked.{IsTaken};
 ghost use Rattle.rv_event.specs.declared.event.Op.TheVariants.{Carrier};
@@ -33,19 +33,44 @@ pub(crate) fn book_of_kept(alloc: Global, book: &Book, cut: &Cut) -> Result<Opti
     ensures some { All (λ m. m.op ≢ Carrier) (events book.now.log) →
         KeepsPairs (first_of cut.now) (events book.now.log) → IfOk result IsSome }
 {
-    // For the proof alone, which has from this call that the window has a lawful order.
-    windows_are_lawful();
     let mut kept = Book::new(alloc, book.model());
+    match take_kept(alloc, &mut kept, book, cut) {
+        Ok(true) => Ok(Some(kept)),
+        Ok(false) => {
+            drop(kept);
+            Ok(None)
+        }
+        Err(error) => {
+            drop(kept);
+            Err(error)
+        }
+    }
+}
+
+/// Takes what the cut keeps of a book into an empty one. Whether all of it was taken.
+///
+/// # Errors
+/// `NoMemory` where it could not be had.
+fn take_kept(alloc: Global, kept: &mut Book, book: &Book, cut: &Cut) -> Result<bool, NoMemory>
+    requires { IsBookOf kept.old book.now.model [] }
+    ensures taken { IfOk result (λ is. IsTrue is → IsBookOf kept.new book.now.model
+        (window (first_of cut.now) book.now.log)) }
+    ensures all { All (λ m. m.op ≢ Carrier) (events book.now.log) →
+        KeepsPairs (first_of cut.now) (events book.now.log) → IfOk result IsTrue }
+{
+    // For the proof alone, which has from these calls that the window has a lawful order.
+    windows_are_lawful();
+    let _ = book.model();
     'entries: for entry in book.log() {
         if cut.is_past(entry.event.id) {
             continue;
         }
         let moved = renumber(alloc, entry, cut.first(entry.event.id.hart))?;
-        if !take_in(&mut kept, &moved)? {
-            return Ok(None);
+        if !take_in(kept, &moved)? {
+            return Ok(false);
         }
     }
-    Ok(Some(kept))
+    Ok(true)
 }
 
 /// Whether the book took the entry.

@@ -30,6 +30,7 @@ use rv_cut::{Cut, find_cut, last_exclusive};
 use rv_event::{Entry, Event, Fault, MemoryModel, NoMemory, Op, find_fault};
 use rv_past::{Facts, Misfit, Past, PastEdge};
 use std::alloc::Global;
+use std::mem::replace;
 
 /// A run of any length: a window of the events that were accepted last, and what is known of those
 /// before, which were forgotten.
@@ -144,12 +145,12 @@ impl Endless {
         ensures model { self.new.book.model ≡ self.old.book.model }
     {
         let cut = find_cut(self.alloc, &self.book, self.active.as_slice(), patience)?;
+        self.past.reserve(self.book.log().len())?;
+        self.facts.reserve(self.book.log().len())?;
         let Some(book) = book_of_kept(self.alloc, &self.book, &cut)? else {
             return Ok(());
         };
         let window = self.book.log();
-        self.past.reserve(window.len())?;
-        self.facts.reserve(window.len())?;
         forget(
             self.alloc,
             &mut self.past,
@@ -160,7 +161,7 @@ impl Endless {
         );
         forget_exclusives(self.alloc, &mut self.exclusives, window, &self.firsts, &cut);
         self.firsts = self.firsts.then(&cut);
-        self.book = book;
+        drop(replace(&mut self.book, book));
         Ok(())
     }
 

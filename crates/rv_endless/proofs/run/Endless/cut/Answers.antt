@@ -20,6 +20,18 @@ returns-in_err-reserve-2-clause-stands c = λ log stands.
     (c.in_ok-reserve.ensures.same (events stands.gone.0) stands.gone.1.past)
     (c.in_err-reserve-2.ensures.same stands.gone.0 stands.gone.1.facts)
 
+pub returns-in_err-book-clause-stands : goal.returns-in_err-book-clause-stands
+returns-in_err-book-clause-stands c = λ log stands.
+    stands-with c.args.self.now log stands c.reserve.new.self c.reserve-2.new.self
+    (c.in_ok-reserve.ensures.same (events stands.gone.0) stands.gone.1.past)
+    (c.in_ok-reserve-2.ensures.same stands.gone.0 stands.gone.1.facts)
+
+pub returns-in_default-clause-stands : goal.returns-in_default-clause-stands
+returns-in_default-clause-stands c = λ log stands.
+    stands-with c.args.self.now log stands c.reserve.new.self c.reserve-2.new.self
+    (c.in_ok-reserve.ensures.same (events stands.gone.0) stands.gone.1.past)
+    (c.in_ok-reserve-2.ensures.same stands.gone.0 stands.gone.1.facts)
+
 pub returns-clause-stands : goal.returns-clause-stands
 returns-clause-stands c = λ log stands.
     let is-cut = subst (λ (xs : List ℕ). IsCutOf c.args.self.now.book.model (events c.args.self.now.book.log) xs
@@ -34,7 +46,9 @@ returns-clause-stands c = λ log stands.
     (numbers c.args.self.now log stands c.args.patience c.in_ok-cut.cut is-cut) in
     let known-fresh = subst (λ (xs : List Entry). AreFresh c.args.self.now.firsts stands.gone.0 xs) (sym here)
     (fresh c.args.self.now log stands c.args.patience c.in_ok-cut.cut is-cut formed) in
-    cut-stands c.args.self.now log stands c.args.patience c.in_ok-cut.cut is-cut _ book-is
+    cut-stands c.args.self.now log stands c.args.patience c.in_ok-cut.cut is-cut _
+    (subst (λ (b : Booked). IsBookOf b c.args.self.now.book.model
+    (window (first_of c.in_ok-cut.cut) c.args.self.now.book.log)) (sym c.replace.ensures.after) book-is)
     (λ hart low. let same = c.then-self.ensures hart in omega (arith, same, low)) refl refl refl
     (subst (λ (xs : List Entry). AreGone
     (events (stands.gone.0 ++ forgotten_of c.args.self.now.firsts c.in_ok-cut.cut xs))

@@ -10,7 +10,7 @@ use Rattle.rv_event.specs.declared.event.Op.TheVariants.{Carrier}
 use Rattle.rv_event.specs.declared.memory_model.MemoryModel.{MemoryModel}
 use Rattle.rv_settle.specs.Windows.{KeepsPairs, counted_from, renumbered, window}
 use Rattle.std.proofs.Common.{ℕ, ◌≡◌, ◌≢◌, ◌∙◌, ◌++◌, ◌∷◌, [], All, List, ap, subst, sym, take}
-use Rattle.rv_endless.proofs.forget.book_of_kept.Goals as goal
+use Rattle.rv_endless.proofs.forget.take_kept.Goals as goal
 
 -- the entry, counted from the hart's first number of the cut, is as the window has it
 moved-is : (cut : List ℕ) (x moved : Entry) (first : ℕ) → first ≡ first_of cut x.event.id.hart →
@@ -18,8 +18,8 @@ moved-is : (cut : List ℕ) (x moved : Entry) (first : ℕ) → first ≡ first_
     moved ≡ record x { event = renumbered (first_of cut) x.event }
 moved-is cut x moved first is same = same ∙ ap (λ (n : ℕ). record x { event = counted_from n x.event }) is
 
-pub returns-then-not-branch-clause-some : goal.returns-then-not-branch-clause-some
-returns-then-not-branch-clause-some c = λ plain pairs.
+pub returns-then-not-branch-clause-all : goal.returns-then-not-branch-clause-all
+returns-then-not-branch-clause-all c = λ plain pairs.
     let here = sym c.log-entry-items.ensures.value in
     let moved = moved-is c.args.cut.now c.entry-item.result c.in_ok-moved.moved c.first.result c.first.ensures
     c.in_ok-moved.ensures in
