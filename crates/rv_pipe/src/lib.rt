@@ -9,8 +9,11 @@
 //!   taken yet.
 //! - [`pipe`]: the two ends. [`piped`]: the reader.
 //!
-//! It stands on std alone. Its one contract: what is taken of the bytes that were handed over are
-//! the first of them, and the others stay.
+//! - `specs/`: when a row stands among bytes, and where the first one ends (`Rows`).
+//!
+//! It stands on std alone. Its one contract to the others: whoever takes bytes that are there gets
+//! some. What is taken are the first that were handed over, to the end of a row or as many as there
+//! is room for, and the others stay.
 #![tactic(auto)]
 
 mod bell;

@@ -1,6 +1,8 @@
 //! Bytes that were handed over and not taken yet.
-ghost use Rattle.std.specs.Prelude.{◌≡◌, ◌≢◌, ◌≤◌, ◌<◌, ◌↔◌, ◌+◌, ◌++◌, [], length, take, drop, IsTrue, false};
-ghost use Rattle.rv_pipe.specs.Rows.{has_row, is_line_end};
+ghost use Rattle.std.specs.Prelude.{◌≡◌, ◌≢◌, ◌≤◌, ◌<◌, ◌↔◌, ◌+◌, ◌++◌, [], ◌==◌, length, min, not, take, drop};
+ghost use Rattle.std.specs.Prelude.{IsTrue, ℕ};
+ghost use Rattle.std.specs.List.{position};
+ghost use Rattle.rv_pipe.specs.Rows.{HasRow, IsRowEnd, has_feed, is_line_end};
 
 use std::marker::Model;
 
@@ -35,17 +37,40 @@ fn ends_line(byte: u8) -> bool
     byte == b'\n' || byte == b'\r'
 }
 
+/// Whether a line feed stands behind the line ends that the bytes begin with.
+fn has_feed(bytes: &[u8]) -> bool
+    ensures { result ≡ has_feed bytes.now }
+{
+    bytes
+        .iter()
+        .skip_while(|b| ends_line(**b))
+        .any(|b| *b == b'\n')
+}
+
+/// The place of the first byte that ends no line.
+fn find_text(bytes: &[u8]) -> Option<usize>
+    ensures { result ≡ position (λ byte. not (is_line_end byte)) bytes.now }
+{
+    bytes.iter().position(|b| !ends_line(*b))
+}
+
+/// The place of the first line feed.
+fn find_feed(bytes: &[u8]) -> Option<usize>
+    ensures { result ≡ position (λ byte. byte == 10) bytes.now }
+{
+    bytes.iter().position(|b| *b == b'\n')
+}
+
 /// The place behind the first row and its line feed, or that behind the last byte.
 fn row_end(bytes: &[u8]) -> usize
-    ensures bound { result ≤ length bytes.now }
+    ensures end { IsRowEnd bytes.now result }
     ensures some { bytes.now ≢ [] → 0 < result }
 {
-    let blank = match bytes.iter().position(|b| !ends_line(*b)) {
-        Some(at) => at,
-        None => return bytes.len(),
+    let Some(text) = find_text(bytes) else {
+        return bytes.len();
     };
-    match bytes[blank..].iter().position(|b| *b == b'\n') {
-        Some(at) => blank + at + 1,
+    match find_feed(&bytes[text..]) {
+        Some(feed) => text + feed + 1,
         None => bytes.len(),
     }
 }
@@ -72,17 +97,14 @@ impl Lines {
 
     /// Whether a row stands here: a line feed, behind something that is none.
     fn has_row(&self) -> bool
-        ensures { result ≡ has_row self.now }
+        ensures { IsTrue result ↔ HasRow self.now }
     {
-        self.as_slice()
-            .iter()
-            .skip_while(|b| ends_line(**b))
-            .any(|b| *b == b'\n')
+        has_feed(self.as_slice())
     }
 
     /// Whether more may be put behind these: no row stands here, and a block has room.
     pub(crate) fn has_room(&self) -> bool
-        ensures { IsTrue result ↔ (length self.now ≤ SIZE) × (has_row self.now ≡ false) }
+        ensures { IsTrue result ↔ (length self.now ≤ SIZE) × (HasRow self.now → ⊥) }
     {
         self.as_slice().len() <= SIZE && !self.has_row()
     }
@@ -111,6 +133,7 @@ impl Lines {
     pub(crate) fn take(&mut self, buf: &mut [u8]) -> usize
         ensures bound { result ≤ length buf.new }
         ensures some { self.old ≢ [] → 0 < length buf.new → 0 < result }
+        ensures row { (count : ℕ) × IsRowEnd self.old count × (result ≡ min count (length buf.new)) }
         ensures taken { take result buf.new ≡ take result self.old }
         ensures left { self.new ≡ drop result self.old }
     {

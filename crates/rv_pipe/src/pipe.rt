@@ -1,6 +1,6 @@
 //! The two ends of a pipe: a thread that reads a source, and whoever takes what came.
 ghost use Rattle.std.specs.Prelude.{◌≡◌, ◌≤◌, ◌<◌, ◌↔◌, length, IfOk, IsTrue, None, false};
-ghost use Rattle.rv_pipe.specs.Rows.{has_row};
+ghost use Rattle.rv_pipe.specs.Rows.{HasRow};
 
 use crate::bell::Bell;
 use crate::lines::{Lines, SIZE};
@@ -35,7 +35,7 @@ impl Held {
     /// there is taken at once.
     fn is_dry(&self) -> bool
         ensures { IsTrue result ↔ (self.now.end ≡ None) × (length self.now.lines ≤ SIZE)
-            × (has_row self.now.lines ≡ false) }
+            × (HasRow self.now.lines → ⊥) }
     {
         self.end.is_none() && self.lines.has_room()
     }
