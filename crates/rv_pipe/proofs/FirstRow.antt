@@ -1,8 +1,9 @@
 -- The end of the first row among bytes.
 use Rattle.rv_pipe.proofs.Scanned.{not-feed}
 use Rattle.rv_pipe.specs.Rows.{HasRow, IsRowEnd, is_line_end}
-use Rattle.std.proofs.Common.{◌≡◌, ◌∙◌, ◌<◌, ◌≤◌, ◌+◌, ◌-◌, ℕ, ◌==◌, Bool, List, None, Some, ap, arith, drop, eq-eqb, eqb-true}
-use Rattle.std.proofs.Common.{false, get_or, inl, inr, length, length-drop, length-take, not, refl, sym, take, true}
+use Rattle.std.proofs.Common.{◌≡◌, ◌∙◌, ◌<◌, ◌≤◌, ◌+◌, ◌-◌, ℕ, ◌==◌, Bool, List, None, Some, ap, arith}
+use Rattle.std.proofs.Common.{drop, eq-eqb, eqb-true, false, get_or, inl, inr, length, length-drop}
+use Rattle.std.proofs.Common.{length-take, not, refl, sym, take, true}
 use Rattle.std.proofs.lemmas.Bool.{cases_lt, false≢true}
 use Rattle.std.proofs.lemmas.Grind.{common_steps}
 use Rattle.std.proofs.lemmas.List.{get_or-drop, get_or-take, take_all}

@@ -1,7 +1,7 @@
 -- A row among bytes is found behind the line ends that they begin with.
 use Rattle.rv_pipe.specs.Rows.{HasRow, has_feed, is_line_end}
-use Rattle.std.proofs.Common.{◌≡◌, ◌∙◌, ◌<◌, ◌≤◌, ◌+◌, ◌-◌, ℕ, ◌==◌, List, ap, arith, drop, eq-eqb, eqb-true, false, get_or}
-use Rattle.std.proofs.Common.{inl, inr, length, length-drop, sym, true}
+use Rattle.std.proofs.Common.{◌≡◌, ◌∙◌, ◌<◌, ◌≤◌, ◌+◌, ◌-◌, ℕ, ◌==◌, List, ap, arith, drop, eq-eqb}
+use Rattle.std.proofs.Common.{eqb-true, false, get_or, inl, inr, length, length-drop, sym, true}
 use Rattle.std.proofs.lemmas.Bool.{cases_lt, false≢true}
 use Rattle.std.proofs.lemmas.List.{get_or-drop, get_or_default}
 use Rattle.std.proofs.lemmas.List.Folds.{Any-from_list_any, list_any_at}

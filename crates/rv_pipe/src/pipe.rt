@@ -1,5 +1,5 @@
 //! The two ends of a pipe: a thread that reads a source, and whoever takes what came.
-ghost use Rattle.std.specs.Prelude.{◌≡◌, ◌≤◌, ◌<◌, ◌↔◌, length, IfOk, IsTrue, None, false};
+ghost use Rattle.std.specs.Prelude.{◌≡◌, ◌≤◌, ◌<◌, ◌↔◌, length, IfOk, IsTrue, None};
 ghost use Rattle.rv_pipe.specs.Rows.{HasRow};
 
 use crate::bell::Bell;
