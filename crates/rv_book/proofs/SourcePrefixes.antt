@@ -8,7 +8,7 @@ use Rattle.rv_book.proofs.Common.{IsContinued, IsChunkOffered, ChunkOffer, Appli
 use Rattle.rv_book.proofs.Common.{Stopped, NoMemory}
 
 -- what the entries made of a source's events give
-given-entries : (source : ℕ) (es : List Event) → given_by source (entries_of source es) ≡ es
+pub given-entries : (source : ℕ) (es : List Event) → given_by source (entries_of source es) ≡ es
 given-entries source [] = refl
 given-entries source (e ∷ es) =
     ap (λ (b : Bool). events (cond b (record { source = source; event = e } ∷ from_source source (entries_of source es))

@@ -233,8 +233,9 @@ impl Book {
         }
     }
 
-    /// Offers an entry that the book keeps where it takes it.
-    fn take(&mut self, entry: Entry) -> Offer
+    /// The same as [`Book::offer`] for an entry that is given away: the book keeps it where it takes
+    /// it, so none is copied. On `NoMemory` the entry is gone.
+    pub fn take(&mut self, entry: Entry) -> Offer
         ensures accepted { OnAccepted result (IsTaken self.old self.new entry) }
         ensures malformed { IfMalformed result (IsMalformedOn self.old.model self.old.log entry) }
         ensures forbidden { IfForbidden result (IsForbiddenOn self.old.model self.old.log entry) }

@@ -4,6 +4,7 @@ use Rattle.rv_rank.proofs.Common.{length, get_or, take, drop, reverse, sym, ◌�
 use Rattle.rv_rank.proofs.Common.{filter, drop-cons, get_or-take, get_or-drop, length-take, reverse-append}
 use Rattle.rv_rank.proofs.Common.{take-append-drop, filter_more, filter-append, length-filter, count_by-le-length}
 use Rattle.rv_rank.proofs.Common.{common_steps}
+use Rattle.std.proofs.lemmas.List.{append-nil}
 
 filter_same : (t u : ℕ → Bool) (xs : List ℕ) →
     ((k : ℕ) → k < length xs → t (get_or xs k 0) ≡ u (get_or xs k 0)) → filter t xs ≡ filter u xs
@@ -49,6 +50,14 @@ pub listed_down_more : (t u : ℕ → Bool) (xs : List ℕ) (r : ℕ) → r < le
 listed_down_more t u xs r l h e =
     grind (arith, common_steps, drop-cons, reverse-append, filter_same, length-drop, get_or-drop)
 
+-- none passes from place r on
+pub listed_past : (t : ℕ → Bool) (xs : List ℕ) (r : ℕ) →
+    ((k : ℕ) → r ≤ k → k < length xs → t (get_or xs k 0) ≡ false) → filter t (drop r xs) ≡ []
+listed_past t xs r h = filter_none t (drop r xs) (λ k l.
+    let long = length-drop r xs in
+    let q = get_or-drop r xs k 0 in
+    rw q (h (r + k) (omega arith) (omega (arith, long, l))))
+
 -- all that pass do so from place r on
 pub listed_from : (t : ℕ → Bool) (xs : List ℕ) (r : ℕ) →
     ((k : ℕ) → k < r → k < length xs → t (get_or xs k 0) ≡ false) → filter t (drop r xs) ≡ filter t xs
@@ -56,3 +65,11 @@ listed_from t xs r h =
     let none = listed_none t xs r h in
     ap (λ s. s ++ filter t (drop r xs)) (sym none) ∙ sym (filter-append t (take r xs) (drop r xs)) ∙
     ap (filter t) (take-append-drop r xs)
+
+-- all that pass do so up to place r
+pub listed_to : (t : ℕ → Bool) (xs : List ℕ) (r : ℕ) →
+    ((k : ℕ) → r ≤ k → k < length xs → t (get_or xs k 0) ≡ false) → filter t (take r xs) ≡ filter t xs
+listed_to t xs r h =
+    let none = listed_past t xs r h in
+    sym (append-nil (filter t (take r xs))) ∙ ap (λ s. filter t (take r xs) ++ s) (sym none)
+    ∙ sym (filter-append t (take r xs) (drop r xs)) ∙ ap (filter t) (take-append-drop r xs)

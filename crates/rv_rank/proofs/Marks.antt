@@ -4,8 +4,8 @@ use Rattle.rv_rank.proofs.Common.{take, inl, inr, sym, ◌∙◌, arith, ap, ref
 use Rattle.rv_rank.proofs.Common.{get_or-set_same, get_or-set_other, get_or_past, get_or_default, cases_eq}
 use Rattle.rv_rank.proofs.Common.{cases_lt, cond-true, cond-false, lt-ltb, le-ltb, common_steps, rules, Mark}
 use Rattle.rv_rank.proofs.Common.{Free, Start, After, Behind, IsInverse, mark_of, IsMarked, IsSpread}
-use Rattle.rv_rank.specs.Marks.{mark_at}
-use Rattle.rv_rank.proofs.Common.{is_free, is_ahead, is_behind}
+use Rattle.rv_rank.specs.Marks.{IsFreeFrom, IsSameFrom, NoneFrom, mark_at}
+use Rattle.rv_rank.proofs.Common.{is_free, is_ahead, is_behind, not}
 use Rattle.rv_rank.proofs.Lists.{Contains-take_more, Contains-take_kept, Contains-take_last}
 
 -- a mark is free or not
@@ -43,6 +43,13 @@ not_behind Start e = λ q. cc
 not_behind (After u) e = λ q. cc
 not_behind Behind e = cc
 
+-- one that is not does not
+pub behind_else : (m : Mark) → m ≢ Behind → is_behind m ≡ false
+behind_else Free n = refl
+behind_else Start n = refl
+behind_else (After u) n = refl
+behind_else Behind n = absurd (n refl)
+
 -- no mark is both
 pub behind_not_ahead : (m : Mark) → is_behind m ≡ true → is_ahead m ≡ false
 behind_not_ahead Free e = cc
@@ -77,7 +84,8 @@ marked_within low ranks marks a long m =
 abbrev pub IsOnce : List ℕ → Type 0
 IsOnce ranks = (a b : ℕ) → a < length ranks → b < length ranks → get_or ranks a 0 ≡ get_or ranks b 0 → a ≡ b
 
-mark_of-set_other : (low : ℕ) (ranks : List ℕ) (marks : List Mark) (a t : ℕ) (m : Mark) → IsOnce ranks →
+-- another rank's mark is set
+pub mark_of-set_other : (low : ℕ) (ranks : List ℕ) (marks : List Mark) (a t : ℕ) (m : Mark) → IsOnce ranks →
     t < length ranks → get_or ranks t 0 < length ranks → low ≤ get_or ranks t 0 → a ≢ t →
     mark_of low ranks (set marks (get_or ranks t 0 - low) m) a ≡ mark_of low ranks marks a
 mark_of-set_other low ranks marks a t m once lt below high n =
@@ -90,6 +98,15 @@ mark_of-set_other low ranks marks a t m once lt below high n =
       get_or-set_other,
       rules,
     )
+
+-- what was the same from a rank on is so from behind a rank that is marked
+pub IsSameFrom-set :
+    (ranks : List ℕ) (low : ℕ) (old new : List Mark) (t : ℕ) (m : Mark) (top next : ℕ) → IsOnce ranks →
+    t < length ranks → get_or ranks t 0 < length ranks → low ≤ get_or ranks t 0 → IsSameFrom ranks low old new top →
+    top ≤ next → get_or ranks t 0 < next → IsSameFrom ranks low old (set new (get_or ranks t 0 - low) m) next
+IsSameFrom-set ranks low old new t m top next once lt below high same up over a la from =
+    mark_of-set_other low ranks new a t m once lt below high
+    (λ e. omega (arith, from, over, ap (λ x. get_or ranks x 0) e)) ∙ same a la (omega (arith, up, from))
 
 -- one more target was marked
 pub IsSpread-more : (ranks : List ℕ) (low : ℕ) (old new : List Mark) (mark : Mark) (targets : List ℕ) (i : ℕ) →
@@ -170,3 +187,16 @@ read_free low ranks marks a r l h e f = search (read_of, rules)
 pub read_marked : (low : ℕ) (ranks : List ℕ) (marks : List Mark) (a r : ℕ) → a < length ranks → low ≤ r →
     r ≡ get_or ranks a 0 → is_free (get_or marks (r - low) Free) ≡ false → IsMarked low ranks marks a
 read_marked low ranks marks a r l h e f q = search (read_of, rules)
+
+-- where no node is marked from a rank on, no rank is a slot
+pub none_from : (low : ℕ) (nodes ranks : List ℕ) (marks : List Mark) (top : ℕ) → IsInverse nodes ranks →
+    low + length marks ≡ length ranks → IsFreeFrom ranks low marks top → NoneFrom low marks top
+none_from low nodes ranks marks top h long free r from = ap (λ m. not (is_free m)) (at (cases_lt r (length nodes)))
+  where
+    at : (r < length nodes) ⊎ (length nodes ≤ r) → mark_at low marks r ≡ Free
+    at (inl l) =
+        let here = h.there r l in
+        ap (mark_at low marks) (sym here.1) ∙ sym (mark_of-node low ranks marks (get_or nodes r 0) here.0)
+        ∙ free (get_or nodes r 0) here.0 (omega (arith, from, here.1))
+    at (inr past) = mark_at-above low marks r (omega (arith, long, past, h.long))
+        ∙ get_or_past marks (r - low) Free (omega (arith, long, past, h.long))

@@ -3,6 +3,7 @@ use Rattle.rv_rank.proofs.Common.{◌≡◌, ◌≢◌, ℕ, zero, suc, ◌+◌,
 use Rattle.rv_rank.proofs.Common.{sym, ◌∙◌, arith, ap, refl, subst, All, Contains-get_or, get_or_past, cases_eq}
 use Rattle.rv_rank.proofs.Common.{cases_lt, common_steps, rules, Mark, Free, Start, After, Behind, Edge, Reaches}
 use Rattle.rv_rank.proofs.Common.{here, step, IsOrder, IsAhead, mark_of, IsMarked, IsSpread, IsSearched}
+use Rattle.rv_rank.specs.Marks.{IsFreeFrom}
 use Rattle.rv_rank.proofs.Marks.{cases_free, marked_within}
 
 -- an edge leads to a node
@@ -62,6 +63,22 @@ pub IsSearched-skip : (edges : List (List ℕ)) (ranks succs : List ℕ) (low : 
     IsOrder edges ranks → IsSearched edges ranks succs low marks r → get_or ranks v 0 ≡ r → v < length ranks →
     mark_of low ranks marks v ≡ Free → IsSearched edges ranks succs low marks (r + 1)
 IsSearched-skip edges ranks succs low marks r v o h at below free = grind (arith, common_steps)
+
+-- where no node is marked from a rank on, the search is through
+pub IsSearched-all : (edges : List (List ℕ)) (ranks succs : List ℕ) (low : ℕ) (marks : List Mark) (r top : ℕ) →
+    IsSearched edges ranks succs low marks r → IsFreeFrom ranks low marks top → top ≤ r →
+    IsSearched edges ranks succs low marks (length ranks)
+IsSearched-all edges ranks succs low marks r top h free low_top = record {
+  long = h.long;
+  begun = h.begun;
+  closed = λ a b below m e. elim (cases_lt (get_or ranks a 0) r) [
+    | inl under ↦ h.closed a b under m e
+    | inr over ↦ absurd (m (free a (marked_within low ranks marks a h.long m).0 (omega (arith, over, low_top))))
+  ];
+  start = h.start;
+  after = h.after;
+  forward = h.forward;
+}
 
 -- what is reached from a marked node is marked
 pub reached_marked : (edges : List (List ℕ)) (ranks succs : List ℕ) (low : ℕ) (marks : List Mark) →

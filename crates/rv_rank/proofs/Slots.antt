@@ -1,8 +1,8 @@
 -- The slots of an order, filled one after another.
 use Rattle.rv_rank.proofs.Common.{◌≡◌, ◌≢◌, ℕ, zero, suc, ◌+◌, ◌-◌, ◌<◌, ◌≤◌, Bool, true, false, cond, List}
 use Rattle.rv_rank.proofs.Common.{length, get_or, set, inl, inr, sym, ◌∙◌, arith, ap, refl, get_or-set_same}
-use Rattle.rv_rank.proofs.Common.{get_or-set_other, length-set, cases_eq, false≢true, common_steps, count_below}
-use Rattle.rv_rank.proofs.Common.{members_of, IsMended}
+use Rattle.rv_rank.proofs.Common.{get_or-set_other, length-set, cases_eq, cases_lt, false≢true, common_steps}
+use Rattle.rv_rank.proofs.Common.{count_below, members_of, IsMended}
 
 -- a count of slots goes up at one
 pub below_yes : (s : ℕ → Bool) (k : ℕ) → s k ≡ true → count_below s (k + 1) ≡ count_below s k + 1
@@ -86,6 +86,22 @@ IsMended-more slot members nodes ranks new_nodes new_ranks r h b e m within apar
       ahead = λ k l. there k (λ q. omega arith) ∙ h.ahead k (omega arith);
       others = λ a n. rank_there a (λ q. n i m (sym q)) ∙ h.others a n;
     }
+
+-- where there are no slots from a rank on, all have taken their members
+pub IsMended-all : (slot : ℕ → Bool) (members nodes ranks new_nodes new_ranks : List ℕ) (r n : ℕ) →
+    IsMended slot members nodes ranks new_nodes new_ranks r → ((k : ℕ) → r ≤ k → k < n → slot k ≡ false) → r ≤ n →
+    IsMended slot members nodes ranks new_nodes new_ranks n
+IsMended-all slot members nodes ranks new_nodes new_ranks r n h none few = record {
+  long_nodes = h.long_nodes;
+  long_ranks = h.long_ranks;
+  filled = λ k l f. elim (cases_lt k r) [
+    | inl under ↦ h.filled k under f
+    | inr over ↦ absurd (false≢true (sym (none k over l) ∙ f))
+  ];
+  spared = λ k l f. elim (cases_lt k r) [ inl under ↦ h.spared k under f | inr over ↦ h.ahead k over ];
+  ahead = λ k from. h.ahead k (omega (arith, few, from));
+  others = h.others;
+}
 
 -- there is one member more than visits
 pub members_of-long : (visits : List ℕ) (split node : ℕ) → split ≤ length visits →

@@ -2,6 +2,7 @@
 use Rattle.rv_rank.proofs.Common.{◌≡◌, ◌≢◌, ℕ, ◌+◌, ◌<◌, ◌≤◌, List, length, get_or, inl, inr, sym, ◌∙◌, arith, ap}
 use Rattle.rv_rank.proofs.Common.{All, Contains, All-contains, cases_eq, rules, common_steps, Mark, Free, Behind}
 use Rattle.rv_rank.proofs.Common.{Edge, Reaches, here, step, IsOrder, mark_of, IsSpread, IsSearched, IsTraced}
+use Rattle.rv_rank.specs.Marks.{IsSameFrom}
 use Rattle.rv_rank.proofs.Marks.{cases_free, marked_within}
 
 -- a mark behind is not free
@@ -24,6 +25,22 @@ module _ (edges : List (List ℕ)) (ranks succs preds : List ℕ) (low : ℕ) (a
       | inr k ↦ absurd (h.forward a (sym (s.kept a k) ∙ m))
     ];
   }
+
+  -- and so it is from a rank on where no mark changed
+  pub IsTraced-start : (new : List Mark) (end : ℕ) → All (λ p. mark_of low ranks ahead p ≡ Free) preds →
+      IsSpread ranks low ahead new Behind preds → IsSameFrom ranks low ahead new end →
+      IsTraced edges ranks preds low ahead new end
+  IsTraced-start new end free s same =
+      let t = IsTraced-begin new free s in record {
+        long = t.long;
+        kept = t.kept;
+        fresh = t.fresh;
+        begun = t.begun;
+        closed = λ a b from m e up.
+            let within = marked_within low ranks new b (omega (arith, t.long, h.long)) (behind_marked _ m) in
+            absurd (h.forward b (sym (same b within.0 from) ∙ m));
+        sound = t.sound;
+      }
 
   -- what leads to a node found backward was not found forward
   source_free : (old : List Mark) (r a v : ℕ) → IsTraced edges ranks preds low ahead old r →

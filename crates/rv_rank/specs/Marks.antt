@@ -87,3 +87,17 @@ pub record IsTraced (edges : List (List ℕ)) (ranks preds : List ℕ) (low : �
       low ≤ slice_index ranks a → mark_of low ranks marks a ≡ Behind
   pub sound : (a : ℕ) → mark_of low ranks marks a ≡ Behind →
       (low ≤ slice_index ranks a) × ((p : ℕ) × Contains preds p × Reaches edges a p)
+
+-- from this rank on no mark changed
+abbrev pub IsSameFrom : List ℕ → ℕ → List Mark → List Mark → ℕ → Type 0
+IsSameFrom ranks low old new top =
+    (a : ℕ) → a < length ranks → top ≤ slice_index ranks a → mark_of low ranks new a ≡ mark_of low ranks old a
+
+-- from this rank on no node is marked
+abbrev pub IsFreeFrom : List ℕ → ℕ → List Mark → ℕ → Type 0
+IsFreeFrom ranks low marks top =
+    (a : ℕ) → a < length ranks → top ≤ slice_index ranks a → mark_of low ranks marks a ≡ Free
+
+-- from this rank on no rank is a slot
+abbrev pub NoneFrom : ℕ → List Mark → ℕ → Type 0
+NoneFrom low marks top = (r : ℕ) → top ≤ r → is_slot low marks r ≡ false

@@ -3,14 +3,14 @@
 //! The ranks respect the kept edges. So a pass by rising rank over the nodes found from the
 //! successors meets each of them after all that lead to it, and a pass by falling rank over those
 //! found from the predecessors meets each before all that lead to it. Neither pass needs a
-//! worklist, and each node is visited once.
+//! worklist, and each node is visited once. No pass goes above the highest rank that was marked.
 ghost use Rattle.std.specs.Prelude.{◌≡◌, ◌≢◌, ◌↔◌, ℕ, ◌+◌, ◌-◌, ◌<◌, List, [], ◌≤◌, ◌*◌, ◌++◌, length, reverse};
 ghost use Rattle.std.specs.Prelude.{slice_index, slice_index_or, IsTrue, IfOk, IfErr, OnErr, MatchOption};
 ghost use Rattle.std.specs.List.{All, Contains};
 ghost use Rattle.rv_rank.specs.Graph.{IsOrder, IsTrail};
 ghost use Rattle.rv_rank.specs.Order.{IsInverse};
 ghost use Rattle.rv_rank.specs.Marks.{IsSpread, IsSearched, IsTraced, IsMarked, mark_of, is_free, is_behind};
-ghost use Rattle.rv_rank.specs.Marks.{is_slot};
+ghost use Rattle.rv_rank.specs.Marks.{is_slot, IsFreeFrom, IsSameFrom, NoneFrom};
 ghost use Rattle.rv_rank.specs.Found.{IsSameGraph, IsFound, found_ahead, found_behind};
 ghost use Rattle.rv_rank.specs.Placing.{IsRefusal, OnlyAffected};
 
@@ -48,11 +48,12 @@ impl Mark {
     }
 }
 
-/// The affected nodes: a mark for each rank from `low` up, and how many of the visits were made
-/// forward.
+/// The affected nodes: a mark for each rank from `low` up, all of them free from `top` up, and how
+/// many of the visits were made forward.
 #[derive(Drop)]
 pub struct Found {
     pub low: usize,
+    pub top: usize,
     pub split: usize,
     pub marks: Vec<Mark>,
 }
@@ -86,6 +87,7 @@ pub fn search(
     requires room { 2 * length walk.old.edges ≤ walk.old.room }
     ensures found { IfOk result (λ f. IsFound walk.old.edges order.now preds.now succs.now
         f.low f.marks.items f.split walk.new.visits) }
+    ensures top { IfOk result (λ f. NoneFrom f.low f.marks.items f.top) }
     ensures refused { IfErr result (IsRefusal walk.old.edges preds.now succs.now) }
     ensures affected { OnErr result
         (OnlyAffected walk.old.edges order.now.ranks preds.now succs.now walk.new.visits) }
@@ -93,11 +95,23 @@ pub fn search(
 {
     let low = order.least_rank(succs);
     let mut marks = vec![in alloc; Mark::Free; order.len() - low]?;
-    let split = sweep(alloc, walk, order, preds, succs, low, &mut marks)?;
-    Ok(Found { low, split, marks })
+    let Swept { split, top } = sweep(alloc, walk, order, preds, succs, low, &mut marks)?;
+    Ok(Found {
+        low,
+        top,
+        split,
+        marks,
+    })
 }
 
-/// Marks the two sets, and answers how many visits were made forward.
+/// How many visits were made forward, and a rank from which on nothing is marked.
+#[derive(Clone, Copy)]
+struct Swept {
+    split: usize,
+    top: usize,
+}
+
+/// Marks the two sets.
 fn sweep(
     alloc: Global,
     walk: &mut Walk,
@@ -106,7 +120,7 @@ fn sweep(
     succs: &[u32],
     low: usize,
     marks: &mut [Mark],
-) -> Result<usize, Refused>
+) -> Result<Swept, Refused>
     requires ordered { IsOrder walk.old.edges order.now.ranks }
     requires inverse { IsInverse order.now.nodes order.now.ranks }
     requires preds { All (λ p. p < length order.now.ranks) preds.now }
@@ -118,42 +132,64 @@ fn sweep(
     requires free { (k : ℕ) → slice_index_or marks.old k Mark.Free ≡ Mark.Free }
     requires begun { walk.old.visits ≡ [] }
     requires room { 2 * length walk.old.edges ≤ walk.old.room }
-    ensures found { IfOk result (λ split. IsFound walk.old.edges order.now preds.now succs.now
-        low marks.new split walk.new.visits) }
+    ensures found { IfOk result (λ s. IsFound walk.old.edges order.now preds.now succs.now
+        low marks.new s.split walk.new.visits) }
+    ensures top { IfOk result (λ s. NoneFrom low marks.new s.top) }
     ensures refused { IfErr result (IsRefusal walk.old.edges preds.now succs.now) }
     ensures affected { OnErr result
         (OnlyAffected walk.old.edges order.now.ranks preds.now succs.now walk.new.visits) }
     ensures same { IsSameGraph walk.old walk.new }
 {
-    sweep_forward(walk, order, low, succs, marks);
+    let top = sweep_forward(walk, order, low, succs, marks);
     let split = walk.visits().len();
     if let Some(end) = first_marked(order, low, marks, preds) {
         let path = trail(alloc, walk, order, succs, low, marks, end)?;
         return Err(Refused::Circle(path));
     }
-    sweep_backward(walk, order, low, preds, marks);
-    Ok(split)
+    let top = sweep_backward(walk, order, low, preds, marks, top);
+    Ok(Swept { split, top })
 }
 
-/// Marks the targets that are free and of rank `low` or above.
-fn mark_above(order: &Order, low: usize, marks: &mut [Mark], mark: Mark, targets: &[u32])
+/// Marks the targets that are free and of rank `low` or above. Answers the rank behind the highest
+/// that was marked, or `top` where that is higher.
+fn mark_above(
+    order: &Order,
+    low: usize,
+    marks: &mut [Mark],
+    mark: Mark,
+    targets: &[u32],
+    top: usize,
+) -> usize
     requires ordered { (a b : ℕ) → a < length order.now.ranks → b < length order.now.ranks →
         slice_index order.now.ranks a ≡ slice_index order.now.ranks b → a ≡ b }
     requires marks { mark ≢ Mark.Free }
     requires long { low + length marks.old ≡ length order.now.ranks }
     requires placed { All (λ t. t < length order.now.ranks) targets.now }
-    ensures { IsSpread order.now.ranks low marks.old marks.new mark targets.now }
+    ensures spread { IsSpread order.now.ranks low marks.old marks.new mark targets.now }
+    ensures same { IsSameFrom order.now.ranks low marks.old marks.new result }
+    ensures higher { top ≤ result }
+    ensures within { top ≤ length order.now.ranks → result ≤ length order.now.ranks }
 {
+    let mut top = top;
     for target in targets {
         let rank = order.rank(*target) as usize;
         if rank >= low && marks[rank - low].is_free() {
             marks[rank - low] = mark;
+            top = top.max(rank + 1);
         }
     }
+    top
 }
 
-/// Marks what edges reach from the successors, and visits just those nodes, by rising rank.
-fn sweep_forward(walk: &mut Walk, order: &Order, low: usize, succs: &[u32], marks: &mut [Mark])
+/// Marks what edges reach from the successors, and visits just those nodes, by rising rank. Answers
+/// a rank from which on nothing is marked.
+fn sweep_forward(
+    walk: &mut Walk,
+    order: &Order,
+    low: usize,
+    succs: &[u32],
+    marks: &mut [Mark],
+) -> usize
     requires ordered { IsOrder walk.old.edges order.now.ranks }
     requires inverse { IsInverse order.now.nodes order.now.ranks }
     requires succs { All (λ s. s < length order.now.ranks) succs.now }
@@ -166,19 +202,40 @@ fn sweep_forward(walk: &mut Walk, order: &Order, low: usize, succs: &[u32], mark
         (length order.now.ranks) }
     ensures visits { walk.new.visits ≡ found_ahead low order.now marks.new }
     ensures same { IsSameGraph walk.old walk.new }
+    ensures top { IsFreeFrom order.now.ranks low marks.new result }
+    ensures within { result ≤ length order.now.ranks }
 {
-    mark_above(order, low, marks, Mark::Start, succs);
+    let mut top = mark_above(order, low, marks, Mark::Start, succs, low);
     for rank in low..order.len() {
+        if rank >= top {
+            return top;
+        }
         if !marks[rank - low].is_free() {
             let node = order.node_at(rank);
-            mark_above(order, low, marks, Mark::After(node), walk.forward(node));
+            top = mark_above(
+                order,
+                low,
+                marks,
+                Mark::After(node),
+                walk.forward(node),
+                top,
+            );
         }
     }
+    top
 }
 
 /// Marks what reaches the predecessors by edges from rank `low` up, and visits just those nodes, by
-/// falling rank. No predecessor was found forward.
-fn sweep_backward(walk: &mut Walk, order: &Order, low: usize, preds: &[u32], marks: &mut [Mark])
+/// falling rank. No predecessor was found forward. Answers a rank from which on nothing is marked,
+/// where nothing was from `top` on.
+fn sweep_backward(
+    walk: &mut Walk,
+    order: &Order,
+    low: usize,
+    preds: &[u32],
+    marks: &mut [Mark],
+    top: usize,
+) -> usize
     requires ordered { IsOrder walk.old.edges order.now.ranks }
     requires inverse { IsInverse order.now.nodes order.now.ranks }
     requires preds { All (λ p. p < length order.now.ranks) preds.now }
@@ -187,20 +244,23 @@ fn sweep_backward(walk: &mut Walk, order: &Order, low: usize, preds: &[u32], mar
     requires free { All (λ p. mark_of low order.now.ranks marks.old p ≡ Mark.Free) preds.now }
     requires few { length walk.old.visits ≤ length order.now.ranks }
     requires room { 2 * length walk.old.edges ≤ walk.old.room }
+    requires top { IsFreeFrom order.now.ranks low marks.old top }
     ensures traced { IsTraced walk.old.edges order.now.ranks preds.now low marks.old marks.new low }
     ensures visits { walk.new.visits
         ≡ walk.old.visits ++ reverse (found_behind low order.now marks.new) }
     ensures same { IsSameGraph walk.old walk.new }
+    ensures top { IsFreeFrom order.now.ranks low marks.new result }
 {
-    mark_above(order, low, marks, Mark::Behind, preds);
-    let mut rank = order.len();
+    let end = mark_above(order, low, marks, Mark::Behind, preds, low);
+    let mut rank = end;
     while rank > low {
         rank -= 1;
         if marks[rank - low].is_behind() {
             let node = order.node_at(rank);
-            mark_above(order, low, marks, Mark::Behind, walk.backward(node));
+            mark_above(order, low, marks, Mark::Behind, walk.backward(node), low);
         }
     }
+    top.max(end)
 }
 
 /// The first of the nodes that is marked.

@@ -64,7 +64,7 @@ module _ (streams : List (Option Stream)) (fed : List Fed) (any : Fed) (same : l
         counted-true log whole at (omega (arith, here)) counts,
         here,
         other-one (get_or streams at None) (get_or fed at any) rows said (each at any here)
-            (whole.1 at any low).ended (lacks any).1,
+            (whole.1 at any low).ended ((lacks any).1, (lacks any).2, (lacks any).3),
       )
   end-true log whole Events (at, counts, low, lacks) = absurd (lacks any)
   end-true log whole (Store w) (at, counts, low, lacks) = absurd (lacks any)

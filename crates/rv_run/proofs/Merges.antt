@@ -162,7 +162,7 @@ goes-on log ess all each = record {
         ∙ behind-together source 0 (lefts 0 log ess) (omega (arith, high, length-lefts 0 log ess)) ∙
         sym (behind-together source 0 ess (omega (arith, high)))
 
-low-entries : (source n : ℕ) (es : List Event) → source < n → All (λ x. x.source < n) (entries_of source es)
+pub low-entries : (source n : ℕ) (es : List Event) → source < n → All (λ x. x.source < n) (entries_of source es)
 low-entries source n [] low = All-nil (λ (x : Entry). x.source < n)
 low-entries source n (e ∷ es) low = All-cons (λ (x : Entry). x.source < n) (record { source = source; event = e })
     (entries_of source es) low (low-entries source n es low)

@@ -162,7 +162,7 @@ part-goes-on streams log entries known part read =
     )
 
 -- where a part of known sources ends in a fault, they are not well formed
-ill-formed :
+pub ill-formed :
     (streams : List (Option Stream)) (log : List Entry) (f : EventFault) → IsPartOf streams log → IsMalformed log f →
     All IsSome streams → AreWellFormed streams → ⊥
 ill-formed streams log f part bad known formed =

@@ -68,12 +68,17 @@ IsCountedFed fed = fed.said ≡ Some (length fed.events.items)
 abbrev pub IsMiscountedFed : ℕ → ℕ → Fed → Type 0
 IsMiscountedFed rows said fed = (rows ≢ said) × (length fed.events.items ≡ rows) × (fed.said ≡ Some said)
 
-abbrev pub IsEndLacking : ℕ → Fed → Option Missing → Type 0
-IsEndLacking source fed None = IsCountedFed fed
-IsEndLacking source fed (Some (EndRecord i)) = (i ≡ source) × (fed.said ≡ None)
-IsEndLacking source fed (Some (Rows i rows said)) = (i ≡ source) × IsMiscountedFed rows said fed
-IsEndLacking source fed (Some Events) = ⊥
-IsEndLacking source fed (Some (Store w)) = ⊥
+-- of a source with so many rows, whose end record, if it has one, says so much
+abbrev pub IsEndLacking : ℕ → ℕ → Option ℕ → Option Missing → Type 0
+IsEndLacking source rows said None = said ≡ Some rows
+IsEndLacking source rows said (Some (EndRecord i)) = (i ≡ source) × (said ≡ None)
+IsEndLacking source rows said (Some (Rows i n other)) =
+    (i ≡ source) × (n ≢ other) × (rows ≡ n) × (said ≡ Some other)
+IsEndLacking source rows said (Some Events) = ⊥
+IsEndLacking source rows said (Some (Store w)) = ⊥
+
+abbrev pub IsFedLacking : ℕ → Fed → Option Missing → Type 0
+IsFedLacking source fed m = IsEndLacking source (length fed.events.items) fed.said m
 
 -- the end records of the first so many sources do; those of all, or this is the first that does not
 abbrev pub AreCountedFed : List Fed → ℕ → Type 0
@@ -83,7 +88,7 @@ abbrev pub AreEndsLacking : List Fed → Option Missing → Type 0
 AreEndsLacking fed None = AreCountedFed fed (length fed)
 AreEndsLacking fed (Some m) =
     (source : ℕ) × AreCountedFed fed source × (source < length fed)
-    × ((f : Fed) → IsEndLacking source (slice_index_or fed source f) (Some m))
+    × ((f : Fed) → IsFedLacking source (slice_index_or fed source f) (Some m))
 
 -- the log has events of which none waits, or this is what it lacks
 abbrev pub IsLogLacking : List Entry → Option Missing → Type 0

@@ -6,6 +6,7 @@ pub mod Feeds
 pub mod Gates
 pub mod Outcomes
 pub mod Ranges
+pub mod Single
 pub mod Sources
 pub mod Strengths
 pub mod Turns

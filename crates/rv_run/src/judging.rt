@@ -4,7 +4,7 @@ ghost use Rattle.rv_coverage.specs.Coverages.{IsCoverage};
 ghost use Rattle.rv_replay.specs.Strengths.{IsStrength};
 ghost use Rattle.rv_run.specs.Comparisons.{AgreesWith, IsCoveredBy, IsFaultIn, IsLacking, IsTestedBy, LacksBy};
 ghost use Rattle.rv_run.specs.Strengths.{IsToldWhere};
-ghost use Rattle.rv_replay.specs.Replays.{IsAllowed};
+ghost use Rattle.rv_replay.specs.Replays.{IsAllowed, IsReplayed};
 
 use crate::comparing::{is_begun, is_whole};
 use crate::fault::RunFault;
@@ -34,6 +34,25 @@ pub struct Judged {
 }
 
 impl Judged {
+    ghost use Rattle.std.specs.Prelude.{None};
+
+    /// A refusal, of which nothing more is told.
+    pub(crate) fn refused(outcome: Outcome) -> Judged
+        ensures { result ≡ record {
+          outcome = outcome;
+          coverage = None;
+          missing = None;
+          strength = None;
+        } }
+    {
+        Judged {
+            outcome,
+            coverage: None,
+            missing: None,
+            strength: None,
+        }
+    }
+
     /// The outcome alone.
     pub fn into_outcome(self) -> Outcome
         ensures { result ≡ self.outcome }
@@ -163,6 +182,41 @@ fn strength_asked(
     }
 }
 
+/// What a book comes to whose log is all that was read, and of which this is missing.
+pub(crate) fn tell_allowed(
+    alloc: Global,
+    question: Question,
+    book: &Book,
+    missing: Option<Missing>,
+) -> Result<Judged, NoMemory>
+    ensures outcome { IfOk result (λ j. IsReplayed book.now.model book.now.log j.outcome) }
+    ensures allowed { IfOk result (λ j. IsAllowed j.outcome) }
+    ensures coverage { IfOk result (λ j. IfSome j.coverage (IsCoverage book.now.model book.now.log)) }
+    ensures asked { IfOk result (λ j. IsTrue question.covering → IsSome j.coverage) }
+    ensures only { IfOk result (λ j. IsSome j.coverage → IsTrue question.covering) }
+    ensures missing { IfOk result (λ j. j.missing ≡ missing) }
+    ensures strength { IfOk result (λ j. IfSome j.strength (IsStrength book.now.model book.now.log)) }
+    ensures tested { IfOk result (λ j. IsTrue question.testing → IsSome j.strength) }
+    ensures untested { IfOk result (λ j. IsSome j.strength → IsTrue question.testing) }
+{
+    // For the proof alone, which has from these calls that the log is well formed, and its order
+    // lawful.
+    let (_log, _model) = (book.log(), book.model());
+    let coverage = coverage_asked(alloc, question, book)?;
+    let strength = strength_asked(alloc, question, book)?;
+    let outcome = Outcome::Allowed {
+        events: book.accepted(),
+        operations: book.operations(),
+        waiting: book.waiting(),
+    };
+    Ok(Judged {
+        outcome,
+        coverage,
+        missing,
+        strength,
+    })
+}
+
 /// What a book comes to that was never stopped, if it is of the model asked for, each source was
 /// read to its end, and its log has all of their events and no others.
 fn allowance_of(
@@ -187,20 +241,8 @@ fn allowance_of(
     if !is_asked(book.model(), question.model) || !is_whole(book.log(), fed) {
         return Err(RunFault::Lost);
     }
-    let coverage = coverage_asked(alloc, question, book)?;
     let missing = missing_asked(alloc, question, fed, book)?;
-    let strength = strength_asked(alloc, question, book)?;
-    let outcome = Outcome::Allowed {
-        events: book.accepted(),
-        operations: book.operations(),
-        waiting: book.waiting(),
-    };
-    Ok(Judged {
-        outcome,
-        coverage,
-        missing,
-        strength,
-    })
+    Ok(tell_allowed(alloc, question, book, missing)?)
 }
 
 /// What the threads' answers, the verdict and the book come to.
@@ -229,12 +271,7 @@ pub(crate) fn judge<S>(
     let mut note = cell.note();
     if let Some(verdict) = cell.read(&mut note) {
         let outcome = refusal_of(alloc, question.model, fed, verdict)?;
-        return Ok(Judged {
-            outcome,
-            coverage: None,
-            missing: None,
-            strength: None,
-        });
+        return Ok(Judged::refused(outcome));
     }
     if let Some(fault) = first_fault(fed) {
         return Err(fault);

@@ -9,6 +9,7 @@
 //! - [`driving`]: a thread for each, over any carrier and any gate. `step`: a carrier and a gate by
 //!   which no source runs far ahead of the others, and threads are woken that rest; `waiting`: how
 //!   they come to rest.
+//! - `single`: a single source, read and judged in turn.
 //! - [`running`]: a run's parts, and its settings; `judging`, `comparing`: what the threads'
 //!   answers come to; [`missing`]: what a run lacks that would be complete.
 //! - [`fault`]: why a run has no outcome; [`laws`]: that outcomes agree.
@@ -32,6 +33,7 @@ mod laws;
 mod missing;
 mod running;
 mod serving;
+mod single;
 mod step;
 mod waiting;
 

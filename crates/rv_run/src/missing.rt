@@ -1,6 +1,7 @@
 //! What a run lacks that would be complete.
 ghost use Rattle.std.specs.Prelude.{◌≡◌, ◌≤◌, ◌<◌, ℕ, IfOk, Some, length, slice_index_or};
-ghost use Rattle.rv_run.specs.Comparisons.{AreCountedFed, AreEndsLacking, IsEndLacking, IsLacking, IsLogLacking};
+ghost use Rattle.rv_run.specs.Comparisons.{AreCountedFed, AreEndsLacking, IsEndLacking, IsFedLacking};
+ghost use Rattle.rv_run.specs.Comparisons.{IsLacking, IsLogLacking};
 ghost use Rattle.rv_run.specs.Completeness.{missing_text};
 
 use crate::feeding::Fed;
@@ -48,12 +49,12 @@ impl fmt::Display for Missing {
     }
 }
 
-/// What the end record of one source lacks.
-fn end_lacking(source: u8, fed: &Fed) -> Option<Missing>
-    ensures { IsEndLacking source fed.now result }
+/// What the end record of a source lacks that has so many rows, and whose end record, if it has one,
+/// says so many.
+pub(crate) fn end_lacking(source: u8, rows: usize, said: Option<u32>) -> Option<Missing>
+    ensures { IsEndLacking source rows said result }
 {
-    let rows = fed.events.len();
-    match fed.said {
+    match said {
         None => Some(Missing::EndRecord(source)),
         Some(said) => {
             if said as usize == rows {
@@ -65,13 +66,20 @@ fn end_lacking(source: u8, fed: &Fed) -> Option<Missing>
     }
 }
 
+/// The same of a source that a feeder has read.
+fn fed_lacking(source: u8, fed: &Fed) -> Option<Missing>
+    ensures { IsFedLacking source fed.now result }
+{
+    end_lacking(source, fed.events.len(), fed.said)
+}
+
 /// What the end records lack: that of the lowest source that lacks something.
 fn ends_lacking(fed: &[Fed]) -> Option<Missing>
     requires { length fed.now ≤ 8 }
     ensures { AreEndsLacking fed.now result }
 {
     for i in 0..fed.len() {
-        let lacking = end_lacking(i as u8, &fed[i]);
+        let lacking = fed_lacking(i as u8, &fed[i]);
         if lacking.is_some() {
             return lacking;
         }
@@ -80,7 +88,7 @@ fn ends_lacking(fed: &[Fed]) -> Option<Missing>
 }
 
 /// What the log of a whole run lacks.
-fn log_lacking(alloc: Global, book: &Book) -> Result<Option<Missing>, NoMemory>
+pub(crate) fn log_lacking(alloc: Global, book: &Book) -> Result<Option<Missing>, NoMemory>
     ensures { IfOk result (IsLogLacking book.now.log) }
 {
     if book.accepted() == 0 {

@@ -14,6 +14,7 @@ use crate::driving::{Shared, drive_shared};
 use crate::fault::RunFault;
 use crate::gate::BookGate;
 use crate::judging::{Judged, Question, judge};
+use crate::single::run_single;
 use crate::step::InStep;
 use rv_event::MemoryModel;
 use rv_pipe::Bell;
@@ -62,6 +63,28 @@ pub struct Reading<'b> {
     pub covering: bool,
     /// Whether it is found how many older reads would be refused, where they are allowed.
     pub testing: bool,
+    /// Whether a single source is read and judged in turn, in the thread that calls. Else it is
+    /// read in a thread of its own, as several are.
+    pub in_turn: bool,
+}
+
+impl<'b> Reading<'b> {
+    /// What is asked of a run with these settings.
+    fn question(&self, settings: Settings) -> Question
+        ensures { result ≡ record {
+          model = settings.model;
+          covering = self.now.covering;
+          complete = self.now.dialect.end_record;
+          testing = self.now.testing;
+        } }
+    {
+        Question {
+            model: settings.model,
+            covering: self.covering,
+            complete: self.dialect.end_record,
+            testing: self.testing,
+        }
+    }
 }
 
 /// As [`run_over`], where the sources are read so.
@@ -117,12 +140,7 @@ fn run_in<RT: Threads + Wait + Sync, R: Read + Send + Drop, C: Carrier + Sync + 
     let fed = driven.fed.as_slice();
     let served = driven.served.as_slice();
     let book = step.into_gate().into_book();
-    let question = Question {
-        model: settings.model,
-        covering: reading.covering,
-        complete: reading.dialect.end_record,
-        testing: reading.testing,
-    };
+    let question = reading.question(settings);
     let judged = judge(alloc, question, fed, served, &cell, &book);
     // By a call: where the scope ends, the proof would take the book apart, field by field.
     drop(book);
@@ -163,6 +181,7 @@ pub fn run_over<RT: Threads + Wait + Sync, R: Read + Send + Drop, C: Carrier + S
         bell: &Bell::new(),
         covering: false,
         testing: false,
+        in_turn: false,
     };
     let judged = run_in(rt, alloc, readers, settings, carrier, seats, reading)?;
     Ok(judged.into_outcome())
@@ -232,6 +251,7 @@ pub fn run_with_bell<RT: Threads + Wait + Sync, R: Read + Send + Drop>(
         bell,
         covering: false,
         testing: false,
+        in_turn: false,
     };
     let judged = run_reading(rt, alloc, readers, settings, reading)?;
     Ok(judged.into_outcome())
@@ -252,12 +272,15 @@ pub fn run_with_bell<RT: Threads + Wait + Sync, R: Read + Send + Drop>(
 /// by itself, and it is told how many of the logs are refused so. Which loads are chosen depends on
 /// the merge.
 ///
+/// Where a single source is to be read in turn, no thread is started, and the numbers of workers
+/// and slots are only looked at for their range. The outcome promises the same.
+///
 /// # Errors
 /// As [`run_with_bell`].
 pub fn run_reading<RT: Threads + Wait + Sync, R: Read + Send + Drop>(
     rt: &RT,
     alloc: Global,
-    readers: Vec<R>,
+    mut readers: Vec<R>,
     settings: Settings,
     reading: Reading<'_>,
 ) -> Result<Judged, RunFault>
@@ -286,6 +309,20 @@ pub fn run_reading<RT: Threads + Wait + Sync, R: Read + Send + Drop>(
 {
     if !settings.admit(readers.len()) {
         return Err(RunFault::Settings);
+    }
+    if reading.in_turn && readers.len() == 1 {
+        let Some(reader) = readers.pop() else {
+            unreachable!()
+        };
+        let judged = run_single(
+            rt,
+            alloc,
+            reader,
+            reading.dialect,
+            reading.question(settings),
+        );
+        reading.bell.end();
+        return judged;
     }
     let (slots, seats) = match Slots::new(alloc, settings.slots as usize) {
         Ok(made) => made,

@@ -79,6 +79,7 @@ fn answer<RT: Threads + Wait + Sync + Copy + Send + 'static, O: Opener>(
         bell: &bell,
         covering: is_covering(asked),
         testing: asked.strength,
+        in_turn: true,
     };
     match run_reading(threads, rt.alloc(), inputs, settings, reading) {
         Ok(judged) => Ending::Ran(judged),

@@ -1,7 +1,7 @@
 use Rattle.rv_rank.proofs.Common.{rules, arith, length, ◌<◌, sym, ◌∙◌, common_steps, is_slot, members_of}
 use Rattle.rv_rank.proofs.Marks.{mark_at-below}
 use Rattle.rv_rank.proofs.Slots.{below_yes, below_no, below_mono, below_none, below_few, members_of-long}
-use Rattle.rv_rank.proofs.Slots.{IsMended-more, IsMended-skip}
+use Rattle.rv_rank.proofs.Slots.{IsMended-all, IsMended-more, IsMended-skip}
 use Rattle.rv_rank.proofs.order.mend.Goals.{then-is_slot, else-is_slot}
 use Rattle.rv_rank.proofs.order.mend.Goals as goal
 
@@ -26,7 +26,8 @@ loop-rank-preserved c =
     let inv = c.loop-rank.invariant in
     let count = inv.next in
     let long = members_of-long c.args.visits.now c.args.found.now.split (length nodes) c.requires.roster.split in
-    let few = below_mono slot rank (length nodes) (omega arith) in
+    let below : rank < length nodes = search rules in
+    let few = below_mono slot rank (length nodes) (omega (arith, below)) in
     elim c.if-is_slot.branch [
       | then-is_slot w ↦
           let passes = sym c.is_slot.ensures ∙ w.if-is_slot.true in
@@ -38,11 +39,20 @@ loop-rank-preserved c =
           rw (w.nodes-is, w.ranks-is, w.next-is, w.member-node.ensures, count) (record {
             mended = search (IsMended-more, rules);
             next = sym (below_yes slot rank passes);
+            within = omega (arith, below);
           })
       | else-is_slot w ↦
           let fails = sym c.is_slot.ensures ∙ w.if-is_slot.false in
           rw (w.nodes-is, w.ranks-is, w.next-is) (record {
             mended = search (IsMended-skip, rules);
             next = count ∙ sym (below_no slot rank fails);
+            within = omega (arith, below);
           })
     ]
+
+-- Above the highest rank that was marked nothing moves.
+pub returns : goal.returns
+returns c = IsMended-all (is_slot c.args.found.now.low c.args.found.now.marks.items)
+    (members_of c.args.visits.now c.args.found.now.split (length c.args.nodes.now)) c.args.nodes.now c.args.ranks.now
+    c.loop-rank.nodes c.loop-rank.ranks c.loop-rank.rank (length c.args.nodes.now) c.loop-rank.invariant.mended
+    (λ k from l. c.requires.top k (search rules)) c.loop-rank.invariant.within

@@ -1,35 +1,43 @@
 use Rattle.rv_rank.proofs.Common.{length-drop, arith, get_or, [], length, ◌≡◌, ◌<◌, ◌≤◌, ◌+◌, ◌-◌, ◌∙◌, refl, ap}
 use Rattle.rv_rank.proofs.Common.{sym, ℕ, true, drop, reverse, length-append, filter, length-reverse}
 use Rattle.rv_rank.proofs.Common.{Contains-get_or, common_steps, rules, mark_of, is_behind, is_behind_of, Behind}
-use Rattle.rv_rank.proofs.Listing.{listed_all_few, listed_down_more, listed_from}
-use Rattle.rv_rank.proofs.Marks.{below_free, read_of, spread_same, behind_is, not_behind}
+use Rattle.rv_rank.proofs.Listing.{listed_all_few, listed_down_more, listed_from, listed_past}
+use Rattle.rv_rank.proofs.Marks.{below_free, read_of, spread_same, behind_else, behind_is, not_behind}
 use Rattle.rv_rank.proofs.Growth.{edge_from}
-use Rattle.rv_rank.proofs.Tracing.{behind_marked, IsTraced-begin, IsTraced-more, IsTraced-skip}
+use Rattle.rv_rank.proofs.Tracing.{behind_marked, IsTraced-start, IsTraced-more, IsTraced-skip}
 use Rattle.rv_rank.proofs.search.sweep_backward.Goals as goal
 
 pub loop-rank-init : goal.loop-rank-init
 loop-rank-init c =
-    let edges = c.args.walk.now.edges in
     let nodes = c.args.order.now.nodes in
     let ranks = c.args.order.now.ranks in
-    let new = c.mark_above.new.marks in
-    let behind = is_behind_of c.args.low ranks new in
-    let none : drop (length ranks) nodes ≡ [] = grind (arith, common_steps) in
-    rw c.len-rank.ensures.count (record {
-      traced = search (IsTraced-begin, rules);
+    let low = c.args.low in
+    let new = c.mark_above-end.new.marks in
+    let end = c.mark_above-end.result in
+    let marked = c.mark_above-end.ensures in
+    let searched = c.requires.searched.1 in
+    let none : filter (is_behind_of low ranks new) (drop end nodes) ≡ [] =
+    listed_past (is_behind_of low ranks new) nodes end (λ k from l.
+    let here = c.requires.inverse.there k l in
+    ap is_behind (marked.same (get_or nodes k 0) here.0 (omega (arith, from, here.1)))
+    ∙ behind_else _ (searched.forward (get_or nodes k 0))) in
+    record {
+      traced = search (IsTraced-start, rules);
       visits = grind (arith, common_steps);
       same = record { edges = refl; rounds = refl; room = omega arith };
-      above = omega (arith, c.requires.searched.1.long);
-      within = omega arith;
-    })
+      above = marked.higher;
+      within = marked.within (omega (arith, searched.long));
+      below = omega arith;
+      since = marked.same;
+    }
 
 pub backward-requires-clause-room : goal.backward-requires-clause-room
 backward-requires-clause-room c =
     search (length-append, length-reverse, listed_all_few, length-drop, rules)
 
-pub mark_above-requires-then-is_behind-clause-placed :
-    goal.mark_above-requires-then-is_behind-clause-placed
-mark_above-requires-then-is_behind-clause-placed c = λ k d l.
+pub mark_above-requires-clause-placed :
+    goal.mark_above-requires-clause-placed
+mark_above-requires-clause-placed c = λ k d l.
     let a = get_or c.backward.result.now k d in
     let e = (c.backward.ensures.value a).0 (Contains-get_or c.backward.result.now k d l) in
     let b = edge_from c.loop-rank.walk.edges a c.node_at-node.result e in
@@ -42,7 +50,7 @@ loop-rank-preserved-then-is_behind c =
     let ranks = c.args.order.now.ranks in
     let low = c.args.low in
     let old = c.loop-rank.marks in
-    let new = c.mark_above-then-is_behind.new.marks in
+    let new = c.mark_above.new.marks in
     let r = c.loop-rank.rank - 1 in
     let inv = c.loop-rank.invariant in
     let o = c.requires.ordered in
@@ -58,7 +66,7 @@ loop-rank-preserved-then-is_behind c =
     let l : r < length nodes = omega (arith, c.requires.inverse.long) in
     let traced = rw up at inv.traced in
     let listed = rw up at inv.visits in
-    let spread = c.mark_above-then-is_behind.ensures in
+    let spread = c.mark_above.ensures.spread in
     let taken = read_of low ranks old v r below high (sym at) ∙
     behind_is (get_or old (r - low) _) (sym c.is_behind.ensures.value ∙ c.if-is_behind.true) in
     let same : (k : ℕ) → r + 1 ≤ k → k < length nodes →
@@ -83,6 +91,9 @@ loop-rank-preserved-then-is_behind c =
       same = grind (arith, common_steps);
       above = high;
       within = omega (arith, inv.within);
+      below = omega (arith, inv.below);
+      since = λ a la from. spread_same ranks low old new Behind sources spread a
+          (λ e. omega (arith, o.forward a v ((both a).0 e), at, from, inv.below)) ∙ inv.since a la from;
     }
 
 pub loop-rank-preserved : goal.loop-rank-preserved
@@ -110,6 +121,8 @@ loop-rank-preserved c =
       same = inv.same;
       above = high;
       within = omega (arith, inv.within);
+      below = omega (arith, inv.below);
+      since = inv.since;
     }
 
 pub returns-clause-traced : goal.returns-clause-traced
@@ -119,3 +132,7 @@ returns-clause-traced c =
 
 pub returns-clause-visits : goal.returns-clause-visits
 returns-clause-visits c = grind (arith, common_steps, listed_from, below_free)
+
+pub returns-clause-top : goal.returns-clause-top
+returns-clause-top c = λ a la from.
+    c.loop-rank.invariant.since a la (search rules) ∙ c.requires.top a la (search rules)

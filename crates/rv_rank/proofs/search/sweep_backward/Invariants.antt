@@ -1,5 +1,6 @@
 use Rattle.rv_rank.proofs.Common.{◌≡◌, ◌≤◌, ◌++◌, length, drop, reverse, filter, IsTraced, is_behind_of}
 use Rattle.rv_rank.proofs.Common.{IsSameGraph}
+use Rattle.rv_rank.specs.Marks.{IsSameFrom}
 use Rattle.rv_rank.proofs.search.sweep_backward.Given as goal
 
 abbrev pub invariant-loop-rank : goal.invariant-loop-rank
@@ -10,6 +11,8 @@ invariant-loop-rank l = record {
   same : IsSameGraph l.initial.walk l.walk;
   above : l.low ≤ l.rank;
   within : l.rank ≤ length l.order.ranks;
+  below : l.rank ≤ l.end;
+  since : IsSameFrom l.order.ranks l.low l.fn.marks l.marks l.end;
 }
 
 abbrev pub decreases-loop-rank : goal.decreases-loop-rank

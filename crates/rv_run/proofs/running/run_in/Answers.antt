@@ -13,36 +13,37 @@ use Rattle.rv_run.proofs.running.run_in.Goals as goal
 
 pub returns : goal.returns
 returns g c =
+    let told = rw c.question-question.ensures at c.judge-judged.ensures in
     let answer : IsAnswer c.args.settings.model
     (streams_in c.args.reading.dialect g.R.Read.remaining c.args.readers.items) c.judge-judged.result =
     answer-true (λ r. option_map (bytes_say c.args.reading.dialect) (g.R.Read.remaining r)) c.args.readers.items
     c.in_ok-driven.driven.fed.items c.args.settings.model c.judge-judged.result
     (search rules) c.in_ok-driven.ensures.fed.0 c.in_ok-driven.ensures.fed.1
     (subst (λ (fed : List Fed). IfOk c.judge-judged.result (λ j. AgreesWith c.args.settings.model fed j.outcome))
-    c.as_slice-fed.ensures.value c.judge-judged.ensures.outcome)
+    c.as_slice-fed.ensures.value told.outcome)
     (subst (λ (fed : List Fed). IfOk c.judge-judged.result
     (λ j. IfSome j.coverage (IsCoveredBy c.args.settings.model fed)))
-    c.as_slice-fed.ensures.value c.judge-judged.ensures.coverage)
+    c.as_slice-fed.ensures.value told.coverage)
     (subst (λ (fed : List Fed). IfErr c.judge-judged.result (IsFaultIn fed)) c.as_slice-fed.ensures.value
-    c.judge-judged.ensures.fault) in
+    told.fault) in
     let lacks : IfOk c.judge-judged.result (λ j. IsTrue c.args.reading.dialect.end_record → IsAllowed j.outcome →
     Lacks (streams_in c.args.reading.dialect g.R.Read.remaining c.args.readers.items) j.missing) =
-    IfOk-weaker c.judge-judged.result _ _ (λ j told asked allowed.
+    IfOk-weaker c.judge-judged.result _ _ (λ j lacking asked allowed.
     readers-lack (λ r. option_map (bytes_say c.args.reading.dialect) (g.R.Read.remaining r)) c.args.readers.items
     c.in_ok-driven.driven.fed.items (search rules) c.in_ok-driven.ensures.fed.0 c.in_ok-driven.ensures.fed.1 j.missing
-    (told asked allowed))
+    (lacking asked allowed))
     (subst (λ (fed : List Fed). IfOk c.judge-judged.result
     (λ j. IsTrue c.args.reading.dialect.end_record → IsAllowed j.outcome → LacksBy fed j.missing))
-    c.as_slice-fed.ensures.value c.judge-judged.ensures.lacks) in
+    c.as_slice-fed.ensures.value told.lacks) in
     let strength : IfOk c.judge-judged.result (λ j. IfSome j.strength
     (AreTested c.args.settings.model (streams_in c.args.reading.dialect g.R.Read.remaining c.args.readers.items))) =
-    IfOk-weaker c.judge-judged.result _ _ (λ j told.
+    IfOk-weaker c.judge-judged.result _ _ (λ j tested.
     readers-tested (λ r. option_map (bytes_say c.args.reading.dialect) (g.R.Read.remaining r)) c.args.readers.items
     c.in_ok-driven.driven.fed.items (search rules) c.in_ok-driven.ensures.fed.0 c.in_ok-driven.ensures.fed.1
-    c.args.settings.model j.strength told)
+    c.args.settings.model j.strength tested)
     (subst (λ (fed : List Fed). IfOk c.judge-judged.result
     (λ j. IfSome j.strength (IsTestedBy c.args.settings.model fed)))
-    c.as_slice-fed.ensures.value c.judge-judged.ensures.strength) in record {
+    c.as_slice-fed.ensures.value told.strength) in record {
       allowed = answer.allowed;
       forbidden = answer.forbidden;
       malformed = answer.malformed;

@@ -1,0 +1,24 @@
+use Rattle.rv_run.proofs.Common.{List, [], ◌∷◌, ◌≡◌, rules}
+use Rattle.std.proofs.lemmas.Result.{IfOk-weaker}
+use Rattle.rv_run.proofs.running.run_reading.Goals as goal
+
+-- A single source is the only reader.
+pub returns-then-len-eq1 : goal.returns-then-len-eq1
+returns-then-len-eq1 g c =
+    let only : c.args.readers.items ≡ c.in-Some.reader ∷ [] = search rules in
+    let told = rw c.question.ensures at c.run_single-judged.ensures in
+    let answer = c.run_single-judged.result in
+    rw only (record {
+      allowed = IfOk-weaker answer _ _ (λ j is. is.allowed) told.judged;
+      forbidden = IfOk-weaker answer _ _ (λ j is. is.forbidden) told.judged;
+      malformed = IfOk-weaker answer _ _ (λ j is. is.malformed) told.judged;
+      covered = IfOk-weaker answer _ _ (λ j is. is.covered) told.judged;
+      asked = IfOk-weaker answer _ _ (λ j is. is.asked) told.judged;
+      only = IfOk-weaker answer _ _ (λ j is. is.only) told.judged;
+      lacks = IfOk-weaker answer _ _ (λ j is. is.lacks) told.judged;
+      complete = IfOk-weaker answer _ _ (λ j is. is.complete) told.judged;
+      strength = IfOk-weaker answer _ _ (λ j is. is.strength) told.judged;
+      tested = IfOk-weaker answer _ _ (λ j is. is.tested) told.judged;
+      fault = told.fault;
+      settings = search rules;
+    })
