@@ -127,7 +127,7 @@ fn offer_all(trace: &mut Trace<File>, book: &mut Book, count: u32) -> u32 {
         let Ok(Some(event)) = trace.next_event() else {
             return judged;
         };
-        if !matches!(book.offer(&Entry { source: 0, event }), Offer::Accepted) {
+        if !matches!(book.take(Entry { source: 0, event }), Offer::Accepted) {
             return judged;
         }
     }

@@ -245,7 +245,7 @@ impl Endless {
             self.stopped = true;
             return explain_edge(self.book.log(), &self.firsts, edge, &moved);
         }
-        self.judge_moved(&moved)
+        self.judge_moved(moved)
     }
 
     /// An edge from the entry to what was forgotten, where there is one and it has no fault.
@@ -263,20 +263,21 @@ impl Endless {
     }
 
     /// Judges an entry that fits what was forgotten, by the window.
-    fn judge_moved(&mut self, moved: &Entry) -> Answer
-        requires hart { moved.now.event.id.hart < 16 }
-        requires numbers { slice_index_or self.old.counts moved.now.event.id.hart 0 < 4294967295 }
-        ensures offered { IsOffered self.old self.new moved.now result }
+    fn judge_moved(&mut self, moved: Entry) -> Answer
+        requires hart { moved.event.id.hart < 16 }
+        requires numbers { slice_index_or self.old.counts moved.event.id.hart 0 < 4294967295 }
+        ensures offered { IsOffered self.old self.new moved result }
         ensures settings { KeepsSettings self.old self.new }
     {
-        match self.book.offer(moved) {
+        let hart = moved.event.id.hart;
+        match self.book.take(moved) {
             Offer::Accepted => {
-                self.counts[moved.event.id.hart as usize] += 1;
+                self.counts[hart as usize] += 1;
                 Answer::Accepted
             }
             Offer::Malformed(malformed) => {
                 self.stopped = true;
-                Answer::Malformed(full_fault(&self.firsts, moved.event.id.hart, malformed.fault()))
+                Answer::Malformed(full_fault(&self.firsts, hart, malformed.fault()))
             }
             Offer::Forbidden(forbidden) => {
                 self.stopped = true;

@@ -213,7 +213,7 @@ impl Sink for Judge {
     }
 
     fn take(&mut self, row: Event) -> Result<(), Stop> {
-        match self.book.offer(&Entry {
+        match self.book.take(Entry {
             source: 0,
             event: row,
         }) {
