@@ -56,9 +56,11 @@ def possible_outcomes(sources, model, has_carriers, is_complete=False, tells_str
     the lines that follow where it is allowed.
 
     The events of a source arrive in their order, those of several sources in any. What has arrived is told by how many
-    events each source gave, as the merges of these have the same faults and the same lawful orders.
+    events each source gave, as the merges of these have the same faults and the same lawful orders. Of a single source
+    a refused event comes before a fault of a later row.
     """
-    given, faults, said = zip(*(read_source(text, has_carriers, is_complete) for text in sources))
+    is_single = len(sources) == 1
+    given, faults, said = zip(*(read_source(text, has_carriers, is_complete, is_single) for text in sources))
     outcomes, ordered_before = {}, {}
     whole = tuple(len(events) for events in given)
     accepted = [(0,) * len(given)]
@@ -76,7 +78,8 @@ def possible_outcomes(sources, model, has_carriers, is_complete=False, tells_str
                 outcomes.setdefault(refusal, []).append(log.extended(source, event))
             elif following not in accepted:
                 accepted.append(following)
-    outcomes.update((line, []) for line in trace_fault_lines(faults))
+    if not (is_single and outcomes):
+        outcomes.update((line, []) for line in trace_fault_lines(faults))
     return outcomes
 
 
