@@ -7,6 +7,9 @@ import re
 from opinion.model import Log, certifies, fault_of, has_lawful_order
 from opinion.traces import read_source
 
+# How many rows of a file are judged before it is the turn of the next one
+ROWS_OF_TURN = 8
+
 # Outcomes: the first line of a report, or the line on standard error
 
 
@@ -51,16 +54,41 @@ def strength_line(log):
     return f"strength: {refused} of {tried} older reads would be refused"
 
 
+def outcome_in_turn(sources, model, has_carriers, is_complete=False, tells_strength=False):
+    """The outcome where the rows of the sources are judged in turn, eight of each: by its line the log that is the
+    evidence of a refusal, or the lines that follow where it is allowed."""
+    given, faults, said = zip(*(read_source(text, has_carriers, is_complete) for text in sources))
+    log = Log([], model, {})
+    arrived = [0] * len(given)
+    unread = set(range(len(given)))
+    while unread:
+        for source in sorted(unread):
+            for _ in range(ROWS_OF_TURN):
+                if arrived[source] == len(given[source]):
+                    if faults[source]:
+                        return {trace_fault_line(source, faults[source]): []}
+                    unread.discard(source)
+                    break
+                event = given[source][arrived[source]]
+                refusal = refusal_line(log, source, event)
+                log = log.extended(source, event)
+                if refusal:
+                    return {refusal: [log]}
+                arrived[source] += 1
+    return {allowed_line(log): lines_behind(given, said, log, is_complete, tells_strength)}
+
+
 def possible_outcomes(sources, model, has_carriers, is_complete=False, tells_strength=False):
     """Each outcome that some order of arrival leads to, with the logs that are the evidence of each refusal, or with
     the lines that follow where it is allowed.
 
     The events of a source arrive in their order, those of several sources in any. What has arrived is told by how many
-    events each source gave, as the merges of these have the same faults and the same lawful orders. Of a single source
-    a refused event comes before a fault of a later row.
+    events each source gave, as the merges of these have the same faults and the same lawful orders. So a single source
+    has one outcome.
     """
-    is_single = len(sources) == 1
-    given, faults, said = zip(*(read_source(text, has_carriers, is_complete, is_single) for text in sources))
+    if len(sources) == 1:
+        return outcome_in_turn(sources, model, has_carriers, is_complete, tells_strength)
+    given, faults, said = zip(*(read_source(text, has_carriers, is_complete) for text in sources))
     outcomes, ordered_before = {}, {}
     whole = tuple(len(events) for events in given)
     accepted = [(0,) * len(given)]
@@ -68,9 +96,7 @@ def possible_outcomes(sources, model, has_carriers, is_complete=False, tells_str
         entries = [(s, event) for s, events in enumerate(given) for event in events[: arrived[s]]]
         log = Log(entries, model, ordered_before)
         if arrived == whole and not any(faults):
-            lack = lack_of(given, said, log) if is_complete else None
-            behind = [f"incomplete: {lack}"] if lack else []
-            outcomes[allowed_line(log)] = behind + ([strength_line(log)] if tells_strength else [])
+            outcomes[allowed_line(log)] = lines_behind(given, said, log, is_complete, tells_strength)
         for source, event in next_entries(given, arrived):
             refusal = refusal_line(log, source, event)
             following = tuple(count + (s == source) for s, count in enumerate(arrived))
@@ -78,9 +104,15 @@ def possible_outcomes(sources, model, has_carriers, is_complete=False, tells_str
                 outcomes.setdefault(refusal, []).append(log.extended(source, event))
             elif following not in accepted:
                 accepted.append(following)
-    if not (is_single and outcomes):
-        outcomes.update((line, []) for line in trace_fault_lines(faults))
+    outcomes.update((trace_fault_line(source, fault), []) for source, fault in enumerate(faults) if fault)
     return outcomes
+
+
+def lines_behind(given, said, log, is_complete, tells_strength):
+    """The lines that follow where a whole run is allowed."""
+    lack = lack_of(given, said, log) if is_complete else None
+    lines = [f"incomplete: {lack}"] if lack else []
+    return lines + ([strength_line(log)] if tells_strength else [])
 
 
 def next_entries(given, arrived):
@@ -88,9 +120,9 @@ def next_entries(given, arrived):
     return [(s, events[arrived[s]]) for s, events in enumerate(given) if arrived[s] < len(events)]
 
 
-def trace_fault_lines(faults):
-    """What is said of each source that has a fault: the first that is met ends a run."""
-    return [f"rvmon: source {s} row {fault[0]}: trace fault {fault[1]}" for s, fault in enumerate(faults) if fault]
+def trace_fault_line(source, fault):
+    """What is said of a source that has this fault, of a row and with a number."""
+    return f"rvmon: source {source} row {fault[0]}: trace fault {fault[1]}"
 
 
 def refusal_line(log, source, event):

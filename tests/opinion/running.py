@@ -14,13 +14,14 @@ LONG_EVENTS = 5000
 LONG_CUTS = [1, 8, 100, 2000]
 
 
-def run_program(program, words, files):
-    """Runs the program over files; one that does not end is killed, and has the status -9."""
+def run_program(program, words, files, descriptors=()):
+    """Runs the program over files, with these descriptors open; one that does not end is killed, and has the status
+    -9."""
     command = [program, *words, *files]
     try:
         return subprocess.run(
             command, stdin=subprocess.DEVNULL, capture_output=True, encoding="utf-8", errors="replace",
-            timeout=SECONDS_TO_ANSWER, check=False,
+            timeout=SECONDS_TO_ANSWER, check=False, pass_fds=descriptors,
         )
     except subprocess.TimeoutExpired:
         return subprocess.CompletedProcess(command, -9, "", f"no answer in {SECONDS_TO_ANSWER} seconds\n")
@@ -35,14 +36,28 @@ def run_over(program, trace, folder, variants):
         return [run_program(program, words, files) for words in variants]
 
 
+def run_over_pipes(program, trace):
+    """What the program says of a trace each of whose sources was written to a pipe, which holds all of it."""
+    readers = []
+    for text in trace.sources:
+        reader, writer = os.pipe()
+        os.write(writer, text.encode("ascii"))
+        os.close(writer)
+        readers.append(reader)
+    answer = run_program(program, trace.words, [f"/dev/fd/{reader}" for reader in readers], readers)
+    for reader in readers:
+        os.close(reader)
+    return answer
+
+
 def failure_text(trace, outcomes, answers, complaints):
     """What is printed of a disagreement."""
     lines = ["; ".join(complaints)]
     for source, text in enumerate(trace.sources):
         lines += [f"source {source}:", text.rstrip("\n")]
     lines += ["possible here:", *(f"  {outcome}" for outcome in sorted(outcomes))]
-    for answer, more in zip(answers, ([], ["--json"])):
-        lines += [f"rvmon {' '.join(trace.words + more)}: status {answer.returncode}", answer.stdout + answer.stderr]
+    for answer in answers:
+        lines += [f"{' '.join(answer.args)}: status {answer.returncode}", answer.stdout + answer.stderr]
     return "\n".join(lines)
 
 

@@ -65,9 +65,8 @@ def number_said(fields):
     return int(fields[1])
 
 
-def read_source(text, has_carriers, has_end=False, is_single=False):
-    """The events that a source gives, its fault as (row, number) or None, and what its end record says. Of several
-    sources a faulty chunk of eight gives none."""
+def read_source(text, has_carriers, has_end=False):
+    """The events that a source gives, its fault as (row, number) or None, and what its end record says."""
     lines = text.splitlines()
     if not lines or lines[0] != HEADER:
         return [], (0, 1), None
@@ -77,7 +76,7 @@ def read_source(text, has_carriers, has_end=False, is_single=False):
     for row, fields in enumerate(rows if said is None else rows[:-1], start=1):
         fault = row_fault(fields, has_carriers)
         if fault:
-            return events if is_single else events[: len(events) // 8 * 8], (row, fault), None
+            return events, (row, fault), None
         events.append(event_of(fields))
     return events, None, said
 

@@ -69,11 +69,14 @@ abbrev pub strength_rule : Rule
 strength_rule = flag_rule (codes "strength")
 
 -- a text, if one is given
+abbrev pub text_rule : Text → Rule
+text_rule name = record (new_rule name) { long = Some name; action = Some Set; value_names = 1 }
+
 abbrev pub where_rule : Rule
-where_rule = record (new_rule (codes "where")) { long = Some (codes "where"); action = Some Set; value_names = 1 }
+where_rule = text_rule (codes "where")
 
 abbrev pub list_rule : Rule
-list_rule = record (new_rule (codes "list")) { long = Some (codes "list"); action = Some Set; value_names = 1 }
+list_rule = text_rule (codes "list")
 
 -- any number of texts, by their place
 abbrev pub files_rule : Rule
@@ -83,11 +86,24 @@ files_rule = record (new_rule (codes "FILE")) { action = Some Append }
 abbrev pub bare_app : App
 bare_app = let app = new_app (codes "rvmon") in record app { top = record app.top { no_binary_name = true } }
 
+-- with the options that have a value in any case, the flags, and the names of files
+abbrev pub with_options : Names → App
+with_options names = with_rule (with_rule (with_rule bare_app workers_rule) slots_rule) (model_rule names)
+
+abbrev pub with_flags : App → App
+with_flags app =
+    with_rule (with_rule (with_rule (with_rule (with_rule (with_rule (with_rule app json_rule) carriers_rule)
+    explain_rule) svg_rule) coverage_rule) complete_rule) strength_rule
+
+abbrev pub with_names : App → App
+with_names app = with_rule (with_rule (with_rule app where_rule) list_rule) files_rule
+
 abbrev pub app_over : Names → App
-app_over names =
-    with_rule (with_rule (with_rule (with_rule (with_rule (with_rule (with_rule (with_rule (with_rule (with_rule
-    (with_rule (with_rule (with_rule bare_app workers_rule) slots_rule) (model_rule names)) json_rule) carriers_rule)
-    explain_rule) svg_rule) coverage_rule) complete_rule) strength_rule) where_rule) list_rule) files_rule
+app_over names = with_names (with_flags (with_options names))
+
+-- it is the command with its first options
+abbrev pub HasOptions : App → Type 0
+HasOptions app = (names : Names) × ListsModels names × (app ≡ with_options names)
 
 -- it is the command of the program
 abbrev pub IsCommand : App → Type 0

@@ -1,9 +1,9 @@
-//! The program's command, an argument a function.
+//! The program's command.
 ghost use Rattle.std.specs.Prelude.{◌≡◌, false, IfOk};
 ghost use Rattle.clap.specs.Words.{app_of, rule_of};
-ghost use Rattle.rv_cli.specs.Command.{IsCommand, ListsModels, bare_app, carriers_rule, complete_rule};
-ghost use Rattle.rv_cli.specs.Command.{coverage_rule, explain_rule, files_rule, json_rule, list_rule, model_rule};
-ghost use Rattle.rv_cli.specs.Command.{slots_rule, strength_rule, svg_rule, where_rule, workers_rule};
+ghost use Rattle.rv_cli.specs.Command.{HasOptions, IsCommand, ListsModels, bare_app, files_rule};
+ghost use Rattle.rv_cli.specs.Command.{flag_rule, model_rule, slots_rule, text_rule, with_flags};
+ghost use Rattle.rv_cli.specs.Command.{with_names, workers_rule};
 
 use crate::help;
 use clap::{Arg, ArgAction, Command, value_parser};
@@ -55,105 +55,27 @@ fn model_arg<'a>(alloc: Global) -> Arg<'a>
         .help(help::MODEL)
 }
 
-/// `--json`.
-fn json_arg<'a>(alloc: Global) -> Arg<'a>
-    ensures rule { rule_of result ≡ json_rule }
+/// The flag of this name.
+fn flag<'a>(alloc: Global, name: &'a str, help: &'a str) -> Arg<'a>
+    ensures rule { rule_of result ≡ flag_rule name.now }
     ensures local { result.global ≡ false }
 {
-    Arg::new(alloc, "json")
-        .long("json")
+    Arg::new(alloc, name)
+        .long(name)
         .action(ArgAction::SetTrue)
-        .help(help::JSON)
+        .help(help)
 }
 
-/// `--carriers`.
-fn carriers_arg<'a>(alloc: Global) -> Arg<'a>
-    ensures rule { rule_of result ≡ carriers_rule }
+/// The option of this name that takes a text, which help calls so.
+fn text_option<'a>(alloc: Global, name: &'a str, value: &'a str, help: &'a str) -> Arg<'a>
+    ensures rule { rule_of result ≡ text_rule name.now }
     ensures local { result.global ≡ false }
 {
-    Arg::new(alloc, "carriers")
-        .long("carriers")
-        .action(ArgAction::SetTrue)
-        .help(help::CARRIERS)
-}
-
-/// `--explain`.
-fn explain_arg<'a>(alloc: Global) -> Arg<'a>
-    ensures rule { rule_of result ≡ explain_rule }
-    ensures local { result.global ≡ false }
-{
-    Arg::new(alloc, "explain")
-        .long("explain")
-        .action(ArgAction::SetTrue)
-        .help(help::EXPLAIN)
-}
-
-/// `--svg`.
-fn svg_arg<'a>(alloc: Global) -> Arg<'a>
-    ensures rule { rule_of result ≡ svg_rule }
-    ensures local { result.global ≡ false }
-{
-    Arg::new(alloc, "svg")
-        .long("svg")
-        .action(ArgAction::SetTrue)
-        .help(help::SVG)
-}
-
-/// `--coverage`.
-fn coverage_arg<'a>(alloc: Global) -> Arg<'a>
-    ensures rule { rule_of result ≡ coverage_rule }
-    ensures local { result.global ≡ false }
-{
-    Arg::new(alloc, "coverage")
-        .long("coverage")
-        .action(ArgAction::SetTrue)
-        .help(help::COVERAGE)
-}
-
-/// `--complete`.
-fn complete_arg<'a>(alloc: Global) -> Arg<'a>
-    ensures rule { rule_of result ≡ complete_rule }
-    ensures local { result.global ≡ false }
-{
-    Arg::new(alloc, "complete")
-        .long("complete")
-        .action(ArgAction::SetTrue)
-        .help(help::COMPLETE)
-}
-
-/// `--strength`.
-fn strength_arg<'a>(alloc: Global) -> Arg<'a>
-    ensures rule { rule_of result ≡ strength_rule }
-    ensures local { result.global ≡ false }
-{
-    Arg::new(alloc, "strength")
-        .long("strength")
-        .action(ArgAction::SetTrue)
-        .help(help::STRENGTH)
-}
-
-/// `--where`.
-fn where_arg<'a>(alloc: Global) -> Arg<'a>
-    ensures rule { rule_of result ≡ where_rule }
-    ensures local { result.global ≡ false }
-{
-    Arg::new(alloc, "where")
-        .long("where")
+    Arg::new(alloc, name)
+        .long(name)
         .action(ArgAction::Set)
-        .value_name("ROWS")
-        .help(help::WHERE)
-}
-
-/// `--list`.
-fn list_arg<'a>(alloc: Global) -> Arg<'a>
-    ensures rule { rule_of result ≡ list_rule }
-    ensures local { result.global ≡ false }
-{
-    Arg::new(alloc, "list")
-        .long("list")
-        .action(ArgAction::Set)
-        .value_name("LIST")
-        .help(help::LIST)
+        .value_name(value)
+        .help(help)
 }
 
 /// `FILE`.
@@ -176,22 +98,45 @@ fn bare_command<'a>(alloc: Global) -> Command<'a>
         .after_help(help::FORMAT)
 }
 
-/// The command.
-pub(crate) fn command_of<'a>(alloc: Global) -> Result<Command<'a>, AllocError>
-    ensures { IfOk result (λ c. IsCommand (app_of c)) }
+/// The command with the options that have a value in any case.
+fn with_options<'a>(alloc: Global) -> Result<Command<'a>, AllocError>
+    ensures { IfOk result (λ c. HasOptions (app_of c)) }
 {
     bare_command(alloc)
         .arg(workers_arg(alloc))?
         .arg(slots_arg(alloc))?
-        .arg(model_arg(alloc))?
-        .arg(json_arg(alloc))?
-        .arg(carriers_arg(alloc))?
-        .arg(explain_arg(alloc))?
-        .arg(svg_arg(alloc))?
-        .arg(coverage_arg(alloc))?
-        .arg(complete_arg(alloc))?
-        .arg(strength_arg(alloc))?
-        .arg(where_arg(alloc))?
-        .arg(list_arg(alloc))?
+        .arg(model_arg(alloc))
+}
+
+/// The command with the flags too.
+fn with_flags<'a>(alloc: Global, command: Command<'a>) -> Result<Command<'a>, AllocError>
+    ensures { IfOk result (λ c. app_of c ≡ with_flags (app_of command.entry)) }
+{
+    command
+        .arg(flag(alloc, "json", help::JSON))?
+        .arg(flag(alloc, "carriers", help::CARRIERS))?
+        .arg(flag(alloc, "explain", help::EXPLAIN))?
+        .arg(flag(alloc, "svg", help::SVG))?
+        .arg(flag(alloc, "coverage", help::COVERAGE))?
+        .arg(flag(alloc, "complete", help::COMPLETE))?
+        .arg(flag(alloc, "strength", help::STRENGTH))
+}
+
+/// The command with the names of files too.
+fn with_names<'a>(alloc: Global, command: Command<'a>) -> Result<Command<'a>, AllocError>
+    ensures { IfOk result (λ c. app_of c ≡ with_names (app_of command.entry)) }
+{
+    command
+        .arg(text_option(alloc, "where", "ROWS", help::WHERE))?
+        .arg(text_option(alloc, "list", "LIST", help::LIST))?
         .arg(files_arg(alloc))
+}
+
+/// The command.
+pub(crate) fn command_of<'a>(alloc: Global) -> Result<Command<'a>, AllocError>
+    ensures { IfOk result (λ c. IsCommand (app_of c)) }
+{
+    let command = with_options(alloc)?;
+    let command = with_flags(alloc, command)?;
+    with_names(alloc, command)
 }

@@ -14,7 +14,7 @@ Traces, at most 8; all events of a hart stand in one of them.{n}\
 Standard input is read where no file is named";
 
 /// On `--workers`.
-pub(crate) const WORKERS: &str = "Threads that judge several files, 1 to 24";
+pub(crate) const WORKERS: &str = "Threads that judge several pipes, 1 to 24";
 
 /// On `--slots`.
 pub(crate) const SLOTS: &str = "Slots that carry events to them, 2 to 16";

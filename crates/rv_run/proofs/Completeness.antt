@@ -8,16 +8,13 @@ use Rattle.rv_run.specs.Completeness.{Lacks}
 use Rattle.rv_run.specs.declared.feeding.FeedEnd.TheVariants as end
 use Rattle.rv_run.specs.declared.missing.Missing.{Missing}
 use Rattle.rv_run.specs.declared.missing.Missing.TheVariants.{EndRecord, Rows, Events, Store}
+use Rattle.std.proofs.lemmas.List.{nil_from_length}
 use Rattle.rv_run.proofs.MergeCounts.{length-merge, waiting-merge}
 use Rattle.rv_run.proofs.Outcomes.{each-of, every, merge-true, read-true, said-true}
 
-none-left : (log : List Entry) → length log ≡ 0 → log ≡ []
-none-left [] none = refl
-none-left (x ∷ log) none = cc none
-
 -- the end record of one source, by what was read of it
 counted-one : (s : Option Stream) (fed : Fed) → IsFedOf s fed → fed.end ≡ end.Whole →
-    fed.said ≡ Some (length fed.events.items) → IsCounted s
+    fed.said ≡ Some (length fed.events) → IsCounted s
 counted-one None fed is whole counts = tt
 counted-one (Some s) fed is whole counts =
     let so = said-true s fed is whole in so.0 ∙ counts ∙ ap Some (sym so.1)
@@ -85,7 +82,7 @@ module _ (streams : List (Option Stream)) (fed : List Fed) (any : Fed) (same : l
       let all = every streams fed any same each in
       let long : length log ≡ length all = length-merge (length fed) log all merge.0 merge.1 merge.2 in (
         all-counted log whole counts,
-        (all, read-true streams fed any same each log whole, none-left all (sym long ∙ ap length lacks)),
+        (all, read-true streams fed any same each log whole, nil_from_length all (sym long ∙ ap length lacks)),
       )
   log-true log whole (Some (Store w)) counts lacks =
       let merge = merge-true streams fed any same each log whole in (

@@ -23,7 +23,7 @@ own-entries source (e ∷ es) =
     (from_source source (entries_of source es))) (eq-eqb source source refl)
     ∙ ap (λ (l : List Entry). record { source = source; event = e } ∷ l) (own-entries source es)
 
-other-entries : (source other : ℕ) (es : List Event) → (source ≡ other → ⊥) →
+pub other-entries : (source other : ℕ) (es : List Event) → (source ≡ other → ⊥) →
     from_source source (entries_of other es) ≡ []
 other-entries source other [] differ = refl
 other-entries source other (e ∷ es) differ =

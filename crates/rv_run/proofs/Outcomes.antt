@@ -120,25 +120,25 @@ allowed-true model streams log ess ok low given long all whole =
 
 -- the first of what was read are the first of the source
 first-true : (s : Option Stream) (fed : Fed) (given : List Event) (n : ℕ) → IsFedOf s fed →
-    given ≡ take n fed.events.items → IfSome s (λ t. IsPrefix given t.events)
+    given ≡ take n fed.events → IfSome s (λ t. IsPrefix given t.events)
 first-true None fed given n is first = tt
 first-true (Some t) fed given n is first = (
-  drop n fed.events.items ++ is.0.0,
-  is.0.1 ∙ ap (λ (l : List Event). l ++ is.0.0) (sym (take-append-drop n fed.events.items))
-      ∙ append_assoc (take n fed.events.items) (drop n fed.events.items) is.0.0 ∙
-      ap (λ (l : List Event). l ++ (drop n fed.events.items ++ is.0.0)) (sym first),
+  drop n fed.events ++ is.0.0,
+  is.0.1 ∙ ap (λ (l : List Event). l ++ is.0.0) (sym (take-append-drop n fed.events))
+      ∙ append_assoc (take n fed.events) (drop n fed.events) is.0.0 ∙
+      ap (λ (l : List Event). l ++ (drop n fed.events ++ is.0.0)) (sym first),
 )
 
 all-true : (s : Option Stream) (fed : Fed) → IsFedOf s fed → fed.end ≡ end.Whole →
-    AreEventsOf s fed.events.items × EndsWhole s
+    AreEventsOf s fed.events × EndsWhole s
 all-true None fed is whole = (tt, tt)
-all-true (Some t) fed is whole = let so = subst (IsEndOf t fed.events.items fed.said) whole is.1 in (so.0, so.1)
+all-true (Some t) fed is whole = let so = subst (IsEndOf t fed.events fed.said) whole is.1 in (so.0, so.1)
 
 -- and so does its end record
 pub said-true : (s : Stream) (fed : Fed) → IsFedOf (Some s) fed → fed.end ≡ end.Whole →
-    (s.said ≡ fed.said) × (length s.events ≡ length fed.events.items)
+    (s.said ≡ fed.said) × (length s.events ≡ length fed.events)
 said-true s fed is whole =
-    let so = subst (IsEndOf s fed.events.items fed.said) whole is.1 in (so.2, ap length so.0)
+    let so = subst (IsEndOf s fed.events fed.said) whole is.1 in (so.2, ap length so.0)
 
 prefix-known : (o : Option Stream) (given es : List Event) → IsSome o → IfSome o (λ t. IsPrefix given t.events) →
     AreEventsOf o es → IsPrefix given es
@@ -239,17 +239,17 @@ module _ (streams : List (Option Stream)) (fed : List Fed) (any : Fed) (same : l
         first-true (get_or streams i None) (get_or fed i any) (given_by i log) so.count (each i any low) so.first;
   }
 
-  read-at : (i : ℕ) → i < length fed → get_or (map (λ (f : Fed). f.events.items) fed) i [] ≡
-      (get_or fed i any).events.items
-  read-at i low = get_or-map (λ (f : Fed). f.events.items) fed i any [] low
+  read-at : (i : ℕ) → i < length fed → get_or (map (λ (f : Fed). f.events) fed) i [] ≡
+      (get_or fed i any).events
+  read-at i low = get_or-map (λ (f : Fed). f.events) fed i any [] low
 
   -- an outcome that agrees with what was read is true of the sources
   pub outcome-true : (model : MemoryModel) (outcome : Outcome) → AgreesWith model fed outcome →
       IsTrueOf model streams outcome
   outcome-true model (Allowed e o w) a =
       let log = a.0 in
-      let ess = map (λ (f : Fed). f.events.items) fed in
-      let long : length ess ≡ length fed = length-map fed (λ (f : Fed). f.events.items) in
+      let ess = map (λ (f : Fed). f.events) fed in
+      let long : length ess ≡ length fed = length-map fed (λ (f : Fed). f.events) in
       let ended = λ (i : ℕ) (low : i < length streams). all-true (get_or streams i None) (get_or fed i any)
       (each i any low) (a.2.1 i any (omega (arith, low, same))).ended in
       let told = allowed-true model streams log ess a.1
@@ -289,12 +289,12 @@ module _ (streams : List (Option Stream)) (fed : List Fed) (any : Fed) (same : l
 
   -- a log of all that was read has the events of the sources
   abbrev pub every : List Entry
-  every = together 0 (map (λ (f : Fed). f.events.items) fed)
+  every = together 0 (map (λ (f : Fed). f.events) fed)
 
   pub read-true : (log : List Entry) → IsWhole log fed → HasRead 0 streams every
   read-true log whole =
-      let ess = map (λ (f : Fed). f.events.items) fed in
-      let long : length ess ≡ length fed = length-map fed (λ (f : Fed). f.events.items) in
+      let ess = map (λ (f : Fed). f.events) fed in
+      let long : length ess ≡ length fed = length-map fed (λ (f : Fed). f.events) in
       read-all 0 streams ess (long ∙ same) (λ i low. let here : i < length fed = omega (arith, low, same) in
       subst (λ (l : List Event). AreEventsOf (get_or streams i None) l) (sym (read-at i here))
       (all-true (get_or streams i None) (get_or fed i any) (each i any low) (whole.1 i any here).ended).0)
@@ -302,8 +302,8 @@ module _ (streams : List (Option Stream)) (fed : List Fed) (any : Fed) (same : l
   pub merge-true : (log : List Entry) → IsWhole log fed →
       All (λ x. x.source < length fed) log × All (λ x. x.source < length fed) every × SameSources log every
   merge-true log whole =
-      let ess = map (λ (f : Fed). f.events.items) fed in
-      let long : length ess ≡ length fed = length-map fed (λ (f : Fed). f.events.items) in (
+      let ess = map (λ (f : Fed). f.events) fed in
+      let long : length ess ≡ length fed = length-map fed (λ (f : Fed). f.events) in (
         whole.0,
         subst (λ (n : ℕ). All (λ x. x.source < n) every) long (low-together 0 (length ess) ess (omega arith)),
         merge-of log ess (subst (λ (n : ℕ). All (λ x. x.source < n) log) (sym long) whole.0)
@@ -329,7 +329,7 @@ module _ (streams : List (Option Stream)) (fed : List Fed) (any : Fed) (same : l
     where
       own : (s : Option Stream) (one : Fed) → IsFedOf s one → one.end ≡ end.Fault f → EndsIn s f
       own None one is by = tt
-      own (Some t) one is by = subst (IsEndOf t one.events.items one.said) by is.1
+      own (Some t) one is by = subst (IsEndOf t one.events one.said) by is.1
   fault-true fault.NoMemory told = tt
   fault-true fault.Lost told = tt
   fault-true fault.Settings told = tt

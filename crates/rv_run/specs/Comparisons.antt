@@ -26,12 +26,12 @@ use Rattle.rv_run.specs.declared.missing.Missing.TheVariants.{EndRecord, Rows, E
 -- the log's events of the source are the first that were read
 pub record IsBegunIn (log : List Entry) (source : ℕ) (fed : Fed) : Type 0 where
   pub count : ℕ
-  pub first : given_by source log ≡ take count fed.events.items
+  pub first : given_by source log ≡ take count fed.events
 
 -- the source was read to its end, and the log's events of it are all that were read
 pub record IsWholeIn (log : List Entry) (source : ℕ) (fed : Fed) : Type 0 where
   pub ended : fed.end ≡ Whole
-  pub all : given_by source log ≡ fed.events.items
+  pub all : given_by source log ≡ fed.events
 
 -- each source's entries are the first that were read of it, or all of them; and there are no others
 abbrev pub IsBegun : List Entry → List Fed → Type 0
@@ -63,10 +63,10 @@ IsTestedBy model fed s = (log : List Entry) × IsWhole log fed × IsStrength mod
 -- ---- completeness
 -- the end record of a source counts the events that were read, or this is what it lacks
 abbrev pub IsCountedFed : Fed → Type 0
-IsCountedFed fed = fed.said ≡ Some (length fed.events.items)
+IsCountedFed fed = fed.said ≡ Some (length fed.events)
 
 abbrev pub IsMiscountedFed : ℕ → ℕ → Fed → Type 0
-IsMiscountedFed rows said fed = (rows ≢ said) × (length fed.events.items ≡ rows) × (fed.said ≡ Some said)
+IsMiscountedFed rows said fed = (rows ≢ said) × (length fed.events ≡ rows) × (fed.said ≡ Some said)
 
 -- of a source with so many rows, whose end record, if it has one, says so much
 abbrev pub IsEndLacking : ℕ → ℕ → Option ℕ → Option Missing → Type 0
@@ -78,7 +78,7 @@ IsEndLacking source rows said (Some Events) = ⊥
 IsEndLacking source rows said (Some (Store w)) = ⊥
 
 abbrev pub IsFedLacking : ℕ → Fed → Option Missing → Type 0
-IsFedLacking source fed m = IsEndLacking source (length fed.events.items) fed.said m
+IsFedLacking source fed m = IsEndLacking source (length fed.events) fed.said m
 
 -- the end records of the first so many sources do; those of all, or this is the first that does not
 abbrev pub AreCountedFed : List Fed → ℕ → Type 0

@@ -29,7 +29,7 @@ IsReadOf (Some s) events said end = IsPrefix events s.events × IsEndOf s events
 
 -- what a feeder gives is so
 abbrev pub IsFedOf : Option Stream → Fed → Type 0
-IsFedOf start fed = IsReadOf start fed.events.items fed.said fed.end
+IsFedOf start fed = IsReadOf start fed.events fed.said fed.end
 
 -- no fault was met, and these events were taken, which can be packed
 pub record IsFeeding (start : Option Stream) (events : List Event) (trace : TraceLeft) : Type 0 where

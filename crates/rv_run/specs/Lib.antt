@@ -4,9 +4,10 @@ pub mod Desks
 pub mod Drives
 pub mod Feeds
 pub mod Gates
+pub mod InTurn
 pub mod Outcomes
 pub mod Ranges
-pub mod Single
+pub mod Reads
 pub mod Sources
 pub mod Strengths
 pub mod Turns

@@ -34,15 +34,15 @@ fn are_of_sources(log: &[Entry], sources: usize) -> bool
 fn is_begun_in(log: &[Entry], source: u8, fed: &Fed) -> bool
     ensures { IsTrue result → IsBegunIn log.now source fed.now }
 {
-    count_first(log, source, fed.events.as_slice()).is_some()
+    count_first(log, source, fed.events()).is_some()
 }
 
 /// Whether the source was read to its end, and the log's events of it are all that were read.
 fn is_whole_in(log: &[Entry], source: u8, fed: &Fed) -> bool
     ensures { IsTrue result → IsWholeIn log.now source fed.now }
 {
-    matches!(fed.end, FeedEnd::Whole)
-        && count_first(log, source, fed.events.as_slice()) == Some(fed.events.len())
+    matches!(fed.end(), FeedEnd::Whole)
+        && count_first(log, source, fed.events()) == Some(fed.events().len())
 }
 
 /// Whether the log has the first of each source's events, and no others.

@@ -13,6 +13,7 @@ use rv_slots::{Carrier, Put};
 use rv_trace::{Dialect, FaultKind, Trace, TraceFault};
 use std::alloc::Global;
 use std::io::Read;
+use std::marker::Model;
 use std::sync::Wait;
 
 /// How many events a chunk has, but for the last and those that are put before a wait.
@@ -44,6 +45,8 @@ pub(crate) struct Source<R> {
 }
 
 /// The events that a feeder has read, in order, and how it ended.
+///
+/// Contracts see the list of events, the end, and what the end record says.
 #[derive(Drop, Debug)]
 pub struct Fed {
     /// The events.
@@ -52,6 +55,30 @@ pub struct Fed {
     pub end: FeedEnd,
     /// How many rows the source's end record says, where it was read to its end and has one.
     pub said: Option<u32>,
+}
+
+impl Model for Fed {
+    ghost use Rattle.rv_run.specs.Reads.{SourceRead};
+
+    ghost Value = { SourceRead };
+
+    ghost view = { λ f. record { events = f.events.items; end = f.end; said = f.said } };
+}
+
+impl Fed {
+    /// The events.
+    pub(crate) fn events(&self) -> &[Event]
+        ensures { result.now ≡ self.now.events }
+    {
+        self.events.as_slice()
+    }
+
+    /// How the feeder ended.
+    pub(crate) fn end(&self) -> FeedEnd
+        ensures { result ≡ self.now.end }
+    {
+        self.end
+    }
 }
 
 /// Tries until a slot has taken the chunk (`Placed`), or the gate is stopped (`Busy`). Between two
@@ -152,7 +179,7 @@ fn settle_end<RT: Wait, G: Gate>(rt: &RT, end: FeedEnd, is_put: bool, gate: &G) 
 
 /// What a feeder gives where the gate was stopped.
 fn stopped(events: Vec<Event>) -> Fed
-    ensures { result ≡ record { events = events; end = Stopped; said = None } }
+    ensures { result ≡ record { events = events.items; end = Stopped; said = None } }
 {
     Fed {
         events,

@@ -116,7 +116,7 @@ fn first_fault(fed: &[Fed]) -> Option<RunFault>
     ensures { IfSome result (IsFaultIn fed.now) }
 {
     for i in 0..fed.len() {
-        if let FeedEnd::Fault(fault) = fed[i].end {
+        if let FeedEnd::Fault(fault) = fed[i].end() {
             let source = i as u8;
             return Some(RunFault::Trace { source, fault });
         }
@@ -126,7 +126,7 @@ fn first_fault(fed: &[Fed]) -> Option<RunFault>
 
 /// Whether a thread found no memory.
 fn is_out_of_memory<S>(fed: &[Fed], served: &[Served<S>]) -> bool {
-    fed.iter().any(|f| matches!(f.end, FeedEnd::NoMemory))
+    fed.iter().any(|f| matches!(f.end(), FeedEnd::NoMemory))
         || served.iter().any(|s| matches!(s.end, ServeEnd::NoMemory))
 }
 

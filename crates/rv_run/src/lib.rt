@@ -9,7 +9,7 @@
 //! - [`driving`]: a thread for each, over any carrier and any gate. `step`: a carrier and a gate by
 //!   which no source runs far ahead of the others, and threads are woken that rest; `waiting`: how
 //!   they come to rest.
-//! - `single`: a single source, read and judged in turn.
+//! - `in_turn`: the same in one thread, for sources that never have to be waited for.
 //! - [`running`]: a run's parts, and its settings; `judging`, `comparing`: what the threads'
 //!   answers come to; [`missing`]: what a run lacks that would be complete.
 //! - [`fault`]: why a run has no outcome; [`laws`]: that outcomes agree.
@@ -28,12 +28,12 @@ mod driving;
 mod fault;
 mod feeding;
 mod gate;
+mod in_turn;
 mod judging;
 mod laws;
 mod missing;
 mod running;
 mod serving;
-mod single;
 mod step;
 mod waiting;
 

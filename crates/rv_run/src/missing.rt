@@ -70,7 +70,7 @@ pub(crate) fn end_lacking(source: u8, rows: usize, said: Option<u32>) -> Option<
 fn fed_lacking(source: u8, fed: &Fed) -> Option<Missing>
     ensures { IsFedLacking source fed.now result }
 {
-    end_lacking(source, fed.events.len(), fed.said)
+    end_lacking(source, fed.events().len(), fed.said)
 }
 
 /// What the end records lack: that of the lowest source that lacks something.

@@ -13,8 +13,8 @@ ghost use Rattle.rv_run.specs.declared.fault.RunFault.TheVariants as fault;
 use crate::driving::{Shared, drive_shared};
 use crate::fault::RunFault;
 use crate::gate::BookGate;
+use crate::in_turn::run_in_turn;
 use crate::judging::{Judged, Question, judge};
-use crate::single::run_single;
 use crate::step::InStep;
 use rv_event::MemoryModel;
 use rv_pipe::Bell;
@@ -63,8 +63,8 @@ pub struct Reading<'b> {
     pub covering: bool,
     /// Whether it is found how many older reads would be refused, where they are allowed.
     pub testing: bool,
-    /// Whether a single source is read and judged in turn, in the thread that calls. Else it is
-    /// read in a thread of its own, as several are.
+    /// Whether the sources are read and judged in turn, in the thread that calls. Else each is read
+    /// in a thread of its own, as those have to be that may keep the others waiting.
     pub in_turn: bool,
 }
 
@@ -272,15 +272,17 @@ pub fn run_with_bell<RT: Threads + Wait + Sync, R: Read + Send + Drop>(
 /// by itself, and it is told how many of the logs are refused so. Which loads are chosen depends on
 /// the merge.
 ///
-/// Where a single source is to be read in turn, no thread is started, and the numbers of workers
-/// and slots are only looked at for their range. The outcome promises the same.
+/// Where the sources are to be read in turn, no thread is started, and the numbers of workers and
+/// slots are only looked at for their range. Eight events are taken of each source in turn, so
+/// which event is refused, where several could be, is the same in each run. A read that waits
+/// keeps all sources waiting. The outcome promises the same.
 ///
 /// # Errors
 /// As [`run_with_bell`].
 pub fn run_reading<RT: Threads + Wait + Sync, R: Read + Send + Drop>(
     rt: &RT,
     alloc: Global,
-    mut readers: Vec<R>,
+    readers: Vec<R>,
     settings: Settings,
     reading: Reading<'_>,
 ) -> Result<Judged, RunFault>
@@ -310,17 +312,9 @@ pub fn run_reading<RT: Threads + Wait + Sync, R: Read + Send + Drop>(
     if !settings.admit(readers.len()) {
         return Err(RunFault::Settings);
     }
-    if reading.in_turn && readers.len() == 1 {
-        let Some(reader) = readers.pop() else {
-            unreachable!()
-        };
-        let judged = run_single(
-            rt,
-            alloc,
-            reader,
-            reading.dialect,
-            reading.question(settings),
-        );
+    if reading.in_turn {
+        let question = reading.question(settings);
+        let judged = run_in_turn(rt, alloc, readers, reading.dialect, question);
         reading.bell.end();
         return judged;
     }

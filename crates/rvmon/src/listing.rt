@@ -31,9 +31,6 @@ use std::sync::Wait;
 use std::thread::Threads;
 use thiserror::Error;
 
-/// Files with fewer bytes than this are small.
-const SMALL: u64 = 1 << 20;
-
 /// Why a list ends before its last trace is told.
 #[derive(Clone, Copy, PartialEq, Eq, Debug, Error)]
 pub enum ListFault {
@@ -59,16 +56,15 @@ impl From<ReportFault> for ListFault {
     }
 }
 
-/// The request of one trace: these files and workers, with the settings of the whole.
-fn request_of(whole: &Asked, workers: u8, files: Vec<String>) -> Asked
+/// The request of one trace: these files, with the settings of the whole.
+fn request_of(whole: &Asked, files: Vec<String>) -> Asked
     requires range { AreInRange whole.now }
-    requires workers { (1 ≤ workers) × (workers ≤ 24) }
     requires few { length files.items ≤ 8 }
     ensures request { IsRequestOf whole.now (map string_bytes files.items) result }
     ensures range { AreInRange result }
 {
     Asked {
-        workers,
+        workers: whole.workers,
         slots: whole.slots,
         model: whole.model,
         json: true,
@@ -266,18 +262,6 @@ pub struct Judge<'a, RT, O> {
 }
 
 impl<'a, RT: Threads + Wait + Sync + Copy + Send + 'static, O: Opener> Judge<'a, RT, O> {
-    /// How many workers judge a trace: one where its files are small, as more only cost more there.
-    fn workers_for(&self, files: &[String]) -> u8
-        requires { AreInRange self.now.asked.now }
-        ensures { (1 ≤ result) × (result ≤ 24) }
-    {
-        let mut bytes = 0u64;
-        for name in files {
-            bytes = bytes.saturating_add(self.opener.size(name));
-        }
-        if bytes < SMALL { 1 } else { self.asked.workers }
-    }
-
     /// Judges the trace that a line names, and writes its line.
     fn tell_line<W: Write>(&self, out: &mut W, line: &[u8], number: u32) -> Result<u8, ReportFault>
         requires { AreInRange self.now.asked.now }
@@ -289,8 +273,7 @@ impl<'a, RT: Threads + Wait + Sync + Copy + Send + 'static, O: Opener> Judge<'a,
             Ok(files) => files,
             Err(fault) => return tell_no_trace(alloc, out, number, line, fault),
         };
-        let workers = self.workers_for(files.as_slice());
-        let asked = request_of(self.asked, workers, files);
+        let asked = request_of(self.asked, files);
         let ending = answer(&self.rt, self.threads, self.opener, &asked);
         tell_ending(alloc, out, asked.files.as_slice(), &ending)
     }

@@ -49,9 +49,10 @@ use std::thread::Threads;
 use words::{texts_of, words_of};
 use work::Work;
 
-/// What comes of a request. Its files are those of the opener, and are judged in threads of the
-/// second handle. A source that may be silent is read in a thread that is left behind where the
-/// others decide, and so it ends with the program.
+/// What comes of a request. Its files are those of the opener, and are read and judged in turn.
+/// Where one of several sources may be silent, they are judged in threads of the second handle
+/// instead. Such a source is read in a thread that is left behind where the others decide, and so it
+/// ends with the program.
 fn answer<RT: Threads + Wait + Sync + Copy + Send + 'static, O: Opener>(
     rt: &HostRuntime,
     threads: &RT,
@@ -74,12 +75,14 @@ fn answer<RT: Threads + Wait + Sync + Copy + Send + 'static, O: Opener>(
         slots: asked.slots,
         model: asked.model,
     };
+    // A source that may keep the others waiting has a thread of its own.
+    let in_turn = inputs.len() == 1 || pipes.iter().all(|pipe| pipe.is_none());
     let reading = Reading {
         dialect: dialect_of(asked),
         bell: &bell,
         covering: is_covering(asked),
         testing: asked.strength,
-        in_turn: true,
+        in_turn,
     };
     match run_reading(threads, rt.alloc(), inputs, settings, reading) {
         Ok(judged) => Ending::Ran(judged),

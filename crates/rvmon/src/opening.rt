@@ -33,9 +33,6 @@ pub trait Opener {
             Self.File.remaining f ≡ known self.now (string_bytes name.now))) }
         ensures silent { IfOk result (λ file. IfNone file
             (known self.now (string_bytes name.now) ≡ None)) };
-
-    /// How many bytes the file of this name has, as far as that is known before it is read; else 0.
-    fn size(&self, name: &String) -> u64;
 }
 
 /// A file that is not there, or may not be read.
@@ -70,13 +67,6 @@ impl Opener for SystemFiles {
         match File::open(&self.rt, name.as_str()) {
             Ok(file) => Ok(Some(file)),
             Err(_) => Err(Unopened),
-        }
-    }
-
-    fn size(&self, name: &String) -> u64 {
-        match fs::metadata(&self.rt, name.as_str()) {
-            Ok(found) => found.len(),
-            Err(_) => 0,
         }
     }
 }

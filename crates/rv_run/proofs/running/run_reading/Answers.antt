@@ -1,14 +1,12 @@
-use Rattle.rv_run.proofs.Common.{List, [], ◌∷◌, ◌≡◌, rules}
+use Rattle.rv_run.proofs.Common.{rules}
 use Rattle.std.proofs.lemmas.Result.{IfOk-weaker}
 use Rattle.rv_run.proofs.running.run_reading.Goals as goal
 
--- A single source is the only reader.
-pub returns-then-len-eq1 : goal.returns-then-len-eq1
-returns-then-len-eq1 g c =
-    let only : c.args.readers.items ≡ c.in-Some.reader ∷ [] = search rules in
-    let told = rw c.question.ensures at c.run_single-judged.ensures in
-    let answer = c.run_single-judged.result in
-    rw only (record {
+-- Sources that are read in turn.
+pub returns-then-reading : goal.returns-then-reading
+returns-then-reading g c =
+    let told = rw c.question-question.ensures at c.run_in_turn-judged.ensures in
+    let answer = c.run_in_turn-judged.result in record {
       allowed = IfOk-weaker answer _ _ (λ j is. is.allowed) told.judged;
       forbidden = IfOk-weaker answer _ _ (λ j is. is.forbidden) told.judged;
       malformed = IfOk-weaker answer _ _ (λ j is. is.malformed) told.judged;
@@ -21,4 +19,4 @@ returns-then-len-eq1 g c =
       tested = IfOk-weaker answer _ _ (λ j is. is.tested) told.judged;
       fault = told.fault;
       settings = search rules;
-    })
+    }

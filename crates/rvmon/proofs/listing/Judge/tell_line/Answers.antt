@@ -8,8 +8,8 @@ pub returns : goal.returns
 returns g c =
     let names = map string_bytes c.in-Ok.files.items in
     let ending = c.answer-ending.result in
-    let same : map string_bytes c.as_slice-2.result.now ≡ names =
-    ap (map string_bytes) c.as_slice-2.ensures.value ∙ c.request_of-asked.ensures.request.files in
+    let same : map string_bytes c.as_slice.result.now ≡ names =
+    ap (map string_bytes) c.as_slice.ensures.value ∙ c.request_of-asked.ensures.request.files in
     IfOk-weaker c.tell_ending.result _ _ (λ status told. (
       told.0,
       told.1,

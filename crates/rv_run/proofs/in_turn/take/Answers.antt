@@ -1,5 +1,5 @@
 use Rattle.rv_run.proofs.Common.{IsFinal, MemoryModel, subst}
-use Rattle.rv_run.proofs.single.take.Goals as goal
+use Rattle.rv_run.proofs.in_turn.take.Goals as goal
 
 -- The book's refusal is the source's, and final.
 pub returns-in-Forbidden-clause-refused : goal.returns-in-Forbidden-clause-refused

@@ -1,0 +1,21 @@
+use Rattle.std.specs.Prelude.{◌≡◌, IsFalse, true}
+use Rattle.rv_run.specs.InTurn.{AreOver, AreTaking, streams_left}
+use Rattle.rv_run.proofs.in_turn.take_all.Given as goal
+
+-- the book goes on, and has what the traces gave
+abbrev pub invariant-loop : goal.invariant-loop
+invariant-loop g l = record {
+  taking : AreTaking (streams_left l.fn.traces) l.book.log l.traces;
+  going : IsFalse l.book.stopped;
+  model : l.book.model ≡ l.fn.book.model;
+}
+
+-- and so it does between two turns, where the traces up to here have given all unless one said else
+abbrev pub invariant-loop-trace : goal.invariant-loop-trace
+invariant-loop-trace g l = record {
+  taking : AreTaking (streams_left l.fn.traces) l.book.log l.traces;
+  going : IsFalse l.book.stopped;
+  model : l.book.model ≡ l.fn.book.model;
+  number : l.source ≡ l.trace-index;
+  over : l.is_over ≡ true → AreOver l.traces l.trace-index;
+}
