@@ -7,16 +7,21 @@ import re
 from opinion.model import Log, certifies, fault_of, has_lawful_order
 from opinion.traces import read_source
 
-# How many rows of a file are judged before it is the turn of the next one
+# How many rows of a file are judged at most before it is the turn of the next one
 ROWS_OF_TURN = 8
 
 # Outcomes: the first line of a report, or the line on standard error
 
 
+def is_waiting(log, event):
+    """Whether the event returned a version that no store of the log has written."""
+    return event.is_load and event.read > 0 and log.writer(event.word, event.read) is None
+
+
 def allowed_line(log):
     """What is said of a log that has a lawful order."""
     operations = [event for event in log.events if event.is_memory]
-    waiting = [e for e in operations if e.is_load and e.read > 0 and log.writer(e.word, e.read) is None]
+    waiting = [event for event in operations if is_waiting(log, event)]
     return f"allowed: {len(log.events)} events, {len(operations)} operations, {len(waiting)} waiting loads"
 
 
@@ -29,7 +34,7 @@ def lack_of(given, said, log):
             return f"source {source} ends after {len(events)} rows, and says {number}"
     if not log.events:
         return "no events"
-    waiting = [e for e in log.events if e.is_load and e.read > 0 and log.writer(e.word, e.read) is None]
+    waiting = [event for event in log.events if is_waiting(log, event)]
     for load in sorted(waiting, key=lambda event: (event.hart, event.seq)):
         return f"{load.name} waits for version {load.read} of word {load.word}"
     return None
@@ -55,13 +60,18 @@ def strength_line(log):
 
 
 def outcome_in_turn(sources, model, has_carriers, is_complete=False, tells_strength=False):
-    """The outcome where the rows of the sources are judged in turn, eight of each: by its line the log that is the
-    evidence of a refusal, or the lines that follow where it is allowed."""
+    """The outcome where the rows of the sources are judged in turn: by its line the log that is the evidence of a
+    refusal, or the lines that follow where it is allowed.
+
+    A turn has eight rows. A load that waits for its store ends the turn of its source before. Where no source could go
+    on so, the next turns begin with the event of the one whose last event is the oldest, whatever it waits for.
+    """
     given, faults, said = zip(*(read_source(text, has_carriers, is_complete) for text in sources))
     log = Log([], model, {})
-    arrived = [0] * len(given)
-    unread = set(range(len(given)))
+    arrived, since = [0] * len(given), [0] * len(given)
+    unread, overdue = set(range(len(given))), None
     while unread:
+        before, waiting = len(log.events), set()
         for source in sorted(unread):
             for _ in range(ROWS_OF_TURN):
                 if arrived[source] == len(given[source]):
@@ -70,11 +80,17 @@ def outcome_in_turn(sources, model, has_carriers, is_complete=False, tells_stren
                     unread.discard(source)
                     break
                 event = given[source][arrived[source]]
+                is_overdue = overdue is not None and since[source] <= overdue
+                if len(given) > 1 and not is_overdue and is_waiting(log, event):
+                    waiting.add(source)
+                    break
                 refusal = refusal_line(log, source, event)
                 log = log.extended(source, event)
                 if refusal:
                     return {refusal: [log]}
                 arrived[source] += 1
+                since[source] = len(log.events)
+        overdue = min((since[source] for source in waiting), default=None) if len(log.events) == before else None
     return {allowed_line(log): lines_behind(given, said, log, is_complete, tells_strength)}
 
 

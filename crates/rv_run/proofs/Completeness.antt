@@ -1,6 +1,6 @@
 -- What a run lacks, by what was read, its sources lack.
 use Rattle.rv_run.proofs.Common.{◌≡◌, ◌<◌, ◌≤◌, ◌∙◌, ℕ, List, [], ◌∷◌, Option, None, Some}
-use Rattle.rv_run.proofs.Common.{ap, arith, get_or, inl, inr, length, length-map, map, refl, subst, sym, waiting_of}
+use Rattle.rv_run.proofs.Common.{ap, arith, get_or, inl, inr, length, length-map, map, subst, sym, waiting_of}
 use Rattle.rv_run.proofs.Common.{Entry, Fed, IsFedOf, Stream}
 use Rattle.rv_run.specs.Comparisons.{AreCountedFed, AreEndsLacking, IsLogLacking, IsMiscountedFed, IsWhole, LacksBy}
 use Rattle.rv_run.specs.Completeness.{AreCounted, HasNoEnd, IsCounted, IsMiscounted}

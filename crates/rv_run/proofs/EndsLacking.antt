@@ -26,3 +26,9 @@ pub first-end : (fed : List Fed) (i : ℕ) (one : Fed) (m : Option Missing) → 
 first-end fed i one None so_far low is lacks some = cc some
 first-end fed i one (Some m) so_far low is lacks some =
     (i, so_far, low, λ f. subst (λ (x : Fed). IsFedLacking i x (Some m)) (at-place fed i one f low is) lacks)
+
+-- where nothing is lacking, the end records of all count their rows
+pub ends-counted : (fed : List Fed) (m : Option Missing) → AreEndsLacking fed m → is_some m ≡ false →
+    AreCountedFed fed (length fed)
+ends-counted fed None told none = told
+ends-counted fed (Some m) told none = cc none

@@ -23,6 +23,7 @@ use Rattle.rv_coverage.specs.declared.coverage.Coverage.{Coverage}
 use Rattle.rv_replay.specs.Strengths.{IsStrength}
 use Rattle.rv_replay.specs.declared.strength.Strength.{Strength}
 use Rattle.std.specs.Prelude.{IsSome, IsTrue}
+use Rattle.rv_run.specs.Ahead.{IsKept}
 use Rattle.rv_run.specs.Comparisons.{IsLacking, IsTestedBy, IsWhole}
 use Rattle.rv_run.specs.InTurn.{AreOver, AreRefused, AreTaken, AreTaking, HasTaken, IsFaultOfTurn, IsJudgedOf, IsOver}
 use Rattle.rv_run.specs.InTurn.{IsRefusedOver, IsRefusedTurn, entry_of, reads_from, streams_left}
@@ -112,6 +113,26 @@ turn-goes-on source before old new first book grown e so takes good log model st
   model = model ∙ so.model;
   stopped = stopped ∙ so.stopped;
 }
+
+-- or the next one waits
+pub turn-waits : (source : ℕ) (before old new : TraceLeft) (first book : Booked) →
+    HasTaken source before old first book → IsKept old.stream new.stream → new.fault ≡ None →
+    HasTaken source before new first book
+turn-waits source before old new first book so kept good = record {
+  events = so.events;
+  taken = still before.stream old.stream new.stream so.taken kept;
+  good = good;
+  log = so.log;
+  model = so.model;
+  stopped = so.stopped;
+}
+  where
+    still : (start old new : Option Stream) → TakesEvents start old so.events → IsKept old new →
+        TakesEvents start new so.events
+    still None old new taken is = tt
+    still (Some s) None new taken is = absurd taken
+    still (Some s) (Some t) new taken is =
+        subst (λ (o : Option Stream). TakesEvents (Some s) o so.events) (sym is) taken
 
 -- and ends with the source
 pub turn-ends : (source : ℕ) (before old new : TraceLeft) (first book : Booked) →

@@ -1,3 +1,4 @@
+pub mod Ahead
 pub mod Comparisons
 pub mod Completeness
 pub mod Desks

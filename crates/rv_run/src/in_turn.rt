@@ -13,6 +13,7 @@ ghost use Rattle.rv_run.specs.InTurn.{entry_of, reads_from, streams_left};
 ghost use Rattle.rv_run.specs.Sources.{IsFaultAmong, streams_in};
 ghost use Rattle.rv_run.specs.declared.fault.RunFault.TheVariants as fault;
 
+use crate::ahead::{Ahead, Next};
 use crate::fault::RunFault;
 use crate::judging::{Judged, Question, tell_allowed};
 use crate::missing::{Missing, end_lacking, log_lacking};
@@ -30,7 +31,7 @@ const TURN: usize = 8;
 /// How the turn of a source ended.
 #[derive(Drop)]
 pub(crate) enum TurnEnd {
-    /// As many events were taken as one turn has.
+    /// There is more of it: as many events were taken as one turn has, or the next one waits.
     More,
     /// The source was read to its end.
     Whole,
@@ -63,75 +64,115 @@ fn take(book: &mut Book, source: u8, event: Event) -> Result<Option<Outcome>, No
 }
 
 /// Has the book take the next events of the source of this number: as many as a turn has, or those
-/// up to its end or to the first that is refused.
+/// up to its end, to the first that is refused, or to a load that waits for its store and is not
+/// overdue.
 fn take_turn<R: Read>(
-    trace: &mut Trace<R>,
-    source: u8,
+    source: &mut Ahead<R>,
+    number: u8,
     book: &mut Book,
+    overdue: Option<usize>,
 ) -> Result<TurnEnd, RunFault>
-    requires good { trace.old.fault ≡ None }
+    requires good { source.old.fault ≡ None }
     requires going { IsFalse book.old.stopped }
-    ensures end { IfOk result (IsTurn source trace.old trace.new book.old book.new) }
+    ensures end { IfOk result (IsTurn number source.old source.new book.old book.new) }
     ensures model { book.new.model ≡ book.old.model }
-    ensures fault { IfErr result (IsFaultOfTurn source trace.old.stream) }
+    ensures fault { IfErr result (IsFaultOfTurn number source.old.stream) }
 {
     for _ in 0..TURN {
-        match trace.next_event() {
-            Ok(Some(event)) => {
-                if let Some(outcome) = take(book, source, event)? {
+        match source.next_due(book, overdue) {
+            Ok(Next::Event(event)) => {
+                if let Some(outcome) = take(book, number, event)? {
                     return Ok(TurnEnd::Refused(outcome));
                 }
             }
-            Ok(None) => return Ok(TurnEnd::Whole),
-            Err(fault) => return Err(RunFault::Trace { source, fault }),
+            Ok(Next::Waits) => return Ok(TurnEnd::More),
+            Ok(Next::End) => return Ok(TurnEnd::Whole),
+            Err(fault) => {
+                return Err(RunFault::Trace {
+                    source: number,
+                    fault,
+                });
+            }
         }
     }
     Ok(TurnEnd::More)
 }
 
+/// How many events the book had when it took the last one of the source that waits longest, if one
+/// does.
+fn longest_wait<R: Read>(sources: &[Ahead<R>]) -> Option<usize> {
+    let mut longest = None;
+    for source in sources {
+        longest = match (longest, source.waits_since()) {
+            (Some(one), Some(other)) if other < one => Some(other),
+            (None, since) => since,
+            (one, _) => one,
+        };
+    }
+    longest
+}
+
 /// Has the book take the sources' events, a turn of each after the other, up to the end of all of
 /// them or the first event that is refused. The sources have the numbers 0, 1 and so on.
+///
+/// A load that waits for its store keeps its source waiting, so that the stores of sources that are
+/// behind come first. Where no source can go on so, the one that waits longest does. So what one
+/// event costs does not grow with how far the sources are apart.
 fn take_all<RT: Wait, R: Read>(
     rt: &RT,
-    traces: &mut [Trace<R>],
+    sources: &mut [Ahead<R>],
     book: &mut Book,
 ) -> Result<Option<Outcome>, RunFault>
-    requires few { length traces.old ≤ 8 }
-    requires good { All (λ t. t.fault ≡ None) traces.old }
+    requires few { length sources.old ≤ 8 }
+    requires good { All (λ t. t.fault ≡ None) sources.old }
     requires empty { book.old.log ≡ [] }
     requires going { IsFalse book.old.stopped }
     ensures end { IfOk result
-        (AreTaken book.old.model (streams_left traces.old) book.new.log traces.new) }
+        (AreTaken book.old.model (streams_left sources.old) book.new.log sources.new) }
     ensures model { book.new.model ≡ book.old.model }
-    ensures fault { IfErr result (IsFaultAmong (streams_left traces.old)) }
+    ensures fault { IfErr result (IsFaultAmong (streams_left sources.old)) }
     ensures settings { result ≢ Err fault.Settings }
 {
+    // A single source waits for none.
+    let mut overdue = if sources.len() == 1 {
+        Some(usize::MAX)
+    } else {
+        None
+    };
     for _ in rt.forever() {
+        let before = book.accepted();
         let mut is_over = true;
-        let mut source = 0u8;
-        for trace in traces.iter_mut() {
-            match take_turn(trace, source, book)? {
+        let mut number = 0u8;
+        for source in sources.iter_mut() {
+            match take_turn(source, number, book, overdue)? {
                 TurnEnd::More => is_over = false,
                 TurnEnd::Whole => {}
                 TurnEnd::Refused(outcome) => return Ok(Some(outcome)),
             }
-            source += 1;
+            number += 1;
         }
         if is_over {
             return Ok(None);
+        }
+        if sources.len() > 1 {
+            overdue = if book.accepted() == before {
+                longest_wait(sources)
+            } else {
+                None
+            };
         }
     }
     unreachable!()
 }
 
 /// What the end records lack: that of the lowest source that lacks something.
-fn ends_lacking<R: Read>(book: &Book, traces: &[Trace<R>]) -> Option<Missing>
-    requires { length traces.now ≤ 8 }
-    ensures { AreEndsLacking (reads_from 0 book.now.log traces.now) result }
+fn ends_lacking<R: Read>(book: &Book, sources: &[Ahead<R>]) -> Option<Missing>
+    requires { length sources.now ≤ 8 }
+    ensures { AreEndsLacking (reads_from 0 book.now.log sources.now) result }
 {
-    for i in 0..traces.len() {
+    for i in 0..sources.len() {
         let source = i as u8;
-        let lacking = end_lacking(source, book.given_by(source), traces[i].said());
+        let lacking = end_lacking(source, book.given_by(source), sources[i].said());
         if lacking.is_some() {
             return lacking;
         }
@@ -139,73 +180,87 @@ fn ends_lacking<R: Read>(book: &Book, traces: &[Trace<R>]) -> Option<Missing>
     None
 }
 
-/// What sources lack that were read whole, where they are to be complete.
-fn lacking_asked<R: Read>(
+/// What sources lack that were read whole and would be complete.
+fn first_lacking<R: Read>(
     alloc: Global,
-    question: Question,
     book: &Book,
-    traces: &[Trace<R>],
+    sources: &[Ahead<R>],
 ) -> Result<Option<Missing>, NoMemory>
-    requires { length traces.now ≤ 8 }
-    ensures lacks { IfOk result (λ m. IsTrue question.complete
-        → IsLacking (reads_from 0 book.now.log traces.now) book.now.log m) }
-    ensures only { IfOk result (λ m. IsSome m → IsTrue question.complete) }
+    requires { length sources.now ≤ 8 }
+    ensures { IfOk result (IsLacking (reads_from 0 book.now.log sources.now) book.now.log) }
 {
-    if !question.complete {
-        return Ok(None);
-    }
-    let lacking = ends_lacking(book, traces);
+    let lacking = ends_lacking(book, sources);
     if lacking.is_some() {
         return Ok(lacking);
     }
     log_lacking(alloc, book)
 }
 
+/// The same, where they are to be complete.
+fn lacking_asked<R: Read>(
+    alloc: Global,
+    question: Question,
+    book: &Book,
+    sources: &[Ahead<R>],
+) -> Result<Option<Missing>, NoMemory>
+    requires { length sources.now ≤ 8 }
+    ensures lacks { IfOk result (λ m. IsTrue question.complete
+        → IsLacking (reads_from 0 book.now.log sources.now) book.now.log m) }
+    ensures only { IfOk result (λ m. IsSome m → IsTrue question.complete) }
+{
+    if question.complete {
+        first_lacking(alloc, book, sources)
+    } else {
+        Ok(None)
+    }
+}
+
 /// Has the book take the sources' events, and says what they come to.
 fn judge_all<RT: Wait, R: Read>(
     rt: &RT,
     alloc: Global,
-    traces: &mut [Trace<R>],
+    sources: &mut [Ahead<R>],
     book: &mut Book,
     question: Question,
 ) -> Result<Judged, RunFault>
-    requires few { length traces.old ≤ 8 }
-    requires good { All (λ t. t.fault ≡ None) traces.old }
+    requires few { length sources.old ≤ 8 }
+    requires good { All (λ t. t.fault ≡ None) sources.old }
     requires empty { book.old.log ≡ [] }
     requires going { IsFalse book.old.stopped }
     requires model { book.old.model ≡ question.model }
-    ensures judged { IfOk result (IsJudgedOf question (streams_left traces.old)) }
-    ensures fault { IfErr result (IsFaultAmong (streams_left traces.old)) }
+    ensures judged { IfOk result (IsJudgedOf question (streams_left sources.old)) }
+    ensures fault { IfErr result (IsFaultAmong (streams_left sources.old)) }
     ensures settings { result ≢ Err fault.Settings }
 {
-    match take_all(rt, traces, book)? {
+    match take_all(rt, sources, book)? {
         None => {
-            let missing = lacking_asked(alloc, question, book, traces)?;
+            let missing = lacking_asked(alloc, question, book, sources)?;
             Ok(tell_allowed(alloc, question, book, missing)?)
         }
         Some(outcome) => Ok(Judged::refused(outcome)),
     }
 }
 
-/// The traces of these readers, whose rows are of this dialect. None was read yet.
-fn open_traces<R: Read + Drop>(
+/// The sources of these readers, whose rows are of this dialect. None was read yet.
+fn open_all<R: Read + Drop>(
     alloc: Global,
     readers: Vec<R>,
     dialect: Dialect,
-) -> Result<Vec<Trace<R>>, AllocError>
+) -> Result<Vec<Ahead<R>>, AllocError>
     requires { vec_len readers ≤ 8 }
     ensures streams { IfOk result (λ v.
         streams_left v.items ≡ streams_in dialect R.remaining readers.items) }
     ensures good { IfOk result (λ v. All (λ t. t.fault ≡ None) v.items) }
     ensures len { IfOk result (λ v. vec_len v ≡ vec_len readers) }
 {
-    let mut traces = Vec::new(alloc);
-    let mut source = 0u8;
+    let mut sources = Vec::new(alloc);
+    let mut number = 0u8;
     for reader in readers {
-        traces.push(Trace::with_dialect(alloc, reader, source, dialect))?;
-        source += 1;
+        let trace = Trace::with_dialect(alloc, reader, number, dialect);
+        sources.push(Ahead::new(trace))?;
+        number += 1;
     }
-    Ok(traces)
+    Ok(sources)
 }
 
 /// Reads the sources and judges their events in turn, in this thread. They have the numbers 0, 1
@@ -226,9 +281,9 @@ pub(crate) fn run_in_turn<RT: Wait, R: Read + Drop>(
     ensures fault { IfErr result (IsFaultAmong (streams_in dialect R.remaining readers.items)) }
     ensures settings { result ≢ Err fault.Settings }
 {
-    let mut traces = open_traces(alloc, readers, dialect)?;
+    let mut sources = open_all(alloc, readers, dialect)?;
     let mut book = Book::new(alloc, question.model);
-    let judged = judge_all(rt, alloc, traces.as_mut_slice(), &mut book, question);
+    let judged = judge_all(rt, alloc, sources.as_mut_slice(), &mut book, question);
     // By a call: where the scope ends, the proof would take the book apart, field by field.
     drop(book);
     judged

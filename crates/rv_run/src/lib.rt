@@ -9,7 +9,8 @@
 //! - [`driving`]: a thread for each, over any carrier and any gate. `step`: a carrier and a gate by
 //!   which no source runs far ahead of the others, and threads are woken that rest; `waiting`: how
 //!   they come to rest.
-//! - `in_turn`: the same in one thread, for sources that never have to be waited for.
+//! - `in_turn`: the same in one thread, for sources that never have to be waited for; `ahead`: such
+//!   a source, whose next event may wait for another source's store.
 //! - [`running`]: a run's parts, and its settings; `judging`, `comparing`: what the threads'
 //!   answers come to; [`missing`]: what a run lacks that would be complete.
 //! - [`fault`]: why a run has no outcome; [`laws`]: that outcomes agree.
@@ -22,6 +23,7 @@
 //! Its one contract to the others: an outcome is true of the sources' bytes where they are known.
 #![tactic(auto)]
 
+mod ahead;
 mod comparing;
 mod desk;
 mod driving;

@@ -9,13 +9,13 @@ pub returns-then-is_some : goal.returns-then-is_some
 returns-then-is_some g c =
     let i = c.loop-i.i in
     let log = c.args.book.now.log in
-    let traces = c.args.traces.now in
+    let traces = c.args.sources.now in
     let reads : List Fed = reads_from 0 log traces in
-    let one : Fed = read_of i log c.index-traces-i.result in
+    let one : Fed = read_of i log c.index-sources-i.result in
     let below : i < length traces = c.loop-i-test.true in
     let low : i < length reads = subst (λ (n : ℕ). i < n) (sym (length-reads 0 log traces)) below in
     let is : one ≡ get_or reads i one =
-    ap (read_of i log) c.index-traces-i.is ∙ sym (reads-at i log traces c.index-traces-i.result one below) in
+    ap (read_of i log) c.index-sources-i.is ∙ sym (reads-at i log traces c.index-sources-i.result one below) in
     let lacks = rw (c.given_by.ensures, c.said.ensures) at c.end_lacking-lacking.ensures in
     first-end reads i one c.end_lacking-lacking.result c.loop-i.invariant low is lacks
     (sym c.is_some.ensures ∙ c.if-is_some.true)
@@ -25,13 +25,13 @@ pub loop-i-preserved : goal.loop-i-preserved
 loop-i-preserved g c =
     let i = c.loop-i.i in
     let log = c.args.book.now.log in
-    let traces = c.args.traces.now in
+    let traces = c.args.sources.now in
     let reads : List Fed = reads_from 0 log traces in
-    let one : Fed = read_of i log c.index-traces-i.result in
+    let one : Fed = read_of i log c.index-sources-i.result in
     let below : i < length traces = c.loop-i-test.true in
     let low : i < length reads = subst (λ (n : ℕ). i < n) (sym (length-reads 0 log traces)) below in
     let is : one ≡ get_or reads i one =
-    ap (read_of i log) c.index-traces-i.is ∙ sym (reads-at i log traces c.index-traces-i.result one below) in
+    ap (read_of i log) c.index-sources-i.is ∙ sym (reads-at i log traces c.index-sources-i.result one below) in
     let lacks = rw (c.given_by.ensures, c.said.ensures) at c.end_lacking-lacking.ensures in
     counted-more reads i one c.end_lacking-lacking.result c.loop-i.invariant low is lacks
     (sym c.is_some.ensures ∙ c.if-is_some.false)
@@ -39,7 +39,7 @@ loop-i-preserved g c =
 -- Those of all do.
 pub returns : goal.returns
 returns g c = λ i f low.
-    let traces = c.args.traces.now in
+    let traces = c.args.sources.now in
     let log = c.args.book.now.log in
     c.loop-i.invariant i f (below-all i (length (reads_from 0 log traces)) (length traces) c.loop-i.i low
     (sym (length-reads 0 log traces)) c.loop-i-test.false)

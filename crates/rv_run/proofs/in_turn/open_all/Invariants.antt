@@ -2,16 +2,16 @@ use Rattle.std.specs.Prelude.{◌≡◌, ◌++◌, ◌+◌, None, All, length, v
 use Rattle.std.specs.Vec.Iter.{into_iter_items, into_iter_len}
 use Rattle.rv_run.specs.InTurn.{streams_left}
 use Rattle.rv_run.specs.Sources.{streams_in}
-use Rattle.rv_run.proofs.in_turn.open_traces.Given as goal
+use Rattle.rv_run.proofs.in_turn.open_all.Given as goal
 
 -- the traces so far say what the readers so far do
 abbrev pub invariant-loop-reader : goal.invariant-loop-reader
 invariant-loop-reader g l = record {
   streams :
-      streams_left (vec_items l.traces) ++ streams_in l.dialect g.R.Read.remaining (into_iter_items l.reader-iterator)
+      streams_left (vec_items l.sources) ++ streams_in l.dialect g.R.Read.remaining (into_iter_items l.reader-iterator)
       ≡ streams_in l.dialect g.R.Read.remaining (vec_items l.fn.readers);
-  good : All (λ t. t.fault ≡ None) (vec_items l.traces);
-  number : l.source ≡ vec_len l.traces;
+  good : All (λ t. t.fault ≡ None) (vec_items l.sources);
+  number : l.number ≡ vec_len l.sources;
   count : into_iter_len l.reader-iterator ≡ length (into_iter_items l.reader-iterator);
-  rest : vec_len l.traces + into_iter_len l.reader-iterator ≡ vec_len l.fn.readers;
+  rest : vec_len l.sources + into_iter_len l.reader-iterator ≡ vec_len l.fn.readers;
 }
