@@ -13,7 +13,7 @@ use std::fmt;
 use std::io::{self, Write};
 
 /// What the time of an access tells that it returned.
-#[derive(Clone, Copy, PartialEq, Eq, Debug)]
+#[derive(Clone, Copy)]
 pub(crate) enum Told {
     /// Nothing: it shows no time.
     Nothing,
@@ -24,7 +24,7 @@ pub(crate) enum Told {
 }
 
 /// What is wrong with a log.
-#[derive(Clone, Copy, PartialEq, Eq, Debug, Drop)]
+#[derive(Clone, Copy, Drop)]
 pub(crate) enum Fault {
     /// It has no header, or another one.
     Header,

@@ -16,7 +16,7 @@ use std::alloc::{AllocError, Global};
 use std::io::Write;
 
 /// In which form a judgement is told.
-#[derive(Clone, Copy, PartialEq, Eq, Debug)]
+#[derive(Clone, Copy, PartialEq, Eq)]
 pub(crate) enum Form {
     /// The report, and where the rows that it tells come from.
     Text,
@@ -27,7 +27,7 @@ pub(crate) enum Form {
 }
 
 /// How a judgement is told.
-#[derive(Clone, Copy, PartialEq, Eq, Debug)]
+#[derive(Clone, Copy)]
 pub(crate) struct Telling {
     /// In which form.
     pub(crate) form: Form,
@@ -55,7 +55,7 @@ impl Telling {
 }
 
 /// A row that is told, and where it comes from.
-#[derive(Clone, Copy, PartialEq, Eq, Debug)]
+#[derive(Clone, Copy)]
 pub(crate) struct Told {
     id: Id,
     place: Place,

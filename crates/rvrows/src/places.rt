@@ -10,7 +10,7 @@ use std::fmt;
 const HARTS: u8 = 16;
 
 /// Where a row comes from. Its text is the program counter, the instruction and the address.
-#[derive(Clone, Copy, PartialEq, Eq, Debug)]
+#[derive(Clone, Copy)]
 pub(crate) struct Place {
     pc: u64,
     insn: Insn,

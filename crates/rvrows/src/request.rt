@@ -62,14 +62,14 @@ is told on standard error, 3 reading, writing or memory failed. Of rvmon: 0 allo
 1 forbidden, 2 malformed, wrong words or a fault of the log, 3 as rvrows.";
 
 /// The addresses of accesses that are taken.
-#[derive(Clone, Copy, PartialEq, Eq, Debug)]
+#[derive(Clone, Copy)]
 pub(crate) struct Range {
     low: u64,
     high: u64,
 }
 
 /// What is asked of the rows.
-#[derive(Clone, Copy, PartialEq, Eq, Debug)]
+#[derive(Clone, Copy)]
 pub(crate) struct Request {
     /// The width of the integer registers.
     pub(crate) width: Width,
@@ -115,7 +115,7 @@ pub(crate) struct Words {
 }
 
 /// Why the words are refused.
-#[derive(PartialEq, Eq, Debug, Drop, Error)]
+#[derive(Debug, Drop, Error)]
 pub(crate) enum WordsFault {
     /// They are no texts, or memory ran out.
     #[error("the words can't be read")]
@@ -138,7 +138,7 @@ pub(crate) enum WordsFault {
 }
 
 /// A word that has another one behind it.
-#[derive(Clone, Copy, PartialEq, Eq, Debug)]
+#[derive(Clone, Copy)]
 enum Setting {
     /// `--xlen`.
     Width,

@@ -44,7 +44,7 @@ pub(crate) struct Follower {
 }
 
 /// When a run forgets what it may.
-#[derive(Clone, Copy, PartialEq, Eq, Debug)]
+#[derive(Clone, Copy)]
 pub(crate) enum Mode {
     /// Where its rule says so.
     Ruled,

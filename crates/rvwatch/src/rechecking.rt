@@ -34,7 +34,9 @@ fn recheck<RT: Threads + Wait + Copy + Send + 'static>(
         End::Stopped(stopped, Stop::Forbidden(forbidden)) if stopped.event.id == entry.event.id => {
             certificate_in_log(rt.alloc(), &follower.watch, forbidden).map(Some)
         }
-        _ if follower.mode == Mode::Held => { follower.watch.explain_past(rt.alloc(), entry, edge) }
+        _ if matches!(follower.mode, Mode::Held) => {
+            follower.watch.explain_past(rt.alloc(), entry, edge)
+        }
         _ => Ok(None),
     };
     drop(end);

@@ -76,7 +76,7 @@ pub(crate) struct Words {
 }
 
 /// Why the words are refused.
-#[derive(PartialEq, Eq, Debug, Drop, Error)]
+#[derive(Debug, Drop, Error)]
 pub(crate) enum WordsFault {
     /// They are no texts.
     #[error("the words can't be read")]
@@ -108,7 +108,7 @@ pub(crate) enum WordsFault {
 }
 
 /// A word that has another one behind it.
-#[derive(Clone, Copy, PartialEq, Eq, Debug)]
+#[derive(Clone, Copy)]
 enum Setting {
     /// `--harts`.
     Harts,

@@ -30,7 +30,7 @@ struct Place {
 }
 
 /// What is to be done next.
-#[derive(Clone, Copy, PartialEq, Eq, Debug)]
+#[derive(Clone, Copy)]
 pub(crate) enum Next {
     /// A row is read of each source that has one, and of which so many were read.
     Read(u64),
