@@ -19,8 +19,8 @@ pub use Rattle.rv_rank.specs.declared.node.Side.TheVariants.{Incoming, Outgoing}
 pub use Rattle.rv_rank.specs.declared.ranks.Refused.{Refused}
 pub use Rattle.rv_rank.specs.declared.ranks.Refused.TheVariants.{Circle, NoMemory}
 pub use Rattle.rv_rank.specs.declared.search.Found.{Found}
-pub use Rattle.rv_rank.specs.declared.search.Mark.{Mark}
-pub use Rattle.rv_rank.specs.declared.search.Mark.TheVariants.{After, Behind, Free, Start}
+pub use Rattle.rv_rank.specs.declared.mark.Mark.{Mark}
+pub use Rattle.rv_rank.specs.declared.mark.Mark.TheVariants.{After, Behind, Free, Start}
 pub use Rattle.std.proofs.Common.{Bool, List, [], ap, arith, cond, drop, eqb, false, get_or, inl, inr, length}
 pub use Rattle.std.proofs.Common.{length-append, length-drop, map, not, refl, reverse, rules, set, subst, suc, sym}
 pub use Rattle.std.proofs.Common.{take, true, zero, ℕ, ◌%◌, ◌++◌, ◌+◌, ◌-◌, ◌<◌, ◌^◌, ◌||◌, ◌∙◌, ◌∷◌, ◌≡◌, ◌≢◌, ◌≤◌}

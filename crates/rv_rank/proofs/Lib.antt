@@ -1,5 +1,6 @@
 pub mod Common
 pub mod Lists
+pub mod Padding
 pub mod Marks
 pub mod Listing
 pub mod Searching

@@ -16,7 +16,7 @@ module _ (found : Found) (nodes ranks visits : List ℕ) (inverse : IsInverse no
   low = found.low
 
   abbrev marks : List Mark
-  marks = found.marks.items
+  marks = found.marks
 
   abbrev split : ℕ
   split = found.split

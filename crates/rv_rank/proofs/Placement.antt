@@ -341,12 +341,12 @@ refused_round old edges ranks visits rounds preds succs NoMemory n only = inr (n
 -- how the order is mended after the searches
 pub found_plan : (edges : List (List ℕ)) (order : Ordering) (preds succs : List ℕ) (found : Found)
     (list : List ℕ) → IsOrder edges order.ranks → IsInverse order.nodes order.ranks →
-    IsFound edges order preds succs found.low found.marks.items found.split list →
+    IsFound edges order preds succs found.low found.marks found.split list →
     IsPlan found order.nodes order.ranks list
 found_plan edges order preds succs found list o inverse h = record {
   long = h.long ∙ sym inverse.long;
   lowest = λ l.
-      let s = first_ahead edges order preds succs found.low found.marks.items found.split list o inverse h
+      let s = first_ahead edges order preds succs found.low found.marks found.split list o inverse h
       (omega (arith, inverse.long)) in
       (s.0, omega (arith, s.1, inverse.long), s.2, s.3);
   listed = h.visits;

@@ -1,7 +1,7 @@
 -- What the two searches of a placement find.
 use Rattle.std.specs.Prelude.{◌≡◌, ℕ, ◌+◌, ◌<◌, ◌≤◌, true, List, ◌++◌, length, reverse, slice_index}
 use Rattle.std.specs.List.{Contains, filter}
-use Rattle.rv_rank.specs.declared.search.Mark.{Mark}
+use Rattle.rv_rank.specs.declared.mark.Mark.{Mark}
 use Rattle.rv_rank.specs.Walking.{Walking}
 use Rattle.rv_rank.specs.Ordering.{Ordering}
 use Rattle.rv_rank.specs.Marks.{is_ahead_of, is_behind_of}

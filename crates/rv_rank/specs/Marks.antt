@@ -4,8 +4,8 @@ use Rattle.std.specs.Prelude.{◌≡◌, ◌≢◌, ℕ, ◌+◌, ◌-◌, ◌<�
 use Rattle.std.specs.Prelude.{nat_lt, List, length, slice_index, slice_index_or}
 use Rattle.std.specs.List.{Contains}
 use Rattle.rv_rank.specs.Graph.{Edge, Reaches}
-use Rattle.rv_rank.specs.declared.search.Mark.{Mark}
-use Rattle.rv_rank.specs.declared.search.Mark.TheVariants.{Free, Start, After, Behind}
+use Rattle.rv_rank.specs.declared.mark.Mark.{Mark}
+use Rattle.rv_rank.specs.declared.mark.Mark.TheVariants.{Free, Start, After, Behind}
 
 -- the mark of a rank; below the lowest one all are free
 unfoldable pub mark_at : ℕ → List Mark → ℕ → Mark

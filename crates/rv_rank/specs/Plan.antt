@@ -7,15 +7,15 @@ use Rattle.rv_rank.specs.Mended.{count_below, members_of}
 
 -- whether a node was found forward
 abbrev pub is_ahead_in : Found → List ℕ → ℕ → Bool
-is_ahead_in found ranks a = is_ahead_of found.low ranks found.marks.items a
+is_ahead_in found ranks a = is_ahead_of found.low ranks found.marks a
 
 -- whether a node was found backward
 abbrev pub is_behind_in : Found → List ℕ → ℕ → Bool
-is_behind_in found ranks a = is_behind_of found.low ranks found.marks.items a
+is_behind_in found ranks a = is_behind_of found.low ranks found.marks a
 
 -- whether the node of a rank was found
 abbrev pub slot_in : Found → ℕ → Bool
-slot_in found r = is_slot found.low found.marks.items r
+slot_in found r = is_slot found.low found.marks r
 
 -- the members in their new order
 abbrev pub members_in : Found → List ℕ → ℕ → List ℕ
@@ -24,7 +24,7 @@ members_in found visits node = members_of visits found.split node
 -- the visits are the nodes that the marks tell: those found forward by rising rank, the others by
 -- falling rank
 pub record IsPlan (found : Found) (nodes ranks visits : List ℕ) : Type 0 where
-  pub long : found.low + length found.marks.items ≡ length nodes
+  pub long : found.low + length found.marks ≡ length nodes
   pub lowest : found.low < length nodes →
       (s : ℕ) × (s < length nodes) × (is_ahead_in found ranks s ≡ true) × (slice_index ranks s ≡ found.low)
   pub listed : visits ≡ filter (is_ahead_in found ranks) nodes ++ reverse (filter (is_behind_in found ranks) nodes)
@@ -32,7 +32,7 @@ pub record IsPlan (found : Found) (nodes ranks visits : List ℕ) : Type 0 where
 
 -- the members are one more than the slots, none stands twice, and each has a place among the ranks
 pub record IsRoster (found : Found) (nodes ranks visits : List ℕ) : Type 0 where
-  pub long : found.low + length found.marks.items ≡ length nodes
+  pub long : found.low + length found.marks ≡ length nodes
   pub split : found.split ≤ length visits
   pub count : length visits ≡ count_below (slot_in found) (length nodes)
   pub placed : All (λ a. a < length ranks) (members_in found visits (length nodes))

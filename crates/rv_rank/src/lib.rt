@@ -15,6 +15,7 @@
 //! respect the kept edges already.
 #![tactic(auto)]
 
+mod mark;
 mod node;
 mod order;
 mod ranks;

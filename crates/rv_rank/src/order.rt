@@ -121,7 +121,7 @@ impl Order {
     pub fn mend(&mut self, found: &Found, visits: &[u32])
         requires small { length self.old.ranks < 65536 }
         requires plan { IsPlan found.now self.old.nodes self.old.ranks visits.now }
-        requires top { NoneFrom found.now.low found.now.marks.items found.now.top }
+        requires top { NoneFrom found.now.low found.now.marks found.now.top }
         requires room { length self.old.ranks < self.old.room }
         ensures { IsLocal (is_behind_in found.now self.old.ranks) (is_ahead_in found.now self.old.ranks)
             found.now.low self.old.ranks self.new.ranks }
@@ -135,7 +135,7 @@ fn place_members(nodes: &mut Vec<u32>, ranks: &mut Vec<u32>, found: &Found, visi
     requires inverse { IsInverse nodes.old.items ranks.old.items }
     requires small { length nodes.old.items < 65536 }
     requires plan { IsPlan found.now nodes.old.items ranks.old.items visits.now }
-    requires top { NoneFrom found.now.low found.now.marks.items found.now.top }
+    requires top { NoneFrom found.now.low found.now.marks found.now.top }
     requires room_nodes { vec_len nodes.old < vec_capacity nodes.old }
     requires room_ranks { vec_len ranks.old < vec_capacity ranks.old }
     ensures inverse { IsInverse nodes.new.items ranks.new.items }
@@ -153,7 +153,7 @@ fn place_members(nodes: &mut Vec<u32>, ranks: &mut Vec<u32>, found: &Found, visi
 fn mend_all(nodes: &mut [u32], ranks: &mut [u32], found: &Found, visits: &[u32]) -> u32
     requires small { length nodes.old < 65536 }
     requires roster { IsRoster found.now nodes.old ranks.old visits.now }
-    requires top { NoneFrom found.now.low found.now.marks.items found.now.top }
+    requires top { NoneFrom found.now.low found.now.marks found.now.top }
     ensures last { result ≡ slice_index (members_in found.now visits.now (length nodes.old))
         (length visits.now) }
     ensures mended { (mid : List ℕ) × (ranks.new ≡ slice_set mid result (length nodes.old))
@@ -171,7 +171,7 @@ fn mend_all(nodes: &mut [u32], ranks: &mut [u32], found: &Found, visits: &[u32])
 fn mend(nodes: &mut [u32], ranks: &mut [u32], found: &Found, visits: &[u32])
     requires small { length nodes.old < 65536 }
     requires roster { IsRoster found.now nodes.old ranks.old visits.now }
-    requires top { NoneFrom found.now.low found.now.marks.items found.now.top }
+    requires top { NoneFrom found.now.low found.now.marks found.now.top }
     ensures { IsMended (slot_in found.now) (members_in found.now visits.now (length nodes.old))
         nodes.old ranks.old nodes.new ranks.new (length nodes.old) }
 {

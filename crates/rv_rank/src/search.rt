@@ -14,39 +14,11 @@ ghost use Rattle.rv_rank.specs.Marks.{is_slot, IsFreeFrom, IsSameFrom, NoneFrom}
 ghost use Rattle.rv_rank.specs.Found.{IsSameGraph, IsFound, found_ahead, found_behind};
 ghost use Rattle.rv_rank.specs.Placing.{IsRefusal, OnlyAffected};
 
+use crate::mark::{Mark, Marks};
 use crate::order::Order;
 use crate::ranks::Refused;
 use crate::walk::Walk;
 use std::alloc::{AllocError, Global};
-
-/// What a search knows of a node.
-#[derive(Clone, Copy, PartialEq, Eq)]
-pub enum Mark {
-    /// It was not found.
-    Free,
-    /// It is a successor.
-    Start,
-    /// It was found forward, over an edge from this node.
-    After(u32),
-    /// It was found backward.
-    Behind,
-}
-
-impl Mark {
-    pub fn is_free(self) -> bool
-        ensures value { result ≡ is_free self }
-        ensures free { IsTrue result ↔ (self ≡ Mark.Free) }
-    {
-        matches!(self, Mark::Free)
-    }
-
-    pub fn is_behind(self) -> bool
-        ensures value { result ≡ is_behind self }
-        ensures behind { IsTrue result ↔ (self ≡ Mark.Behind) }
-    {
-        matches!(self, Mark::Behind)
-    }
-}
 
 /// The affected nodes: a mark for each rank from `low` up, all of them free from `top` up, and how
 /// many of the visits were made forward.
@@ -55,17 +27,16 @@ pub struct Found {
     pub low: usize,
     pub top: usize,
     pub split: usize,
-    pub marks: Vec<Mark>,
+    pub marks: Marks,
 }
 
 impl Found {
     /// Whether the node of a rank was found.
     pub fn is_slot(&self, rank: usize) -> bool
         requires low { self.now.low ≤ rank }
-        requires high { rank < self.now.low + length self.now.marks.items }
-        ensures { result ≡ is_slot self.now.low self.now.marks.items rank }
+        ensures { result ≡ is_slot self.now.low self.now.marks rank }
     {
-        !self.marks[rank - self.low].is_free()
+        !self.marks.at(rank - self.low).is_free()
     }
 }
 
@@ -86,15 +57,15 @@ pub fn search(
     requires begun { walk.old.visits ≡ [] }
     requires room { 2 * length walk.old.edges ≤ walk.old.room }
     ensures found { IfOk result (λ f. IsFound walk.old.edges order.now preds.now succs.now
-        f.low f.marks.items f.split walk.new.visits) }
-    ensures top { IfOk result (λ f. NoneFrom f.low f.marks.items f.top) }
+        f.low f.marks f.split walk.new.visits) }
+    ensures top { IfOk result (λ f. NoneFrom f.low f.marks f.top) }
     ensures refused { IfErr result (IsRefusal walk.old.edges preds.now succs.now) }
     ensures affected { OnErr result
         (OnlyAffected walk.old.edges order.now.ranks preds.now succs.now walk.new.visits) }
     ensures same { IsSameGraph walk.old walk.new }
 {
     let low = order.least_rank(succs);
-    let mut marks = vec![in alloc; Mark::Free; order.len() - low]?;
+    let mut marks = Marks::new(alloc, order.len() - low)?;
     let Swept { split, top } = sweep(alloc, walk, order, preds, succs, low, &mut marks)?;
     Ok(Found {
         low,
@@ -119,7 +90,7 @@ fn sweep(
     preds: &[u32],
     succs: &[u32],
     low: usize,
-    marks: &mut [Mark],
+    marks: &mut Marks,
 ) -> Result<Swept, Refused>
     requires ordered { IsOrder walk.old.edges order.now.ranks }
     requires inverse { IsInverse order.now.nodes order.now.ranks }
@@ -155,7 +126,7 @@ fn sweep(
 fn mark_above(
     order: &Order,
     low: usize,
-    marks: &mut [Mark],
+    marks: &mut Marks,
     mark: Mark,
     targets: &[u32],
     top: usize,
@@ -173,8 +144,8 @@ fn mark_above(
     let mut top = top;
     for target in targets {
         let rank = order.rank(*target) as usize;
-        if rank >= low && marks[rank - low].is_free() {
-            marks[rank - low] = mark;
+        if rank >= low && marks.at(rank - low).is_free() {
+            marks.set(rank - low, mark);
             top = top.max(rank + 1);
         }
     }
@@ -188,7 +159,7 @@ fn sweep_forward(
     order: &Order,
     low: usize,
     succs: &[u32],
-    marks: &mut [Mark],
+    marks: &mut Marks,
 ) -> usize
     requires ordered { IsOrder walk.old.edges order.now.ranks }
     requires inverse { IsInverse order.now.nodes order.now.ranks }
@@ -210,7 +181,7 @@ fn sweep_forward(
         if rank >= top {
             return top;
         }
-        if !marks[rank - low].is_free() {
+        if !marks.at(rank - low).is_free() {
             let node = order.node_at(rank);
             top = mark_above(
                 order,
@@ -233,7 +204,7 @@ fn sweep_backward(
     order: &Order,
     low: usize,
     preds: &[u32],
-    marks: &mut [Mark],
+    marks: &mut Marks,
     top: usize,
 ) -> usize
     requires ordered { IsOrder walk.old.edges order.now.ranks }
@@ -255,7 +226,7 @@ fn sweep_backward(
     let mut rank = end;
     while rank > low {
         rank -= 1;
-        if marks[rank - low].is_behind() {
+        if marks.at(rank - low).is_behind() {
             let node = order.node_at(rank);
             mark_above(order, low, marks, Mark::Behind, walk.backward(node), low);
         }
@@ -264,7 +235,7 @@ fn sweep_backward(
 }
 
 /// The first of the nodes that is marked.
-fn first_marked(order: &Order, low: usize, marks: &[Mark], nodes: &[u32]) -> Option<u32>
+fn first_marked(order: &Order, low: usize, marks: &Marks, nodes: &[u32]) -> Option<u32>
     requires long { low + length marks.now ≡ length order.now.ranks }
     requires placed { All (λ a. a < length order.now.ranks) nodes.now }
     ensures { MatchOption result
@@ -273,7 +244,7 @@ fn first_marked(order: &Order, low: usize, marks: &[Mark], nodes: &[u32]) -> Opt
 {
     for node in nodes {
         let rank = order.rank(*node) as usize;
-        if rank >= low && !marks[rank - low].is_free() {
+        if rank >= low && !marks.at(rank - low).is_free() {
             return Some(*node);
         }
     }
@@ -287,7 +258,7 @@ fn trail(
     order: &Order,
     succs: &[u32],
     low: usize,
-    marks: &[Mark],
+    marks: &Marks,
     end: u32,
 ) -> Result<Vec<u32>, AllocError>
     requires ordered { IsOrder walk.now.edges order.now.ranks }
@@ -299,7 +270,7 @@ fn trail(
     let mut path = Vec::new(alloc);
     path.push(end)?;
     let mut node = end;
-    while let Mark::After(from) = marks[order.rank(node) as usize - low] {
+    while let Mark::After(from) = marks.at(order.rank(node) as usize - low) {
         path.push(from)?;
         node = from;
     }

@@ -19,7 +19,7 @@ overflow_add-next c = search (below_few, rules)
 
 pub loop-rank-preserved : goal.loop-rank-preserved
 loop-rank-preserved c =
-    let slot = is_slot c.args.found.now.low c.args.found.now.marks.items in
+    let slot = is_slot c.args.found.now.low c.args.found.now.marks in
     let nodes = c.args.nodes.now in
     let rank = c.loop-rank.rank in
     let members = members_of c.args.visits.now c.args.found.now.split (length nodes) in
@@ -52,7 +52,7 @@ loop-rank-preserved c =
 
 -- Above the highest rank that was marked nothing moves.
 pub returns : goal.returns
-returns c = IsMended-all (is_slot c.args.found.now.low c.args.found.now.marks.items)
+returns c = IsMended-all (is_slot c.args.found.now.low c.args.found.now.marks)
     (members_of c.args.visits.now c.args.found.now.split (length c.args.nodes.now)) c.args.nodes.now c.args.ranks.now
     c.loop-rank.nodes c.loop-rank.ranks c.loop-rank.rank (length c.args.nodes.now) c.loop-rank.invariant.mended
     (λ k from l. c.requires.top k (search rules)) c.loop-rank.invariant.within

@@ -21,8 +21,8 @@ loop-target-preserved c =
       | then-rank-low+then-is_free w ↦
           let high : low ≤ get_or ranks t 0 = omega (arith, is, w.if-rank-low.true) in
           let free = read_free low ranks marks t c.rank-rank.result within w.if-rank-low.true is
-          (sym w.is_free.ensures.value ∙ w.if-is_free.true) in
-          rw (w.marks-is, w.top-is, is) (record {
+          (rw w.at.ensures at (sym w.is_free.ensures.value ∙ w.if-is_free.true)) in
+          rw (w.marks-is, w.set.ensures, w.top-is, is) (record {
             spread = IsSpread-more ranks low c.args.marks.now marks c.args.mark c.args.targets.now i
                 c.requires.ordered c.requires.long c.requires.marks inv.spread c.loop-target-test.true within below
                 high free;
@@ -34,7 +34,7 @@ loop-target-preserved c =
       | else-rank-low w ↦
           let taken : low ≤ get_or ranks t 0 → IsMarked low ranks marks t = λ up. elim w.else-rank-low.branch [
             | else-rank-low-via-then-rank-low+else-is_free v ↦ read_marked low ranks marks t c.rank-rank.result
-                within v.if-rank-low.true is (sym v.is_free.ensures.value ∙ v.if-is_free.false)
+                within v.if-rank-low.true is (rw v.at.ensures at (sym v.is_free.ensures.value ∙ v.if-is_free.false))
             | else-rank-low-via-else-rank-low v ↦ absurd (omega (arith, is, v.if-rank-low.false))
           ] in
           rw (w.marks-is, w.top-is) (record {

@@ -68,7 +68,7 @@ loop-rank-preserved-then-is_behind c =
     let listed = rw up at inv.visits in
     let spread = c.mark_above.ensures.spread in
     let taken = read_of low ranks old v r below high (sym at) ∙
-    behind_is (get_or old (r - low) _) (sym c.is_behind.ensures.value ∙ c.if-is_behind.true) in
+    behind_is (get_or old (r - low) _) (rw c.at.ensures at (sym c.is_behind.ensures.value ∙ c.if-is_behind.true)) in
     let same : (k : ℕ) → r + 1 ≤ k → k < length nodes →
     is_behind_of low ranks old (get_or nodes k 0) ≡ is_behind_of low ranks new (get_or nodes k 0) =
     λ k b m. ap is_behind (sym (spread_same ranks low old new Behind sources spread (get_or nodes k 0)
@@ -113,7 +113,8 @@ loop-rank-preserved c =
     let traced = rw up at inv.traced in
     let listed = rw up at inv.visits in
     let read = read_of low ranks marks v r here.0 high (sym here.1) in
-    let free = not_behind (get_or marks (r - low) _) (sym c.is_behind.ensures.value ∙ c.if-is_behind.false) in
+    let free = not_behind (get_or marks (r - low) _)
+    (rw c.at.ensures at (sym c.is_behind.ensures.value ∙ c.if-is_behind.false)) in
     let other : mark_of low ranks marks v ≡ Behind → ⊥ = λ e. free (sym read ∙ e) in
     record {
       traced = search (IsTraced-skip, rules);

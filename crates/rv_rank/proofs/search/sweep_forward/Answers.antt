@@ -37,8 +37,8 @@ loop-rank-preserved c =
           let below = w.node_at-node.ensures.below in
           let new = w.mark_above-top-then-not-is_free.new.marks in
           let visited = w.forward.follows.holds-at-none in
-          let taken = read_marked low ranks old v r below high (sym at) (sym c.is_free.ensures.value ∙
-          w.if-not-is_free.true) in
+          let taken = read_marked low ranks old v r below high (sym at) (rw c.at.ensures at (sym c.is_free.ensures.value ∙
+          w.if-not-is_free.true)) in
           let marked = w.mark_above-top-then-not-is_free.ensures in
           let spread = rw (w.forward.ensures.value, inv.same.edges) at marked.spread in
           let searched = IsSearched-more edges ranks succs low old new r v o inv.searched high at below taken
@@ -66,7 +66,7 @@ loop-rank-preserved c =
           })
       | else-not-is_free w ↦
           let free = read_free low ranks old (get_or nodes r 0) r here.0 high (sym here.1)
-          (sym c.is_free.ensures.value ∙ w.if-not-is_free.false) in
+          (rw c.at.ensures at (sym c.is_free.ensures.value ∙ w.if-not-is_free.false)) in
           rw (w.marks-is, w.walk-is, w.top-is) (record {
             searched = search (IsSearched-skip, rules);
             visits = inv.visits ∙ listed_skip (is_ahead_of low ranks old) nodes r l (ap is_ahead free);

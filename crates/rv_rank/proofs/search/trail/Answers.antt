@@ -9,9 +9,6 @@ rank-requires c = search (marked_within, rules)
 pub overflow_sub-rank : goal.overflow_sub-rank
 overflow_sub-rank c = search (marked_within, rules)
 
-pub bounds : goal.bounds
-bounds c = search (marked_within, rules)
-
 pub loop-from-smaller : goal.loop-from-smaller
 loop-from-smaller c =
     let w = marked_within c.args.low c.args.order.now.ranks c.args.marks.now c.loop-from.node
@@ -42,7 +39,7 @@ returns c =
     (omega (arith, c.rank.ensures.value, w.1)) c.rank.ensures.value in
     let start = begun_at c.args.walk.now.edges c.args.low c.args.order.now.ranks c.args.succs.now
     c.args.marks.now c.loop-from.node c.requires.searched c.loop-from.invariant.marked
-    (rw at c.in_default.not-After) in
+    (rw (at, ← c.at.ensures) c.in_default.not-After) in
     rw c.reverse.ensures.items (IsTrail-reverse c.args.walk.now.edges c.args.low c.args.order.now.ranks
     c.args.succs.now c.args.marks.now c.args.end c.loop-from.node c.loop-from.path.items c.requires.ordered
     c.loop-from.invariant start)

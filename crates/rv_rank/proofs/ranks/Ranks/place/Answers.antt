@@ -18,7 +18,7 @@ returns-in_err-reserve-clause-round c =
     let found = rw c.in_ok-begin.ensures.edges at c.in_ok-found.ensures.found in
     let next = c.search.ensures.same.rounds ∙ c.in_ok-begin.ensures.rounds in
     let only = visits_only c.self.inside.walk.edges c.self.inside.order c.args.preds.now c.args.succs.now
-    c.in_ok-found.found.low c.in_ok-found.found.marks.items c.in_ok-found.found.split
+    c.in_ok-found.found.low c.in_ok-found.found.marks c.in_ok-found.found.split
     c.search.new.walk.visits c.self.invariant c.len-node.ensures.inverse found in
     let p = err_from_is_err_and c.from_residual-in_err-reserve.result c.from_residual-in_err-reserve.ensures.1 in
     rw (p.1, ← c.self.view_is) (refused_round _ c.search.new.walk.edges c.reserve.new.self.ranks
@@ -29,7 +29,7 @@ returns-in_err-add-clause-round c =
     let found = rw c.in_ok-begin.ensures.edges at c.in_ok-found.ensures.found in
     let next = c.in_err-add.ensures.rounds ∙ c.search.ensures.same.rounds ∙ c.in_ok-begin.ensures.rounds in
     let only = visits_only c.self.inside.walk.edges c.self.inside.order c.args.preds.now c.args.succs.now
-    c.in_ok-found.found.low c.in_ok-found.found.marks.items c.in_ok-found.found.split
+    c.in_ok-found.found.low c.in_ok-found.found.marks c.in_ok-found.found.split
     c.search.new.walk.visits c.self.invariant c.len-node.ensures.inverse found in
     let p = err_from_is_err_and c.from_residual-in_err-add.result c.from_residual-in_err-add.ensures.1 in
     rw (p.1, ← c.self.view_is) (refused_round _ c.add.new.self.edges c.reserve.new.self.ranks
@@ -57,7 +57,7 @@ invariant_of-self-2 c =
     let low_preds = rw (← c.self.view_is) at c.requires.preds in
     let low_succs = rw (← c.self.view_is) at c.requires.succs in
     ordered c.self.inside.walk.edges c.self.inside.order c.args.preds.now c.args.succs.now
-    c.in_ok-found.found.low c.in_ok-found.found.marks.items c.in_ok-found.found.split
+    c.in_ok-found.found.low c.in_ok-found.found.marks c.in_ok-found.found.split
     c.search.new.walk.visits c.self.invariant c.len-node.ensures.inverse found c.add.new.self.edges
     c.mend.new.self.ranks low_preds low_succs grown local
 
@@ -68,7 +68,7 @@ returns-clause-placed c =
     let preds = c.args.preds.now in
     let succs = c.args.succs.now in
     let low = c.in_ok-found.found.low in
-    let marks = c.in_ok-found.found.marks.items in
+    let marks = c.in_ok-found.found.marks in
     let split = c.in_ok-found.found.split in
     let list = c.search.new.walk.visits in
     let o = c.self.invariant in
