@@ -1,5 +1,6 @@
 -- What a cut of a log promises. These are this project's own.
-use Rattle.std.specs.Prelude.{ℕ, ◌≤◌, ◌<◌, ◌+◌, Bool, Contains, IsTrue, List, Some, length, nat_lt, slice_index_or}
+use Rattle.std.specs.Prelude.{ℕ, ◌≤◌, ◌<◌, ◌+◌, All, Bool, Contains, IsTrue, List, Some, length, nat_lt, slice_index_or}
+use Rattle.rv_edges.specs.declared.ties.Tie.{Tie}
 use Rattle.rv_event.specs.Log.{of_hart}
 use Rattle.rv_event.specs.declared.event.Event.{Event}
 use Rattle.rv_event.specs.declared.event.Id.{Id}
@@ -19,6 +20,10 @@ is_past firsts i = nat_lt i.seq (first_of firsts i.hart)
 -- no hart has more past than before
 abbrev pub AreLower : List ℕ → List ℕ → Type 0
 AreLower old new = (hart : ℕ) → first_of new hart ≤ first_of old hart
+
+-- each tie to an event of the past leads from one of the past
+abbrev pub AreClosed : List ℕ → List Tie → Type 0
+AreClosed firsts ties = All (λ t. IsTrue (is_past firsts t.to) → IsTrue (is_past firsts t.from)) ties
 
 -- the hart's last LR, SC or failed SC is of the past, and so many of its events or more stand behind it
 pub record HasWaited (patience : ℕ) (log : List Event) (firsts : List ℕ) (hart : ℕ) : Type 0 where

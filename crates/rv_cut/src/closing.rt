@@ -1,14 +1,14 @@
 //! Cuts into which no edge leads, and that leave an LR behind only where its hart went on for long
 //! without an SC.
 ghost use Rattle.std.specs.Prelude.{ℕ, ◌≡◌, ◌↔◌, ◌<◌, ◌+◌, ◌==◌, ◌&&◌, if◌then◌else◌};
-ghost use Rattle.std.specs.Prelude.{All, IsTrue, false, filter, slice_index_or};
+ghost use Rattle.std.specs.Prelude.{IfOk, IsTrue, false, filter, slice_index_or};
 ghost use Rattle.rv_event.specs.Faults.{is_lr, is_reserved};
 ghost use Rattle.rv_event.specs.Log.{events};
 ghost use Rattle.rv_event.specs.Operations.{is_exclusive};
 ghost use Rattle.rv_event.proofs.Indexed.{Indexed};
 ghost use Rattle.rv_event.specs.declared.event.Event.{Event};
 ghost use Rattle.rv_settle.specs.Windows.{LeavesReserved};
-ghost use Rattle.rv_cut.specs.Cuts.{AreLower, HasWaited, first_of, is_past};
+ghost use Rattle.rv_cut.specs.Cuts.{AreClosed, AreLower, HasWaited, first_of, is_past};
 
 use crate::cut::Cut;
 use crate::exclusive::last_exclusive;
@@ -17,9 +17,13 @@ use rv_edges::Tie;
 use rv_event::{Entry, Event, Id, NoMemory, Op};
 use std::alloc::Global;
 
-/// Keeps more where that is needed, until no edge leads into the past from an event that is kept, and
+/// Keeps more where that is needed, until no tie leads into the past from an event that is kept, and
 /// no LR of the past is without an SC of the past behind it, but for one behind which `patience`
-/// events of its hart or more stand, none of them an LR, an SC or a failed SC.
+/// events of its hart or more stand, none of them an LR, an SC or a failed SC. Whether that was
+/// reached: it always is, which is not promised.
+///
+/// `late_first` are the ties once more, those from operations that come late in an order first. So
+/// one pass over them mostly does.
 ///
 /// # Errors
 /// `NoMemory` where a list could not be had; the cut may be lower than before.
@@ -27,16 +31,46 @@ pub fn close(
     alloc: Global,
     log: &[Entry],
     ties: &[Tie],
+    late_first: &[Tie],
     patience: u32,
     cut: &mut Cut,
-) -> Result<(), NoMemory>
+) -> Result<bool, NoMemory>
     requires { Indexed (events log.now) }
+    ensures lower { AreLower cut.old cut.new }
+    ensures closed { IfOk result (λ is. IsTrue is → AreClosed cut.new ties.now) }
+    ensures waited { IfOk result (λ is. IsTrue is →
+        (hart : ℕ) → LeavesReserved (first_of cut.new) (events log.now) hart →
+        HasWaited patience (events log.now) cut.new hart) }
+{
+    keep_pulled(late_first, cut);
+    if is_whole(log, ties, patience, cut) {
+        return Ok(true);
+    }
+    keep_open(alloc, log, ties, patience, cut)?;
+    Ok(is_whole(log, ties, patience, cut))
+}
+
+/// Whether no tie leads into the past from an event that is kept, and the past leaves a hart with a
+/// reservation only where its LR has waited for long.
+fn is_whole(log: &[Entry], ties: &[Tie], patience: u32, cut: &Cut) -> bool
+    requires { Indexed (events log.now) }
+    ensures closed { IsTrue result → AreClosed cut.now ties.now }
+    ensures waited { IsTrue result → (hart : ℕ) → LeavesReserved (first_of cut.now) (events log.now) hart →
+        HasWaited patience (events log.now) cut.now hart }
+{
+    is_closed(ties, cut) && have_waited(log, patience, cut)
+}
+
+/// Keeps what the ties pull, the last of them first.
+fn keep_pulled(late_first: &[Tie], cut: &mut Cut)
     ensures { AreLower cut.old cut.new }
 {
-    if is_closed(ties, cut) && have_waited(log, patience, cut) {
-        return Ok(());
+    'ties: for k in 0..late_first.len() {
+        let tie = late_first[late_first.len() - 1 - k];
+        if !cut.is_past(tie.from) {
+            cut.keep(tie.to);
+        }
     }
-    keep_open(alloc, log, ties, patience, cut)
 }
 
 /// Keeps more, until the cut is closed as [`close`] says. It looks at each edge and each LR once.
@@ -164,8 +198,8 @@ fn pull_hart(pulls: &mut Vec<Tie>, cut: &mut Cut) -> bool
 }
 
 /// Whether each tie to an event of the past leads from one of the past.
-pub fn is_closed(ties: &[Tie], cut: &Cut) -> bool
-    ensures { IsTrue result ↔ All (λ t. IsTrue (is_past cut.now t.to) → IsTrue (is_past cut.now t.from)) ties.now }
+fn is_closed(ties: &[Tie], cut: &Cut) -> bool
+    ensures { IsTrue result ↔ AreClosed cut.now ties.now }
 {
     ties.iter()
         .all(|tie| !cut.is_past(tie.to) || cut.is_past(tie.from))
@@ -173,7 +207,7 @@ pub fn is_closed(ties: &[Tie], cut: &Cut) -> bool
 
 /// Whether the past leaves a hart with a reservation only where its LR has waited for long: it is the
 /// hart's last LR, SC or failed SC, and `patience` events of the hart or more stand behind it.
-pub fn have_waited(log: &[Entry], patience: u32, cut: &Cut) -> bool
+fn have_waited(log: &[Entry], patience: u32, cut: &Cut) -> bool
     requires { Indexed (events log.now) }
     ensures { IsTrue result → (hart : ℕ) → LeavesReserved (first_of cut.now) (events log.now) hart →
         HasWaited patience (events log.now) cut.now hart }

@@ -3,13 +3,13 @@ ghost use Rattle.std.specs.Prelude.{All, Contains, IfOk};
 ghost use Rattle.rv_event.specs.Log.{events};
 ghost use Rattle.rv_cut.specs.Cuts.{IsCutOf};
 
-use crate::closing::{close, have_waited, is_closed};
+use crate::closing::close;
 use crate::cut::Cut;
 use crate::ordering::in_order;
 use crate::reach::keep_unsettled;
 use rv_book::Book;
 use rv_edges::Tie;
-use rv_event::{Id, NoMemory};
+use rv_event::{Entry, Id, NoMemory};
 use std::alloc::Global;
 
 /// A cut of the book's log whose past these harts, the only ones that are still active, can't come
@@ -36,60 +36,88 @@ pub fn find_cut(alloc: Global, book: &Book, active: &[u8], patience: u32) -> Res
     let late_first = late_first(alloc, book, ties.as_slice())?;
     let mut cut = Cut::behind(log);
     keep_unsettled(alloc, model, log, late_first.as_slice(), active, &mut cut)?;
-    close(alloc, log, ties.as_slice(), patience, &mut cut)?;
-    if is_closed(ties.as_slice(), &cut) && have_waited(log, patience, &cut) {
-        Ok(cut)
-    } else {
-        Ok(Cut::new())
-    }
+    let is_whole = close(
+        alloc,
+        log,
+        ties.as_slice(),
+        late_first.as_slice(),
+        patience,
+        &mut cut,
+    )?;
+    Ok(if is_whole { cut } else { Cut::new() })
 }
 
 /// The ties, those from operations that stand late in the book's order first.
 fn late_first(alloc: Global, book: &Book, ties: &[Tie]) -> Result<Vec<Tie>, NoMemory>
     ensures { IfOk result (λ sorted. All (Contains ties.now) sorted.items) }
 {
-    let places = places_of(alloc, book.order()?.as_slice())?;
+    let places = Places::new(alloc, book.log(), book.order()?.as_slice())?;
     let mut keys = Vec::with_capacity(alloc, ties.len())?;
     for tie in ties {
-        keys.push(place_of(places.as_slice(), tie.from))?;
+        keys.push(places.of(tie.from))?;
     }
     in_order(alloc, ties, keys.as_slice())
 }
 
-/// How many operations stand behind each one in the order, by its hart and its number there.
-fn places_of(alloc: Global, order: &[Id]) -> Result<Vec<Vec<usize>>, NoMemory> {
-    let mut places = Vec::with_capacity(alloc, 16)?;
-    for _ in 0..16 {
-        places.push(Vec::new(alloc))?;
-    }
-    for k in 0..order.len() {
-        let id = order[k];
-        let behind = order.len() - k;
-        put_place(&mut places, id, behind)?;
-    }
-    Ok(places)
+/// Of each operation how many stand behind it in an order, with itself.
+#[derive(Drop)]
+struct Places {
+    /// Of each hart how many events of the lower harts there are.
+    starts: [usize; 16],
+    /// The numbers, hart by hart, by the events' numbers; 0 for what is no operation.
+    behind: Vec<usize>,
 }
 
-/// Puts the place of an operation down.
-fn put_place(places: &mut Vec<Vec<usize>>, id: Id, place: usize) -> Result<(), NoMemory> {
-    let Some(hart) = places.get_mut(id.hart as usize) else {
-        return Ok(());
-    };
-    let seq = id.seq as usize;
-    if hart.len() <= seq {
-        hart.resize(seq + 1, 0)?;
+impl Places {
+    /// Those of an order of a log's operations.
+    fn new(alloc: Global, log: &[Entry], order: &[Id]) -> Result<Places, NoMemory> {
+        let mut places = Places {
+            starts: starts_of(log),
+            behind: vec![in alloc; 0; log.len()]?,
+        };
+        'operations: for k in 0..order.len() {
+            places.put(order[k], order.len() - k);
+        }
+        Ok(places)
     }
-    hart[seq] = place;
-    Ok(())
+
+    /// Puts the place of an operation down.
+    fn put(&mut self, id: Id, place: usize) {
+        let number = self.number(id);
+        if let Some(known) = self.behind.get_mut(number) {
+            *known = place;
+        }
+    }
+
+    /// The place that was put down for the operation; 0 where none was.
+    fn of(&self, id: Id) -> usize {
+        match self.behind.get(self.number(id)) {
+            Some(place) => *place,
+            None => 0,
+        }
+    }
+
+    /// Where the place of an event stands; behind all where its hart is above 15.
+    fn number(&self, id: Id) -> usize {
+        match self.starts.get(id.hart as usize) {
+            Some(start) => start.wrapping_add(id.seq as usize),
+            None => usize::MAX,
+        }
+    }
 }
 
-/// The place that was put down for the operation; 0 where none was.
-fn place_of(places: &[Vec<usize>], id: Id) -> usize {
-    let Some(hart) = places.get(id.hart as usize) else {
-        return 0;
-    };
-    match hart.get(id.seq as usize) {
-        Some(place) => *place,
-        None => 0,
+/// Of each hart how many events of the lower harts the log has.
+fn starts_of(log: &[Entry]) -> [usize; 16] {
+    let mut starts = [0usize; 16];
+    for entry in log {
+        if let Some(above) = starts.get_mut(entry.event.id.hart as usize + 1) {
+            *above = above.wrapping_add(1);
+        }
     }
+    let mut lower = 0usize;
+    'harts: for hart in 0..16 {
+        lower = lower.wrapping_add(starts[hart]);
+        starts[hart] = lower;
+    }
+    starts
 }

@@ -1,5 +1,5 @@
 -- What is found is a cut.
-use Rattle.std.proofs.Common.{IsTrue, List, arith, length, refl, subst, sym, ℕ, ◌≤◌}
+use Rattle.std.proofs.Common.{IsTrue, List, arith, length, subst, sym, ℕ, ◌≤◌}
 use Rattle.std.proofs.lemmas.List.Elements.{All-contains}
 use Rattle.std.specs.List.{All, Contains}
 use Rattle.rv_edges.specs.Ties.{AreTiesOf}
@@ -15,6 +15,7 @@ use Rattle.rv_settle.specs.Settled.{AnyEdge, IsSettled}
 use Rattle.rv_cut.proofs.Found.{IsClosed, found, found-none}
 use Rattle.rv_cut.proofs.Lowered.{past-lower}
 use Rattle.rv_cut.specs.Cuts.{IsCutOf, first_of, is_past}
+use Rattle.rv_cut.proofs.find.find_cut.Goals.{else-is_whole, then-is_whole}
 use Rattle.rv_cut.proofs.find.find_cut.Goals as goal
 
 pub behind-cut-requires : goal.behind-cut-requires
@@ -23,10 +24,6 @@ behind-cut-requires c = indexed_from_WellFormed c.log-log.result.now
 
 pub close-requires : goal.close-requires
 close-requires c = indexed_from_WellFormed c.log-log.result.now
-    (subst WellFormed (sym c.log-log.ensures.value) c.log-log.ensures.well_formed)
-
-pub have_waited-requires : goal.have_waited-requires
-have_waited-requires c = indexed_from_WellFormed c.log-log.result.now
     (subst WellFormed (sym c.log-log.ensures.value) c.log-log.ensures.well_formed)
 
 pub keep_unsettled-requires-clause-edges : goal.keep_unsettled-requires-clause-edges
@@ -39,14 +36,12 @@ keep_unsettled-requires-clause-edges c = λ t own.
     (subst (λ (l : List Entry). AnyEdge c.args.book.now.model (events l) t.from t.to) (sym c.log-log.ensures.value)
     (c.in_ok-ties.ensures.each t listed))
 
-pub returns-then-have_waited : goal.returns-then-have_waited
-returns-then-have_waited c =
-    subst (λ (m : MemoryModel). IsCutOf m (events c.args.book.now.log) c.args.active.now c.args.patience firsts)
-    c.model-model.ensures.value
-    (subst (λ (l : List Entry). IsCutOf c.model-model.result (events l) c.args.active.now c.args.patience firsts)
-    c.log-log.ensures.value (found c.model-model.result log c.args.active.now c.args.patience firsts
-    c.in_ok-ties.ties.items are
-    closed settled (c.if-have_waited.ensures refl) within))
+pub returns : goal.returns
+returns c = elim c.if-is_whole.branch [
+  | then-is_whole w ↦ rw w.result-is (cut w.if-is_whole.true)
+  | else-is_whole w ↦ rw w.result-is (found-none c.args.book.now.model (events c.args.book.now.log)
+      c.args.active.now c.args.patience w.new-else-is_whole.result w.new-else-is_whole.ensures)
+]
   where
     firsts : List ℕ
     firsts = c.close.new.cut
@@ -60,27 +55,30 @@ returns-then-have_waited c =
         (subst (λ (l : List Entry). AreTiesOf c.args.book.now.model (events l) c.in_ok-ties.ties.items)
         (sym c.log-log.ensures.value) c.in_ok-ties.ensures)
 
-    closed : IsClosed firsts c.in_ok-ties.ties.items
-    closed t own =
+    closed : IsTrue c.in_ok-is_whole.is_whole → IsClosed firsts c.in_ok-ties.ties.items
+    closed whole t own =
         All-contains (λ (x : Tie). IsTrue (is_past firsts x.to) → IsTrue (is_past firsts x.from))
-        c.as_slice-4.result.now t (c.if-is_closed.ensures.0 refl)
-        (subst (λ (ts : List Tie). Contains ts t) (sym c.as_slice-4.ensures.value) own)
+        c.as_slice-3.result.now t (c.in_ok-is_whole.ensures.closed whole)
+        (subst (λ (ts : List Tie). Contains ts t) (sym c.as_slice-3.ensures.value) own)
 
     settled : (p : Event) → Contains log p → IsMemory p → IsTrue (is_past firsts p.id) →
         IsSettled c.model-model.result log c.args.active.now p
     settled p own memory past =
         c.in_ok-keep_unsettled.ensures.settled p own memory
-        (past-lower c.keep_unsettled.new.cut firsts c.close.ensures p.id past)
+        (past-lower c.keep_unsettled.new.cut firsts c.close.ensures.lower p.id past)
 
     within : (hart : ℕ) → first_of firsts hart ≤ length (of_hart hart log)
     within hart =
-        omega (arith, c.close.ensures hart, c.keep_unsettled.ensures.lower hart, c.behind-cut.ensures hart)
+        omega (arith, c.close.ensures.lower hart, c.keep_unsettled.ensures.lower hart, c.behind-cut.ensures hart)
 
-pub returns : goal.returns
-returns c =
-    found-none c.args.book.now.model (events c.args.book.now.log) c.args.active.now c.args.patience
-    c.new-else-is_closed.result
-    c.new-else-is_closed.ensures
+    cut : IsTrue c.in_ok-is_whole.is_whole →
+        IsCutOf c.args.book.now.model (events c.args.book.now.log) c.args.active.now c.args.patience firsts
+    cut whole =
+        subst (λ (m : MemoryModel). IsCutOf m (events c.args.book.now.log) c.args.active.now c.args.patience firsts)
+        c.model-model.ensures.value
+        (subst (λ (l : List Entry). IsCutOf c.model-model.result (events l) c.args.active.now c.args.patience firsts)
+        c.log-log.ensures.value (found c.model-model.result log c.args.active.now c.args.patience firsts
+        c.in_ok-ties.ties.items are (closed whole) settled (c.in_ok-is_whole.ensures.waited whole) within))
 
 pub returns-then-any : goal.returns-then-any
 returns-then-any c =
