@@ -34,7 +34,7 @@ use crate::telling::{ALLOWED, WRONG_INPUT, settle, tell_failure};
 use rv_pipe::Bell;
 use rv_trace::Feed;
 use std::alloc::AllocError;
-use std::io::{self, Write};
+use std::io::{self, Stderr, Write};
 use std::process::ExitCode;
 use std::sync::Wait;
 use std::thread::Threads;
@@ -63,12 +63,12 @@ fn follow_input(rt: &HostRuntime, follower: &mut Follower) -> Result<Option<End>
 }
 
 /// Follows the files that the words name; `None` where one does not open, which is told.
-fn follow_files<RT: Threads + Wait + Copy + Send + 'static, E: Write>(
+fn follow_files<RT: Threads + Wait + Copy + Send + 'static>(
     rt: &HostRuntime,
     threads: &RT,
     words: &Words,
     follower: &mut Follower,
-    errors: &mut E,
+    errors: &mut Stderr,
 ) -> Result<Option<End>, AllocError> {
     let mut sources = match open_all(rt, threads, words.files.as_slice())? {
         Ok(sources) => sources,
@@ -93,15 +93,16 @@ fn follow_files<RT: Threads + Wait + Copy + Send + 'static, E: Write>(
         tell_unread(words, &end, errors);
         return Ok(Some(end));
     }
-    rechecked(rt, threads, words, end, errors).map(Some)
+    let end = rechecked(rt, threads, words, end, errors)?;
+    Ok(Some(end))
 }
 
 /// Does what the words ask for, and gives the status.
-fn answer<RT: Threads + Wait + Copy + Send + 'static, E: Write>(
+fn answer<RT: Threads + Wait + Copy + Send + 'static>(
     rt: &HostRuntime,
     threads: &RT,
     words: &Words,
-    errors: &mut E,
+    errors: &mut Stderr,
 ) -> Result<u8, AllocError> {
     let mut follower = Follower::new(rt, words, Mode::Ruled)?;
     let end = if words.files.is_empty() {

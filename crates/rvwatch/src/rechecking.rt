@@ -8,11 +8,11 @@ use crate::following::{End, Follower, Mode};
 use crate::request::Words;
 use crate::sources::open_all;
 use rv_cert::Certificate;
-use rv_event::Entry;
+use rv_event::{Entry, NoMemory};
 use rv_past::PastEdge;
 use rv_watch::{Stop, certificate_in_log};
 use std::alloc::AllocError;
-use std::io::Write;
+use std::io::{Stderr, Write};
 use std::sync::Wait;
 use std::thread::Threads;
 
@@ -32,7 +32,10 @@ fn recheck<RT: Threads + Wait + Copy + Send + 'static>(
     let end = follower.follow(rt, sources.feeds.as_mut_slice(), &sources.bell);
     let shown = match &end {
         End::Stopped(stopped, Stop::Forbidden(forbidden)) if stopped.event.id == entry.event.id => {
-            certificate_in_log(rt.alloc(), &follower.watch, forbidden).map(Some)
+            match certificate_in_log(rt.alloc(), &follower.watch, forbidden) {
+                Ok(certificate) => Ok(Some(certificate)),
+                Err(NoMemory) => Err(NoMemory),
+            }
         }
         _ if matches!(follower.mode, Mode::Held) => {
             follower.watch.explain_past(rt.alloc(), entry, edge)
@@ -42,16 +45,19 @@ fn recheck<RT: Threads + Wait + Copy + Send + 'static>(
     drop(end);
     drop(follower);
     drop(sources);
-    shown.map_err(|_| AllocError)
+    match shown {
+        Ok(shown) => Ok(shown),
+        Err(NoMemory) => Err(AllocError),
+    }
 }
 
 /// What a recheck, where it is asked for, makes of the end of a run over files.
-pub(crate) fn rechecked<RT: Threads + Wait + Copy + Send + 'static, E: Write>(
+pub(crate) fn rechecked<RT: Threads + Wait + Copy + Send + 'static>(
     rt: &HostRuntime,
     threads: &RT,
     words: &Words,
     end: End,
-    errors: &mut E,
+    errors: &mut Stderr,
 ) -> Result<End, AllocError> {
     let shown = match &end {
         End::Stopped(entry, Stop::BeforePast(edge)) if words.recheck => {
@@ -72,7 +78,7 @@ pub(crate) fn rechecked<RT: Threads + Wait + Copy + Send + 'static, E: Write>(
 }
 
 /// Tells that a recheck is asked for and can't be had, as a FIFO is read once.
-pub(crate) fn tell_unread<E: Write>(words: &Words, end: &End, errors: &mut E) {
+pub(crate) fn tell_unread(words: &Words, end: &End, errors: &mut Stderr) {
     if words.recheck && matches!(end, End::Stopped(_, Stop::BeforePast(_))) {
         let _ = writeln!(
             errors,

@@ -145,8 +145,10 @@ impl Setting {
 
 /// The hart of this number.
 fn hart_of(text: &str) -> Option<u8> {
-    let hart = u8::from_str_radix(text, 10).ok()?;
-    if hart <= LAST_HART { Some(hart) } else { None }
+    match u32::from_str_radix(text, 10) {
+        Ok(hart) if hart <= LAST_HART as u32 => Some(hart as u8),
+        _ => None,
+    }
 }
 
 /// The first and the last hart that a part of a list names: `3`, or `0-7`.
@@ -183,8 +185,10 @@ fn harts_of(alloc: Global, text: &str) -> Result<Vec<u8>, WordsFault> {
 
 /// A number of events, 1 or more.
 fn count_of(text: &str) -> Option<u32> {
-    let count = u32::from_str_radix(text, 10).ok()?;
-    if count == 0 { None } else { Some(count) }
+    match u32::from_str_radix(text, 10) {
+        Ok(0) | Err(_) => None,
+        Ok(count) => Some(count),
+    }
 }
 
 impl Words {

@@ -8,7 +8,7 @@ use rv_report::write_text;
 use rv_trace::{FaultKind, FeedFault};
 use rv_watch::{Stop, Watch, forbidden_text, refusal_text};
 use std::alloc::{AllocError, Global};
-use std::io::Write;
+use std::io::{Stderr, Write};
 
 /// The status where each event was taken.
 pub(crate) const ALLOWED: u8 = 0;
@@ -23,7 +23,7 @@ pub(crate) const WRONG_INPUT: u8 = 2;
 pub(crate) const FAILED: u8 = 3;
 
 /// Tells what failed, and gives the status for it.
-pub(crate) fn tell_failure<E: Write>(errors: &mut E, what: &str) -> u8 {
+pub(crate) fn tell_failure(errors: &mut Stderr, what: &str) -> u8 {
     let _ = writeln!(errors, "rvmon: {what}");
     FAILED
 }
@@ -36,7 +36,7 @@ fn counts_text(alloc: Global, watch: &Watch) -> Result<String, AllocError> {
 }
 
 /// Writes a report, and gives the status of what it tells.
-fn write_report<O: Write, E: Write>(out: &mut O, errors: &mut E, text: &str, status: u8) -> u8 {
+fn write_report<O: Write>(out: &mut O, errors: &mut Stderr, text: &str, status: u8) -> u8 {
     match write_text(out, text) {
         Ok(()) => status,
         Err(_) => tell_failure(errors, "the report can't be written"),
@@ -44,7 +44,7 @@ fn write_report<O: Write, E: Write>(out: &mut O, errors: &mut E, text: &str, sta
 }
 
 /// Writes why an event can't be judged.
-fn tell_beyond<E: Write>(errors: &mut E, id: Id, beyond: Beyond) {
+fn tell_beyond(errors: &mut Stderr, id: Id, beyond: Beyond) {
     let hart = id.hart;
     let _ = match beyond {
         Beyond::Inactive => writeln!(
@@ -65,7 +65,7 @@ fn tell_beyond<E: Write>(errors: &mut E, id: Id, beyond: Beyond) {
 }
 
 /// Writes the line of a source's fault, and a second one with its file and what is wrong.
-fn settle_fault<E: Write>(errors: &mut E, files: &[String], source: u8, fault: FeedFault) -> u8 {
+fn settle_fault(errors: &mut Stderr, files: &[String], source: u8, fault: FeedFault) -> u8 {
     let (row, kind) = (fault.row, fault.kind);
     let number = kind.number();
     let _ = writeln!(
@@ -84,10 +84,10 @@ fn settle_fault<E: Write>(errors: &mut E, files: &[String], source: u8, fault: F
 }
 
 /// Prints why the event of this id was not taken, and gives the status.
-fn settle_stop<O: Write, E: Write>(
+fn settle_stop<O: Write>(
     alloc: Global,
     out: &mut O,
-    errors: &mut E,
+    errors: &mut Stderr,
     watch: &Watch,
     id: Id,
     stop: &Stop,
@@ -115,10 +115,10 @@ fn settle_stop<O: Write, E: Write>(
 }
 
 /// Prints that the event of this id is forbidden, as the certificate shows, and gives the status.
-fn settle_shown<O: Write, E: Write>(
+fn settle_shown<O: Write>(
     alloc: Global,
     out: &mut O,
-    errors: &mut E,
+    errors: &mut Stderr,
     watch: &Watch,
     id: Id,
     certificate: &Certificate,
@@ -130,10 +130,10 @@ fn settle_shown<O: Write, E: Write>(
 }
 
 /// Prints what came of a run, and gives the status.
-pub(crate) fn settle<O: Write, E: Write>(
+pub(crate) fn settle<O: Write>(
     alloc: Global,
     out: &mut O,
-    errors: &mut E,
+    errors: &mut Stderr,
     watch: &Watch,
     files: &[String],
     end: &End,
