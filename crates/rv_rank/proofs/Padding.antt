@@ -1,5 +1,6 @@
 -- Lists that go on with one item.
-use Rattle.rv_rank.proofs.Common.{◌≡◌, ℕ, ◌+◌, ◌-◌, ◌<◌, ◌≤◌, ◌++◌, List, length, set, sym, ◌∙◌, arith, ap, length-append}
+use Rattle.rv_rank.proofs.Common.{◌≡◌, ℕ, ◌+◌, ◌-◌, ◌<◌, ◌≤◌, ◌++◌, List, length, set, sym, ◌∙◌, arith, ap}
+use Rattle.rv_rank.proofs.Common.{length-append}
 use Rattle.rv_rank.proofs.Common.{length-set}
 use Rattle.std.proofs.Common.{replicate}
 use Rattle.std.proofs.lemmas.List.{append_assoc, length-replicate, replicate-append-replicate, set-append_left}

@@ -37,8 +37,8 @@ loop-rank-preserved c =
           let below = w.node_at-node.ensures.below in
           let new = w.mark_above-top-then-not-is_free.new.marks in
           let visited = w.forward.follows.holds-at-none in
-          let taken = read_marked low ranks old v r below high (sym at) (rw c.at.ensures at (sym c.is_free.ensures.value ∙
-          w.if-not-is_free.true)) in
+          let read = sym c.is_free.ensures.value ∙ w.if-not-is_free.true in
+          let taken = read_marked low ranks old v r below high (sym at) (rw c.at.ensures at read) in
           let marked = w.mark_above-top-then-not-is_free.ensures in
           let spread = rw (w.forward.ensures.value, inv.same.edges) at marked.spread in
           let searched = IsSearched-more edges ranks succs low old new r v o inv.searched high at below taken
