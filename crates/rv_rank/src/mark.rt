@@ -1,7 +1,7 @@
 //! The marks of a search, one for each rank from the lowest one up.
 //!
-//! All are free at first. They are kept as far as the last one that was set, so a search costs what
-//! it marks, however many ranks there are above.
+//! All are free at first. They are kept as far as the highest one that was set, so a search costs a
+//! step for each rank up to there, however many there are above.
 ghost use Rattle.std.specs.Prelude.{◌≡◌, ◌↔◌, ◌<◌, length, replicate, slice_index_or, slice_set, IsTrue, IfOk};
 ghost use Rattle.rv_rank.specs.Marks.{is_free, is_behind};
 
