@@ -5,7 +5,7 @@ ghost use Rattle.rv_cut.specs.Cuts.{IsCutOf};
 
 use crate::closing::close;
 use crate::cut::Cut;
-use crate::ordering::in_order;
+use crate::ordering::{in_order, sum_before};
 use crate::reach::keep_unsettled;
 use rv_book::Book;
 use rv_edges::Tie;
@@ -72,7 +72,7 @@ impl Places {
     /// Those of an order of a log's operations.
     fn new(alloc: Global, log: &[Entry], order: &[Id]) -> Result<Places, NoMemory> {
         let mut places = Places {
-            starts: starts_of(log),
+            starts: starts_of_harts(log),
             behind: vec![in alloc; 0; log.len()]?,
         };
         'operations: for k in 0..order.len() {
@@ -107,17 +107,13 @@ impl Places {
 }
 
 /// Of each hart how many events of the lower harts the log has.
-fn starts_of(log: &[Entry]) -> [usize; 16] {
+fn starts_of_harts(log: &[Entry]) -> [usize; 16] {
     let mut starts = [0usize; 16];
     for entry in log {
-        if let Some(above) = starts.get_mut(entry.event.id.hart as usize + 1) {
-            *above = above.wrapping_add(1);
+        if let Some(count) = starts.get_mut(entry.event.id.hart as usize) {
+            *count = count.wrapping_add(1);
         }
     }
-    let mut lower = 0usize;
-    'harts: for hart in 0..16 {
-        lower = lower.wrapping_add(starts[hart]);
-        starts[hart] = lower;
-    }
+    sum_before(&mut starts);
     starts
 }

@@ -96,8 +96,10 @@ fn add_fenced(row: &mut Row, op: Op, later: Op, loads: &Row, stores: &Row)
     ensures { (s : ℕ) → has_bit row.new s ≡ (has_bit row.old s || (fence_orders op Load later && has_bit loads.now s)
         || (fence_orders op Store later && has_bit stores.now s)) }
 {
-    join_if(row, does_order(op, Op::Load, later), loads);
-    join_if(row, does_order(op, Op::Store, later), stores);
+    if matches!(op, Op::Fence { .. } | Op::FenceTso) {
+        join_if(row, does_order(op, Op::Load, later), loads);
+        join_if(row, does_order(op, Op::Store, later), stores);
+    }
 }
 
 /// Puts in the memory operations, by the loads and the stores, on which the event has a dependency

@@ -56,6 +56,16 @@ impl Words {
         ensures { IsHighestStore events.now word (length events.now) result }
     {
         let number = self.last(word)?;
+        self.highest_up_to(events, word, number)
+    }
+
+    /// The same, where the word's last memory operation has this number.
+    fn highest_up_to(&self, events: &OwnEvents<'_>, word: u32, number: u32) -> Option<u32>
+        requires numbered { AreNumbered events.now }
+        requires words { AreWords events.now self.now }
+        requires last { get nat_eq self.now.lasts word ≡ Some number }
+        ensures { IsHighestStore events.now word (length events.now) result }
+    {
         let last = events.at(number as usize);
         let before = self.links[number as usize].highest;
         if !last.is_store() {
@@ -92,22 +102,28 @@ impl Words {
         Ok(())
     }
 
-    /// The link of the hart's next event.
+    /// The link of the hart's next event: nothing where it is no memory operation.
     fn link_of(&self, events: &OwnEvents<'_>, event: &Event) -> WordLink
         requires numbered { AreNumbered events.now }
         requires next { event.now.id.seq ≡ length events.now }
         requires words { AreWords events.now self.now }
         ensures { IsMemory event.now → IsWordLink events.now event.now result }
     {
-        let previous = self.last(event.word);
-        let before_run = match previous {
-            None => None,
-            Some(number) => self.before_run(events, event, number),
+        let none = WordLink {
+            previous: None,
+            before_run: None,
+            highest: None,
+        };
+        if !event.is_memory() {
+            return none;
+        }
+        let Some(number) = self.last(event.word) else {
+            return none;
         };
         WordLink {
-            previous,
-            before_run,
-            highest: self.highest_store(events, event.word),
+            previous: Some(number),
+            before_run: self.before_run(events, event, number),
+            highest: self.highest_up_to(events, event.word, number),
         }
     }
 

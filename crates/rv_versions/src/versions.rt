@@ -134,11 +134,14 @@ impl Versions {
 
     /// The store that wrote this version of the word. Version 0, the initial value, has none.
     ///
-    /// It takes no memory. It costs a look-up of the word, and a few steps for its highest version,
-    /// or else a search among its stores.
+    /// It takes no memory. Version 0 costs one step. Else it costs a look-up of the word, and a few
+    /// steps for its highest version, or a search among its stores.
     pub fn writer(&self, word: u32, version: u32) -> Option<Id>
         ensures { result ≡ option_map (λ w. w.id) (writer (events self.now) word version) }
     {
+        if version == 0 {
+            return None;
+        }
         self.of_word(word).writer(version)
     }
 
