@@ -219,12 +219,12 @@ pub struct Event {
     pub read: u32,
     /// The version of the word that it wrote, above 0.
     pub wrote: u32,
+    /// The earlier events of its hart on which it depends syntactically.
+    pub deps: Deps,
     /// The instruction's `aq` bit.
     pub acquire: bool,
     /// The instruction's `rl` bit.
     pub release: bool,
-    /// The earlier events of its hart on which it depends syntactically.
-    pub deps: Deps,
 }
 
 impl Event {

@@ -167,6 +167,7 @@ impl Indexes {
     ///
     /// # Errors
     /// `NoMemory`; the accesses are then as they were.
+    #[inline(always)]
     fn insert_to(&mut self, word: u32, postings: Postings) -> Result<(), NoMemory>
         requires absent { AreAbsent self.old postings }
         requires to { ArePostingsTo word postings }
