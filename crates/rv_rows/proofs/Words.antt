@@ -1,9 +1,10 @@
 -- Numbers as bits of words.
 use Rattle.std.proofs.Common.{◌≡◌, ◌≢◌, ℕ, zero, suc, ◌+◌, ◌-◌, ◌*◌, ◌/◌, ◌%◌, ◌^◌, ◌<◌, ◌≤◌, min, max, Bool}
-use Rattle.std.proofs.Common.{true, false, not, ◌&&◌, ◌||◌, ◌==◌, List, length, get_or, set, take, drop}
+use Rattle.std.proofs.Common.{true, false, not, ◌&&◌, ◌||◌, ◌==◌, List, [], ◌++◌, length, get_or, set, take, drop}
 use Rattle.std.proofs.Common.{replicate, ◌∙◌, ap, sym, refl, inl, inr, arith, ◌⊎◌, w64, eq-eqb, length-take}
 use Rattle.std.proofs.lemmas.Bool.{cases_eq, cases_lt, ne_eqb}
 use Rattle.std.proofs.lemmas.List.{get_or-replicate, length-replicate, get_or_past, get_or-append_right}
+use Rattle.std.proofs.lemmas.List.{get_or_append_left}
 use Rattle.std.proofs.lemmas.List.{get_or-take, get_or-drop}
 use Rattle.std.proofs.lemmas.Nat.{leading_top, div-add-mod'}
 use Rattle.std.proofs.Math.Nat.{two-pow-succ, mod-lt, suc-mul}
@@ -12,7 +13,7 @@ use Rattle.std.proofs.lemmas.Nat.Bits.{bit_at_set_other, bit_at_above}
 use Rattle.std.specs.Prelude.{bit_and, bit_or}
 use Rattle.std.specs.Int.{bit_at, bit_not, leading_zeros}
 use Rattle.std.proofs.lemmas.Grind.{common_steps}
-use Rattle.rv_rows.specs.Bits.{has_bit, Has, IsBetween, AreEnds}
+use Rattle.rv_rows.specs.Bits.{has_bit, Has, IsBetween}
 use Rattle.rv_rows.specs.Flat.{shifted}
 
 or_is : (x y : ℕ) → x < 2 → y < 2 → (max x y == 1) ≡ ((x == 1) || (y == 1))
@@ -32,6 +33,17 @@ less_is (suc zero) zero p q = refl
 less_is (suc zero) (suc zero) p q = refl
 less_is (suc zero) (suc (suc y)) p q = absurd (omega arith)
 less_is (suc (suc x)) y p q = absurd (omega arith)
+
+-- one after the other is both
+pub or_assoc : (a b c : Bool) → ((a || b) || c) ≡ (a || (b || c))
+or_assoc true b c = refl
+or_assoc false b c = refl
+
+-- less one and then the other is less both
+pub less_both : (a b c : Bool) → ((a && not b) && not c) ≡ (a && not (b || c))
+less_both true true c = refl
+less_both true false c = refl
+less_both false b c = refl
 
 abbrev word : List ℕ → ℕ → ℕ
 word xs i = get_or xs (i / 64) 0
@@ -190,11 +202,11 @@ cut_part new a part n from to low each rest empty i = go (cases_lt (i / 64) from
         has-less new a (shifted n part) i (omega (arith, at, one.1))
         (one.0 ∙ ap (λ x. bit_and (word a i) (bit_not w64 x)) (sym at))
 
--- the words between the empty ones have the set's numbers
-pub used_bits : (words part : List ℕ) (low high first : ℕ) → IsBetween words low high → first ≡ min low high →
+-- the words between the empty ones have the set's numbers from a word on
+pub used_bits : (words part : List ℕ) (low high from first : ℕ) → IsBetween words low high → first ≡ max low from →
     part ≡ take (high - first) (drop first words)
-    → (i : ℕ) → has_bit (shifted first part) i ≡ has_bit words i
-used_bits words part low high first between least is i =
+    → (i : ℕ) → from ≤ i / 64 → has_bit (shifted first part) i ≡ has_bit words i
+used_bits words part low high from first between most is i behind =
     ap (λ x. bit_at x (i % 64) == 1) (go (cases_lt (i / 64) first) (cases_lt (i / 64) high))
   where
     short : length part ≤ high - first
@@ -203,14 +215,73 @@ used_bits words part low high first between least is i =
     go : (i / 64 < first) ⊎ (first ≤ i / 64) → (i / 64 < high) ⊎ (high ≤ i / 64) →
         word (shifted first part) i ≡ word words i
     go (inl below) _ = shifted_before first part (i / 64) below ∙ sym (between.before (i / 64) (omega arith))
-    go (inr from) (inr above) = shifted_after first part (i / 64) (omega (arith, short)) ∙
+    go (inr here) (inr above) = shifted_after first part (i / 64) (omega (arith, short)) ∙
         sym (between.after (i / 64) above)
-    go (inr from) (inl inside) =
+    go (inr here) (inl inside) =
         let at : first + (i / 64 - first) ≡ i / 64 = omega arith in
-        shifted_from first part (i / 64) from
+        shifted_from first part (i / 64) here
         ∙ ap (λ (xs : List ℕ). get_or xs (i / 64 - first) 0) is
         ∙ get_or-take (high - first) (drop first words) (i / 64 - first) 0 (omega arith)
         ∙ get_or-drop first words (i / 64 - first) 0 ∙ ap (λ k. get_or words k 0) at
+
+-- and none, where these end before that word
+pub unused_bits : (words : List ℕ) (low high from : ℕ) → IsBetween words low high → high ≤ max low from →
+    (i : ℕ) → from ≤ i / 64 → has_bit (shifted from []) i ≡ has_bit words i
+unused_bits words low high from between ends i behind =
+    ap (λ x. bit_at x (i % 64) == 1)
+    (shifted_after from [] (i / 64) (omega arith) ∙ sym (go (cases_lt (i / 64) high)))
+  where
+    go : (i / 64 < high) ⊎ (high ≤ i / 64) → word words i ≡ 0
+    go (inl inside) = between.before (i / 64) (omega arith)
+    go (inr above) = between.after (i / 64) above
+
+-- words behind others, with empty ones between
+pub both_parts : (front part : List ℕ) (s f : ℕ) → length front ≡ s → s ≤ f →
+    (i : ℕ) → has_bit (front ++ shifted (f - s) part) i ≡ (has_bit front i || has_bit (shifted f part) i)
+both_parts front part s f long behind i = go (cases_lt (i / 64) s)
+  where
+    moved : (i / 64 < f) ⊎ (f ≤ i / 64) → s ≤ i / 64 →
+        get_or (shifted (f - s) part) (i / 64 - s) 0 ≡ word (shifted f part) i
+    moved (inl low) from = shifted_before (f - s) part (i / 64 - s) (omega arith) ∙
+        sym (shifted_before f part (i / 64) low)
+    moved (inr high) from =
+        let at : i / 64 - s - (f - s) ≡ i / 64 - f = omega arith in
+        shifted_from (f - s) part (i / 64 - s) (omega arith) ∙ ap (λ k. get_or part k 0) at ∙
+        sym (shifted_from f part (i / 64) high)
+
+    go : (i / 64 < s) ⊎ (s ≤ i / 64) →
+        has_bit (front ++ shifted (f - s) part) i ≡ (has_bit front i || has_bit (shifted f part) i)
+    go (inl low) = ap (λ x. bit_at x (i % 64) == 1)
+        (get_or_append_left front (shifted (f - s) part) 0 (i / 64) (omega (arith, long)))
+        ∙ or_false (has_bit front i)
+        ∙ ap (λ b. has_bit front i || b)
+        (sym (zero_bit (shifted f part) i (shifted_before f part (i / 64) (omega arith))))
+    go (inr high) = ap (λ x. bit_at x (i % 64) == 1)
+        (get_or-append_right front (shifted (f - s) part) s (i / 64) 0 long high ∙ moved (cases_lt (i / 64) f) high)
+        ∙ ap (λ b. b || has_bit (shifted f part) i) (sym (zero_bit front i (get_or_past front (i / 64) 0
+        (omega (arith, long)))))
+
+-- words that are the set's up to a place, and behind it those that have its numbers from there on
+pub all_bits : (stem row part : List ℕ) (s f : ℕ) → s ≤ length stem → s ≤ f
+    → ((k : ℕ) → k < s → get_or stem k 0 ≡ get_or row k 0)
+    → ((j : ℕ) → s ≤ j / 64 → has_bit (shifted f part) j ≡ has_bit row j)
+    → (j : ℕ) → has_bit (take s stem ++ shifted (f - s) part) j ≡ has_bit row j
+all_bits stem row part s f within behind same rest j =
+    both_parts (take s stem) part s f long behind j ∙ go (cases_lt (j / 64) s)
+  where
+    long : length (take s stem) ≡ s
+    long = omega (arith, length-take s stem)
+
+    go : (j / 64 < s) ⊎ (s ≤ j / 64) → (has_bit (take s stem) j || has_bit (shifted f part) j) ≡ has_bit row j
+    go (inl low) =
+        ap (λ b. has_bit (take s stem) j || b)
+        (zero_bit (shifted f part) j (shifted_before f part (j / 64) (omega arith)))
+        ∙ sym (or_false (has_bit (take s stem) j))
+        ∙ ap (λ x. bit_at x (j % 64) == 1) (get_or-take s stem (j / 64) 0 low ∙ same (j / 64) low)
+    go (inr high) =
+        ap (λ b. b || has_bit (shifted f part) j)
+        (zero_bit (take s stem) j (get_or_past (take s stem) (j / 64) 0 (omega (arith, long))))
+        ∙ rest j high
 
 -- where all numbers are below the limit, and the words from k up to the limit or the end are empty,
 -- none is in word k or later
@@ -219,7 +290,3 @@ pub none_from : (words : List ℕ) (low high limit top start k : ℕ) → IsBetw
     → ((j : ℕ) → k ≤ j → j < start → get_or words j 0 ≡ 0) → (j : ℕ) → k ≤ j / 64 → has_bit words j ≡ false
 none_from words low high limit top start k between enough least below empty j from =
     grind (arith, common_steps)
-
--- all words in use lie between the ends
-pub between : (words : List ℕ) (first end : ℕ) → AreEnds words first end → IsBetween words first end
-between words first end ends = grind (arith, common_steps)

@@ -1,5 +1,5 @@
 -- Sets of numbers as bits of words.
-use Rattle.std.specs.Prelude.{ℕ, Bool, true, false, ◌≡◌, ◌<◌, ◌≤◌, ◌==◌, ◌-◌, ◌/◌, ◌%◌, List, Option, Some}
+use Rattle.std.specs.Prelude.{ℕ, Bool, true, false, ◌≡◌, ◌<◌, ◌≤◌, ◌==◌, ◌/◌, ◌%◌, List, Option, Some}
 use Rattle.std.specs.Prelude.{None, slice_index_or}
 use Rattle.std.specs.Int.{bit_at}
 
@@ -21,20 +21,3 @@ pub record IsBetween (words : List ℕ) (first end : ℕ) : Type 0 where
   pub few : end ≤ 64
   pub before : (k : ℕ) → k < first → slice_index_or words k 0 ≡ 0
   pub after : (k : ℕ) → end ≤ k → slice_index_or words k 0 ≡ 0
-
--- the words before the place are empty, and the one there is not; 64 where all are empty
-pub record IsFirst (words : List ℕ) (place : ℕ) : Type 0 where
-  pub before : (k : ℕ) → k < place → slice_index_or words k 0 ≡ 0
-  pub used : place < 64 → 0 < slice_index_or words place 0
-
--- there are at most 64 words, those from the place on are empty, and the one before it is not; 0
--- where all are empty
-pub record IsEnd (words : List ℕ) (place : ℕ) : Type 0 where
-  pub few : place ≤ 64
-  pub after : (k : ℕ) → place ≤ k → slice_index_or words k 0 ≡ 0
-  pub used : 0 < place → 0 < slice_index_or words (place - 1) 0
-
--- the places of the first word in use, and behind the last one
-pub record AreEnds (words : List ℕ) (first end : ℕ) : Type 0 where
-  pub is_first : IsFirst words first
-  pub is_end : IsEnd words end

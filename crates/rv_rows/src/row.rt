@@ -1,15 +1,15 @@
 //! A set of numbers below 4,096.
-ghost use Rattle.std.specs.Prelude.{ℕ, not, ◌≡◌, ◌+◌, ◌<◌, ◌≤◌, ◌==◌, ◌&&◌, ◌||◌, ◌↔◌, false, length, IsTrue};
-ghost use Rattle.rv_rows.specs.Bits.{AreEnds, Has, has_bit, IsBetween, IsEnd, IsFirst, IsHighest};
+ghost use Rattle.std.specs.Prelude.{ℕ, not, ◌≡◌, ◌+◌, ◌/◌, ◌<◌, ◌≤◌, ◌==◌, ◌&&◌, ◌||◌, ◌↔◌, false, length, IsTrue};
+ghost use Rattle.std.specs.Prelude.{slice_index_or};
+ghost use Rattle.rv_rows.specs.Bits.{Has, has_bit, IsHighest};
 ghost use Rattle.rv_rows.specs.Flat.{shifted};
 
 use std::marker::Model;
 
 /// A set of numbers below 4,096. It takes 528 bytes and no memory of the allocator.
 ///
-/// Contracts see it as its words, and read it with `has_bit`. Its type keeps that `low` is the
-/// place of the first word that is not 0, and that `high` is the place behind the last one, so that
-/// a small set costs few steps.
+/// Contracts see it as its words, and read it with `has_bit`. Its type keeps that the words before
+/// the place `low` and those from `high` on are 0, so that a small set costs few steps.
 #[derive(Drop)]
 pub struct Row {
     words: [u64; 64],
@@ -19,13 +19,13 @@ pub struct Row {
 
 impl Model for Row {
     ghost use Rattle.std.specs.Prelude.{List, ℕ};
-    ghost use Rattle.rv_rows.specs.Bits.{AreEnds};
+    ghost use Rattle.rv_rows.specs.Bits.{IsBetween};
 
     ghost Value = { List ℕ };
 
     ghost view = { λ r. r.words };
 
-    ghost invariant = { λ r. AreEnds r.words r.low r.high };
+    ghost invariant = { λ r. IsBetween r.words r.low r.high };
 }
 
 impl Row {
@@ -54,9 +54,8 @@ impl Row {
         ensures { (j : ℕ) → has_bit self.new j ≡ (has_bit self.old j || (i == j)) }
     {
         self.words[i / 64] |= 1u64 << (i % 64);
-        let (low, high) = ends(&self.words, self.low.min(i / 64), self.high.max(i / 64 + 1));
-        self.low = low;
-        self.high = high;
+        self.low = self.low.min(i / 64);
+        self.high = self.high.max(i / 64 + 1);
     }
 
     /// Takes all numbers out. It costs a step for each word from the set's first number to its last.
@@ -99,13 +98,8 @@ impl Row {
         'words: for k in 0..words.len() {
             self.words[first + k] |= words[k];
         }
-        let (low, high) = ends(
-            &self.words,
-            self.low.min(first),
-            self.high.max(first + words.len()),
-        );
-        self.low = low;
-        self.high = high;
+        self.low = self.low.min(first);
+        self.high = self.high.max(first + words.len());
     }
 
     /// Takes out the numbers that the words have, the first of which stands at the given place.
@@ -115,13 +109,18 @@ impl Row {
     {
         let from = first.max(self.low);
         let to = (first + words.len()).min(self.high);
+        let mut left = 0;
         'words: for k in from..to {
-            let theirs = words[k - first];
-            self.words[k] &= !theirs;
+            let rest = self.words[k] & !words[k - first];
+            self.words[k] = rest;
+            left |= rest;
         }
-        let (low, high) = ends(&self.words, self.low, self.high);
+        let low = if left == 0 && first <= self.low {
+            self.low.max(to)
+        } else {
+            self.low
+        };
         self.low = low;
-        self.high = high;
     }
 
     /// Takes out all that the other set has. It costs a step for each word that both use.
@@ -159,14 +158,41 @@ impl Row {
         self.highest_below(self.high * 64)
     }
 
-    /// The words that have the set's numbers, and the place of the first of them; none of an empty
-    /// set.
-    pub(crate) fn used(&self) -> (usize, &[u64])
+    /// The words that have the set's numbers, and the place of the first of them.
+    fn used(&self) -> (usize, &[u64])
         ensures within { result.0 + length result.1.now ≤ 64 }
         ensures same { (j : ℕ) → has_bit (shifted result.0 result.1.now) j ≡ has_bit self.now j }
     {
-        let first = self.low.min(self.high);
+        self.used_from(0)
+    }
+
+    /// The words that have the set's numbers from the given word on, and the place of the first of
+    /// them.
+    pub(crate) fn used_from(&self, from: usize) -> (usize, &[u64])
+        requires { from ≤ 64 }
+        ensures behind { from ≤ result.0 }
+        ensures within { result.0 + length result.1.now ≤ 64 }
+        ensures same { (j : ℕ) → from ≤ j / 64 → has_bit (shifted result.0 result.1.now) j ≡ has_bit self.now j }
+    {
+        let first = self.low.max(from);
+        if first >= self.high {
+            return (from, &[]);
+        }
         (first, &self.words[first..self.high])
+    }
+
+    /// How many words from the beginning on the set has in common with these.
+    pub(crate) fn shared_with(&self, words: &[u64]) -> usize
+        requires { length words.now ≤ 64 }
+        ensures within { result ≤ length words.now }
+        ensures same { (k : ℕ) → k < result → slice_index_or words.now k 0 ≡ slice_index_or self.now k 0 }
+    {
+        'words: for k in 0..words.len() {
+            if words[k] != self.words[k] {
+                return k;
+            }
+        }
+        words.len()
     }
 
     /// The highest number of a set whose numbers are all below `limit`, and `None` where it is
@@ -176,9 +202,8 @@ impl Row {
         requires below { (j : ℕ) → Has self.now j → j < limit }
         ensures { IsHighest self.now result }
     {
-        let mut k = limit.div_ceil(64).min(self.high);
-        'words: while k > self.low {
-            k -= 1;
+        let top = limit.div_ceil(64).min(self.high);
+        'words: for k in (self.low..top).rev() {
             let word = self.words[k];
             if word != 0 {
                 return Some(k * 64 + (63 - word.leading_zeros() as usize));
@@ -186,42 +211,4 @@ impl Row {
         }
         None
     }
-}
-
-/// The place of the first word that is not 0, 64 where there is none, and the place behind the last
-/// one, 0 where there is none. The search begins at the given places, outside of which all words
-/// are 0.
-fn ends(words: &[u64; 64], from: usize, to: usize) -> (usize, usize)
-    requires { IsBetween words.now from to }
-    ensures { AreEnds words.now result.0 result.1 }
-{
-    (first_used(words, from, to), end_used(words, from, to))
-}
-
-/// The place of the first word that is not 0, 64 where there is none.
-fn first_used(words: &[u64; 64], from: usize, to: usize) -> usize
-    requires { IsBetween words.now from to }
-    ensures { IsFirst words.now result }
-{
-    'words: for k in from..to {
-        if words[k] != 0 {
-            return k;
-        }
-    }
-    64
-}
-
-/// The place behind the last word that is not 0, 0 where there is none.
-fn end_used(words: &[u64; 64], from: usize, to: usize) -> usize
-    requires { IsBetween words.now from to }
-    ensures { IsEnd words.now result }
-{
-    let mut k = to;
-    'words: while k > from {
-        if words[k - 1] != 0 {
-            return k;
-        }
-        k -= 1;
-    }
-    0
 }

@@ -1,8 +1,8 @@
 //! Rows, each only as long as what it has asks for.
-ghost use Rattle.std.specs.Prelude.{ℕ, ◌≡◌, ◌<◌, ◌≤◌, ◌++◌, ◌∷◌, ◌&&◌, ◌||◌, not, [], List, length};
+ghost use Rattle.std.specs.Prelude.{ℕ, ◌≡◌, ◌<◌, ◌≤◌, ◌+◌, ◌++◌, ◌∷◌, ◌&&◌, ◌||◌, not, [], List, length};
 ghost use Rattle.std.specs.Prelude.{slice_index_or, OnOk, OnErr};
 ghost use Rattle.rv_rows.specs.Bits.{Has, has_bit};
-ghost use Rattle.rv_rows.specs.Flat.{IsWithin, part_at, shifted, IsPushed};
+ghost use Rattle.rv_rows.specs.Flat.{beginning_at, part_at, shifted, IsPushed};
 
 use crate::row::Row;
 use std::alloc::{AllocError, Global};
@@ -11,22 +11,32 @@ use std::marker::Model;
 /// Where a row lies.
 #[derive(Clone, Copy)]
 pub struct Place {
-    /// Where its first word stands among the words of all rows.
-    pub start: usize,
-    /// How many words of the row are before its first one: they are 0, and are not kept.
+    /// Where the first word that is kept of it stands among those of all rows.
+    pub start: u32,
+    /// How many of its words, from the beginning on, are those of the stem.
+    pub shared: u8,
+    /// The place in the row of the first word that is kept. Those between are 0.
     pub first: u8,
-    /// How many words it has.
+    /// How many words are kept.
     pub count: u8,
 }
 
-/// Rows that grow at their end. Row n has numbers up to n alone, and takes 16 bytes, and 8 for each
-/// word from the first to the last of those that are not 0.
+/// Rows that grow at their end. Row n has numbers up to n alone.
+///
+/// A row takes 8 bytes, and 8 for each word that is kept of it. Its words from the beginning on
+/// that are also those of the stem are not kept, nor are the empty ones behind these or at its
+/// end. The stem has a word for each 64 rows: which of them have their own number. So rows that
+/// have all such numbers but some of the last take few words.
 ///
 /// Contracts see the list of the rows, each as its words, and read it with `RowHas`.
 #[derive(Drop)]
 pub struct Rows {
     words: Vec<u64>,
     places: Vec<Place>,
+    /// What rows may share. Its words stay when rows are taken off.
+    stem: Vec<u64>,
+    /// The next word of the stem: which of the last rows have their own number.
+    block: u64,
 }
 
 impl Model for Rows {
@@ -35,9 +45,9 @@ impl Model for Rows {
 
     ghost Value = { List (List ℕ) };
 
-    ghost view = { λ r. rows_of r.words.items r.places.items };
+    ghost view = { λ r. rows_of r.stem.items r.words.items r.places.items };
 
-    ghost invariant = { λ r. AreLaid r.words.items r.places.items };
+    ghost invariant = { λ r. AreLaid r.stem.items r.words.items r.places.items };
 }
 
 impl Rows {
@@ -48,6 +58,8 @@ impl Rows {
         Rows {
             words: Vec::new(alloc),
             places: Vec::new(alloc),
+            stem: Vec::new(alloc),
+            block: 0,
         }
     }
 
@@ -58,7 +70,8 @@ impl Rows {
         self.places.len()
     }
 
-    /// Adds a row with what the set has.
+    /// Adds a row with what the set has. It costs a step for each word of the stem that the row
+    /// shares, and for each that is kept.
     ///
     /// # Errors
     /// `AllocError` where it could not be kept; the rows stay as they are.
@@ -68,14 +81,19 @@ impl Rows {
         ensures pushed { OnOk result (IsPushed self.old row.now self.new) }
         ensures unchanged { OnErr result (self.new ≡ self.old) }
     {
-        let (first, words) = row.used();
+        let number = self.len();
+        self.settle()?;
+        let shared = row.shared_with(self.stem.as_slice());
+        let (first, words) = row.used_from(shared);
         let place = Place {
-            start: self.words.len(),
+            start: self.words.len() as u32,
+            shared: shared as u8,
             first: first as u8,
             count: words.len() as u8,
         };
         self.places.reserve(1)?;
         self.words.extend_from_slice(words)?;
+        self.block |= (row.has(number) as u64) << (number % 64);
         self.places.push_reserved(place);
         Ok(())
     }
@@ -89,13 +107,29 @@ impl Rows {
         ensures pushed { OnOk result (self.new ≡ self.old ++ [] ∷ []) }
         ensures unchanged { OnErr result (self.new ≡ self.old) }
     {
+        self.settle()?;
         self.places.reserve(1)?;
-        let start = self.words.len();
+        let start = self.words.len() as u32;
         self.places.push_reserved(Place {
             start,
+            shared: 0,
             first: 0,
             count: 0,
         });
+        Ok(())
+    }
+
+    /// Adds the word of the last 64 rows to the stem, where these have come and it lacks it.
+    ///
+    /// # Errors
+    /// `AllocError` where it could not be kept; the rows stay as they are.
+    fn settle(&mut self) -> Result<(), AllocError>
+        ensures { self.new ≡ self.old }
+    {
+        if self.stem.len() * 64 + 64 == self.places.len() {
+            self.stem.push(self.block)?;
+            self.block = 0;
+        }
         Ok(())
     }
 
@@ -105,7 +139,7 @@ impl Rows {
         ensures { (front : List (List ℕ)) (last : List ℕ) → self.old ≡ front ++ last ∷ [] → self.new ≡ front }
     {
         if let Some(place) = self.places.pop() {
-            self.words.truncate(place.start);
+            self.words.truncate(place.start as usize);
         }
     }
 
@@ -115,11 +149,9 @@ impl Rows {
         ensures { result ≡ has_bit (slice_index_or self.now number []) i }
     {
         let place = self.places[number];
-        has_bit(
-            place.first as usize,
-            words_at(self.words.as_slice(), place),
-            i,
-        )
+        let words = words_at(self.words.as_slice(), place);
+        has_bit(0, beginning_at(self.stem.as_slice(), place), i)
+            || has_bit(place.first as usize, words, i)
     }
 
     /// Puts into the set what the row has.
@@ -128,6 +160,7 @@ impl Rows {
         ensures { (j : ℕ) → has_bit row.new j ≡ (has_bit row.old j || has_bit (slice_index_or self.now number []) j) }
     {
         let place = self.places[number];
+        row.join_words(0, beginning_at(self.stem.as_slice(), place));
         row.join_words(place.first as usize, words_at(self.words.as_slice(), place));
     }
 
@@ -138,6 +171,7 @@ impl Rows {
             not (has_bit (slice_index_or self.now number []) j)) }
     {
         let place = self.places[number];
+        row.subtract_words(0, beginning_at(self.stem.as_slice(), place));
         row.subtract_words(place.first as usize, words_at(self.words.as_slice(), place));
     }
 }
@@ -157,10 +191,19 @@ fn has_bit(first: usize, words: &[u64], i: usize) -> bool
     (words[k] >> (i % 64)) & 1 == 1
 }
 
-/// The words of the row that lies at the place.
+/// The words of the stem that the row at the place shares.
+fn beginning_at(stem: &[u64], place: Place) -> &[u64]
+    requires { place.shared ≤ length stem.now }
+    ensures { result.now ≡ beginning_at stem.now place }
+{
+    &stem[..place.shared as usize]
+}
+
+/// The words that are kept of the row at the place.
 fn words_at(words: &[u64], place: Place) -> &[u64]
-    requires { IsWithin words.now place }
+    requires { place.start + place.count ≤ length words.now }
     ensures { result.now ≡ part_at words.now place }
 {
-    &words[place.start..place.start + place.count as usize]
+    let start = place.start as usize;
+    &words[start..start + place.count as usize]
 }

@@ -1,10 +1,6 @@
 use Rattle.std.proofs.Common.{arith, sym}
-use Rattle.std.proofs.lemmas.Grind.{common_steps}
 use Rattle.rv_rows.proofs.Words.{joined_part}
 use Rattle.rv_rows.proofs.row.Row.join_words.Goals as goal
-
-pub ends-low-requires : goal.ends-low-requires
-ends-low-requires c = grind (arith, common_steps)
 
 pub returns : goal.returns
 returns c j =

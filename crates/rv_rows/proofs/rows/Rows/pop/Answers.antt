@@ -8,19 +8,22 @@ use Rattle.rv_rows.proofs.Laying.{rows_count, rows_less, laid_less}
 use Rattle.rv_rows.proofs.rows.Rows.pop.Goals as goal
 
 module _ (c : goal.After-truncate) where
+  abbrev stem : List ℕ
+  stem = c.self.inside.stem.items
+
   abbrev words : List ℕ
   words = c.self.inside.words.items
 
   abbrev front : List Place
   front = c.pop.new.self.items
 
-  laid : AreLaid words (front ++ c.in-Some.place ∷ [])
-  laid = subst (AreLaid words) c.in-Some.ensures.items c.self.invariant
+  laid : AreLaid stem words (front ++ c.in-Some.place ∷ [])
+  laid = subst (AreLaid stem words) c.in-Some.ensures.items c.self.invariant
 
 pub invariant_of-self : goal.invariant_of-self
 invariant_of-self c =
-    subst (λ (ws : List ℕ). AreLaid ws (front c)) (sym c.truncate.ensures.items)
-    (laid_less (words c) (front c) c.in-Some.place (laid c))
+    subst (λ (ws : List ℕ). AreLaid (stem c) ws (front c)) (sym c.truncate.ensures.items)
+    (laid_less (stem c) (words c) (front c) c.in-Some.place (laid c))
 
 pub returns-in-Some : goal.returns-in-Some
 returns-in-Some c rows last is = search (rows_less, rules)
