@@ -46,9 +46,24 @@ impl Links {
 #[derive(Clone, Copy, Debug)]
 pub struct Sides {
     /// From events before it.
-    pub before: usize,
+    pub before: u32,
     /// To events before it.
-    pub after: usize,
+    pub after: u32,
+}
+
+impl Sides {
+    /// Those of an event with these links.
+    ///
+    /// # Errors
+    /// `NoMemory` where a side has 2^32 links or more, as a count has four bytes.
+    fn of(before: &[Link], after: &[Link]) -> Result<Sides, NoMemory>
+        ensures { IfOk result (λ s. s ≡ record { before = length before.now; after = length after.now }) }
+    {
+        match (u32::try_from(before.len()), u32::try_from(after.len())) {
+            (Ok(before), Ok(after)) => Ok(Sides { before, after }),
+            _ => Err(NoMemory),
+        }
+    }
 }
 
 /// The links of each event of a history: all in one list, and for each event how many there are of
@@ -104,11 +119,13 @@ impl KeptLinks {
     /// Adds those of one event more.
     ///
     /// # Errors
-    /// `NoMemory` where a list could not grow; nothing changes.
+    /// `NoMemory` where a list could not grow, and where a side has 2^32 links or more; nothing
+    /// changes.
     pub fn append(&mut self, before: &[Link], after: &[Link]) -> Result<(), NoMemory>
         ensures pushed { OnOk result (self.new ≡ self.old ++ record { before = before.now; after = after.now } ∷ []) }
         ensures unchanged { OnErr result (self.new ≡ self.old) }
     {
+        let sides = Sides::of(before, after)?;
         self.sides.reserve(1)?;
         self.links.extend_from_slice(before)?;
         let extended = self.links.extend_from_slice(after);
@@ -116,10 +133,7 @@ impl KeptLinks {
             self.links.truncate(self.links.len() - before.len());
             return Err(NoMemory);
         }
-        self.sides.push_reserved(Sides {
-            before: before.len(),
-            after: after.len(),
-        });
+        self.sides.push_reserved(sides);
         Ok(())
     }
 
@@ -129,7 +143,7 @@ impl KeptLinks {
         ensures { (own : OwnLinks) × (self.old ≡ self.new ++ own ∷ []) }
     {
         if let Some(last) = self.sides.pop() {
-            let left = self.links.len() - last.before - last.after;
+            let left = self.links.len() - last.before as usize - last.after as usize;
             self.links.truncate(left);
         }
     }
@@ -149,8 +163,8 @@ fn ties_from(
     let mut ties = Vec::with_capacity(alloc, links.len())?;
     let mut rest = links;
     for k in 0..sides.len() {
-        let (before, others) = rest.split_at(sides[k].before);
-        let (after, others) = others.split_at(sides[k].after);
+        let (before, others) = rest.split_at(sides[k].before as usize);
+        let (after, others) = others.split_at(sides[k].after as usize);
         push_ties(&mut ties, log[k].event.id, before, after)?;
         rest = others;
     }

@@ -4,7 +4,8 @@ use Rattle.rv_hart.proofs.Common.{Some, None, nat_eq, ◌⊎◌, inl, inr, sym, 
 use Rattle.rv_hart.proofs.Common.{cases_order, cases_eq, or_right, get, length_push, get_or_append_left, get_or_at}
 use Rattle.rv_hart.proofs.Common.{Contains-push_cases, Contains-push, Contains-append_left, rules, common_steps}
 use Rattle.rv_hart.proofs.Common.{is_load, is_store, IsMemory, IsStore, Event, AreNumbered, IsOfWord, NamesOfWord}
-use Rattle.rv_hart.proofs.Common.{IsLastBelow, IsWordLink, IsHighestStore, link_at, AreWords, WordLink, Words}
+use Rattle.rv_hart.proofs.Common.{IsBeforeRun, IsLastBelow, IsWordLink, IsHighestStore, link_at, AreWords, WordLink}
+use Rattle.rv_hart.proofs.Common.{Words}
 
 -- an event of a numbered list has a number below the list's length
 pub numbered-below : (events : List Event) → AreNumbered events → (a : Event) → Contains events a →
@@ -51,6 +52,29 @@ module _ (events : List Event) (numbered : AreNumbered events) (word p : ℕ) (a
     | inr (inl low) ↦ inr (omega arith)
     | inr (inr high) ↦ absurd (last.none_later m c (store-of-word word m s w) high (numbered-below events numbered m c))
   ]
+
+  -- and so is a memory operation of it
+  memory-by-place : (m : Event) → Contains events m → IsOfWord word m → (a ≡ m) ⊎ (m.id.seq < a.id.seq)
+  memory-by-place m c w = elim (cases_order m.id.seq p) [
+    | inl same ↦ inl (numbered-same events numbered a m ca c (at ∙ sym same))
+    | inr (inl low) ↦ inr (omega arith)
+    | inr (inr high) ↦ absurd (last.none_later m c w high (numbered-below events numbered m c))
+  ]
+
+  -- from the next event, which returned what the last operation did, a walk goes on as from there
+  pub run-goes_on : (e : Event) → e.word ≡ word → e.id.seq ≡ length events → (IsStore a → ⊥) → a.read ≡ e.read →
+      (o : Option ℕ) → IsBeforeRun events a o → IsBeforeRun events e o
+  run-goes_on e of_word next plain same o before = record {
+    names = subst (λ (w : ℕ). NamesOfWord events w e.id.seq o) (last-word ∙ sym of_word)
+        (names-weaker events events a.word a.id.seq e.id.seq o (λ m c. c)
+        (let low = numbered-below events numbered a ca in omega arith) before.names);
+    run = λ m c w above low. elim (memory-by-place m c (w.0, w.1 ∙ of_word)) [
+      | inl is ↦ (λ s. plain (subst IsStore (sym is) s), sym (ap (λ (x : Event). x.read) is) ∙ same)
+      | inr under ↦ (
+          let before_it = before.run m c (w.0, w.1 ∙ of_word ∙ sym last-word) above under in
+          (before_it.0, before_it.1 ∙ same))
+    ];
+  }
 
   -- the last operation is no store
   pub highest-before : (o : Option ℕ) → (IsStore a → ⊥) → IsHighestStore events a.word a.id.seq o →

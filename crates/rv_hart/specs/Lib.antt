@@ -7,4 +7,5 @@ pub mod Kept
 pub mod RuleRows
 pub mod RuleLinks
 pub mod Linked
+pub mod Numbers
 pub mod Parts

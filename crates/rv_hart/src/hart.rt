@@ -20,8 +20,8 @@ use std::alloc::Global;
 ///
 /// Each call takes that log, of the events of all harts. Contracts see the fields, and
 /// [`IsHartOf`](specs/Kept.antt) says that they are those of the log's events. An event takes some
-/// 30 bytes, and 8 for each 64 events from the first that leads to it by rules to itself: at most
-/// n / 8 for event n.
+/// 30 bytes, and at most n / 8 for event n: 8 for each 64 events from the first operation on that
+/// does not lead to it by rules, without those before the first that does.
 #[derive(Drop)]
 pub struct HartOrder {
     /// The places of the hart's events in the log.

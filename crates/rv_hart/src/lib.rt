@@ -11,7 +11,7 @@
 //!   events, read from the log. [`next`]: the hart's next event, of which the rest is asked.
 //! - [`sets`]: rows of the events by what a rule asks of them (loads, acquires, what a fence
 //!   orders); they grow with the events. [`words`]: each word's operations, linked from the last
-//!   one back.
+//!   one back. [`kept_link`]: such a link in six bytes.
 //! - [`rules`]: the table of rules, each with the [`parts`] of the hart that it orders before the
 //!   next event. It gives the row of candidates, and the lowest rule of each that is left.
 //!   [`walks`]: rules 1 and 2, which walk back over a word's operations. [`links`]: the candidates
@@ -19,7 +19,8 @@
 //!   it. [`rows`]: small steps on rows.
 //! - `specs/`: a hart and what may follow (`Harts`), its links (`RuleLinks`), what rows mean
 //!   (`Rows`, `RuleRows`, `Linked`), the parts of the table (`Parts`), what the sets and the words
-//!   mean (`Sets`, `Words`), what is kept (`Kept`), and the places in the log (`Places`).
+//!   mean (`Sets`, `Words`), what is kept (`Kept`, `Numbers`), and the places in the log
+//!   (`Places`).
 //! - `proofs/OfHart`, `proofs/Reservations`: rules, pairs, stale pairs, faults and reservations are
 //!   the same among a hart's events as in the whole log.
 //!
@@ -31,6 +32,7 @@
 
 mod hart;
 mod kept;
+mod kept_link;
 mod linked;
 mod links;
 mod next;

@@ -29,7 +29,7 @@ impl Next<'_> {
             if met.is_store() {
                 return;
             }
-            let link = self.kept.words.links[number];
+            let link = self.kept.words.link_at(number);
             next = link.previous;
         }
     }
@@ -54,7 +54,7 @@ impl Next<'_> {
             if met.is_store() {
                 return;
             }
-            let link = self.kept.words.links[number as usize];
+            let link = self.kept.words.link_at(number as usize);
             next = link.before_run;
         }
     }
@@ -78,7 +78,7 @@ impl Next<'_> {
             if met.is_store() {
                 return;
             }
-            let behind = self.kept.words.links[number as usize];
+            let behind = self.kept.words.link_at(number as usize);
             next = behind.previous;
         }
     }

@@ -1,10 +1,12 @@
 //! The memory operations of each word of a hart, linked from the last one back.
 ghost use Rattle.std.specs.Prelude.{ℕ, ◌≡◌, ◌≢◌, ◌<◌, ◌++◌, ◌∷◌, [], List, length, OnOk, OnErr, IsSome, Some, nat_eq};
+ghost use Rattle.std.specs.Prelude.{slice_index_or};
 ghost use Rattle.std.specs.HashMap.{get};
 ghost use Rattle.rv_event.specs.Operations.{IsMemory};
 ghost use Rattle.rv_event.specs.declared.event.Event.{Event};
 ghost use Rattle.rv_hart.specs.Words.{AreNumbered, AreWords, IsWordLink, IsBeforeRun, IsHighestStore};
 
+use crate::kept_link::KeptLink;
 use crate::own_events::OwnEvents;
 use rv_event::{Event, NoMemory};
 use std::alloc::Global;
@@ -28,7 +30,7 @@ pub struct Words {
     pub lasts: HashMap<u32, u32>,
     /// A link for each event of the hart. Those of events that are no memory operations are never
     /// read.
-    pub links: Vec<WordLink>,
+    pub links: Vec<KeptLink>,
 }
 
 impl Words {
@@ -67,7 +69,7 @@ impl Words {
         ensures { IsHighestStore events.now word (length events.now) result }
     {
         let last = events.at(number as usize);
-        let before = self.links[number as usize].highest;
+        let before = self.link_at(number as usize).highest;
         if !last.is_store() {
             return before;
         }
@@ -82,6 +84,14 @@ impl Words {
         }
     }
 
+    /// The link of the event with this number.
+    pub fn link_at(&self, number: usize) -> WordLink
+        requires { number < length self.now.links.items }
+        ensures { result ≡ slice_index_or self.now.links.items number result }
+    {
+        self.links[number].link()
+    }
+
     /// Takes the hart's next event in.
     ///
     /// # Errors
@@ -94,7 +104,7 @@ impl Words {
         ensures unchanged { OnErr result (AreWords events.now self.new) }
     {
         self.links.reserve(1)?;
-        let link = self.link_of(events, event);
+        let link = KeptLink::of(self.link_of(events, event))?;
         if event.is_memory() {
             self.lasts.insert(event.word, event.id.seq)?;
         }
@@ -140,7 +150,7 @@ impl Words {
         if last.is_store() || last.read != event.read {
             return Some(number);
         }
-        self.links[number as usize].before_run
+        self.link_at(number as usize).before_run
     }
 
     /// Takes the last event off. `events` are those that are left. It takes no memory.
@@ -155,7 +165,7 @@ impl Words {
             return;
         };
         if event.is_memory() {
-            self.step_back(event.word, link.previous);
+            self.step_back(event.word, link.link().previous);
         }
     }
 

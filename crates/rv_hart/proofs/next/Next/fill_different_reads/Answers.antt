@@ -48,14 +48,14 @@ met-preserved c =
     let memory = c.requires.asked.memory in
     let plain : IsStore c.at-met.result.now → ⊥ =
     λ s. false≢true (sym c.if-is_store.false ∙ c.is_store.ensures.1 s) in
-    let link : IsWordLink (hart_at c.args.self.now).events c.at-met.result.now c.index-link.result.now =
+    let link : IsWordLink (hart_at c.args.self.now).events c.at-met.result.now c.link_at-link.result =
     reads-link f memory c.met.next c.in-Some.number c.at-met.result.now c.met.invariant.walk c.in-Some.is
-    c.at-met.ensures c.args.self.now.kept.now.words c.requires.asked.next.kept.words c.index-link.result.now
-    c.index-link.ensures in
+    c.at-met.ensures c.args.self.now.kept.now.words c.requires.asked.next.kept.words c.link_at-link.result
+    c.link_at-link.ensures in
     record {
       empty = c.met.invariant.empty;
       walk = reads-run f memory c.met.next c.in-Some.number c.at-met.result.now c.met.invariant.walk c.in-Some.is
-          c.at-met.ensures c.index-link.result.now.before_run plain
+          c.at-met.ensures c.link_at-link.result.before_run plain
           (reads-same f memory c.met.next c.in-Some.number c.at-met.result.now c.met.invariant.walk c.in-Some.is
           c.at-met.ensures plain
           (λ l other. false≢true (sym c.if-is_other_read.false ∙ c.is_other_read.ensures.1 (l, other))))

@@ -56,11 +56,11 @@ met-preserved c =
     subst (λ (o : Option ℕ). IsOverlapWalk h e o c.met.row) c.in-Some.is c.met.invariant in
     let a : Event = walk.names.1.a in
     let ca = walk.names.1.of_list in
-    let link : IsWordLink h.events a c.index-link.result.now =
-    read_link h.events c.args.self.now.kept.now.words c.requires.asked.next.kept.words a c.index-link.result.now
-    c.in-Some.number ca walk.names.1.holds.0 (f.known.below a ca) walk.names.1.at c.index-link.ensures in
+    let link : IsWordLink h.events a c.link_at-link.result =
+    read_link h.events c.args.self.now.kept.now.words c.requires.asked.next.kept.words a c.link_at-link.result
+    c.in-Some.number ca walk.names.1.holds.0 (f.known.below a ca) walk.names.1.at c.link_at-link.ensures in
     overlap-step f c.requires.asked.memory (c.is_store.ensures.0 c.if-not-is_store.false) c.in-Some.number c.met.row
-    c.insert.new.self a c.index-link.result.now.previous walk ca walk.names.1.at c.insert.ensures link.previous
+    c.insert.new.self a c.link_at-link.result.previous walk ca walk.names.1.at c.insert.ensures link.previous
 
 pub returns : goal.returns
 returns c =

@@ -65,16 +65,16 @@ run-preserved c =
     let f = fits c.requires.asked in
     let memory = c.requires.asked.memory in
     let last = c.run.invariant.0 in
-    let link : IsWordLink (hart_at c.args.self.now).events c.at-met.result.now c.index-behind.result.now =
+    let link : IsWordLink (hart_at c.args.self.now).events c.at-met.result.now c.link_at-behind.result =
     run-link f memory last c.run.next c.in-Some.number c.run.row c.at-met.result.now c.run.invariant.2 c.in-Some.is
-    c.at-met.ensures c.args.self.now.kept.now.words c.requires.asked.next.kept.words c.index-behind.result.now
-    c.index-behind.ensures in (
+    c.at-met.ensures c.args.self.now.kept.now.words c.requires.asked.next.kept.words c.link_at-behind.result
+    c.link_at-behind.ensures in (
       last,
       c.run.invariant.1,
       run-step f memory last c.run.next c.in-Some.number c.run.row c.at-met.result.now c.run.invariant.2
           c.in-Some.is c.at-met.ensures c.insert.new.self c.insert.ensures
           (c.is_load.ensures.0 c.if-not-is_load.false) (c.if-met-version.false ∙ sym c.run.invariant.1)
-          c.index-behind.result.now.previous
+          c.link_at-behind.result.previous
           (λ s. false≢true (sym c.if-is_store.false ∙ c.is_store.ensures.1 s)) link.previous,
     )
 

@@ -28,11 +28,11 @@ lasts c =
     ]
 
 links : (c : goal.After-push_reserved) → c.push_reserved.new.self.items ≡ c.args.self.now.links.items ++
-    c.link_of-link.result ∷ []
+    c.link_of.result ∷ []
 links c = grind (arith, common_steps)
 
 pub returns-clause-pushed : goal.returns-clause-pushed
 returns-clause-pushed c =
     words-push c.args.events.now c.args.event.now c.requires.numbered c.requires.next c.args.self.now
-    (record { lasts = c.if-is_memory.self.lasts; links = c.push_reserved.new.self }) c.link_of-link.result
-    c.requires.words (links c) c.link_of-link.ensures (lasts c)
+    (record { lasts = c.if-is_memory.self.lasts; links = c.push_reserved.new.self }) c.link_of.result
+    c.requires.words (links c) c.link_of.ensures (lasts c)

@@ -1,6 +1,7 @@
-use Rattle.rv_hart.proofs.Common.{◌≡◌, ◌++◌, ◌∷◌, [], List, ℕ, length, nat_eq, Option, refl, get, arith}
+use Rattle.rv_hart.proofs.Common.{◌≡◌, ◌++◌, ◌∷◌, [], List, ℕ, length, nat_eq, Option, refl, ap, ◌∙◌, get, arith}
 use Rattle.rv_hart.proofs.Common.{common_steps, IsMemory, Event, AreNumbered, IsLastBelow, Words}
 use Rattle.rv_hart.proofs.WordLinks.{words-pop, pop-here, lasts-back, lasts-kept, numbered-front, numbered-last}
+use Rattle.rv_hart.specs.declared.words.WordLink.{WordLink}
 use Rattle.rv_hart.proofs.words.Words.drop_last.Goals as goal
 
 pub returns-then-is_memory : goal.returns-then-is_memory
@@ -18,7 +19,7 @@ returns-then-is_memory c =
     pop-here front e before next c.args.self.now c.step_back.new.self c.in-Some.link c.requires.words popped memory in
     words-pop front e before next c.args.self.now c.step_back.new.self c.in-Some.link c.requires.words popped
     (lasts-back front e before next old new c.in-Some.link.previous c.requires.words.lasts back
-    c.step_back.ensures.here c.step_back.ensures.others)
+    (c.step_back.ensures.here ∙ ap (λ (l : WordLink). l.previous) c.link.ensures) c.step_back.ensures.others)
 
 pub returns-else-is_memory : goal.returns-else-is_memory
 returns-else-is_memory c =

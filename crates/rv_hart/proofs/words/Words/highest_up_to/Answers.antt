@@ -15,10 +15,10 @@ returns-then-not-is_store c =
     let at = last.names.1.at in
     let same : c.at-last.result.now ≡ a =
     numbered-read es c.requires.numbered a c.at-last.result.now number ca at c.at-last.ensures in
-    let link : IsWordLink es a c.index.result.now =
-    read_link es c.args.self.now c.requires.words a c.index.result.now number ca last.names.1.holds.0
-    (numbered-below es c.requires.numbered a ca) at c.index.ensures in
-    highest-before es c.requires.numbered c.args.word number a ca at last c.index.result.now.highest
+    let link : IsWordLink es a c.link_at-before.result =
+    read_link es c.args.self.now c.requires.words a c.link_at-before.result number ca last.names.1.holds.0
+    (numbered-below es c.requires.numbered a ca) at c.link_at-before.ensures in
+    highest-before es c.requires.numbered c.args.word number a ca at last c.link_at-before.result.highest
     (λ s. false≢true (sym c.if-not-is_store.true ∙ c.is_store.ensures.1 (subst IsStore (sym same) s))) link.highest
 
 pub returns-in_default : goal.returns-in_default
@@ -31,9 +31,9 @@ returns-in_default c =
     let at = last.names.1.at in
     let same : c.at-last.result.now ≡ a =
     numbered-read es c.requires.numbered a c.at-last.result.now number ca at c.at-last.ensures in
-    let link : IsWordLink es a c.index.result.now =
-    read_link es c.args.self.now c.requires.words a c.index.result.now number ca last.names.1.holds.0
-    (numbered-below es c.requires.numbered a ca) at c.index.ensures in
+    let link : IsWordLink es a c.link_at-before.result =
+    read_link es c.args.self.now c.requires.words a c.link_at-before.result number ca last.names.1.holds.0
+    (numbered-below es c.requires.numbered a ca) at c.link_at-before.ensures in
     let store : IsStore a = subst IsStore same (c.is_store.ensures.0 c.if-not-is_store.false) in
     highest-first es c.requires.numbered c.args.word number a ca at last store
     (subst (IsHighestStore es a.word a.id.seq) c.in_default.is link.highest)
@@ -48,9 +48,9 @@ returns-then-highest-last c =
     let at = last.names.1.at in
     let same : c.at-last.result.now ≡ a =
     numbered-read es c.requires.numbered a c.at-last.result.now number ca at c.at-last.ensures in
-    let link : IsWordLink es a c.index.result.now =
-    read_link es c.args.self.now c.requires.words a c.index.result.now number ca last.names.1.holds.0
-    (numbered-below es c.requires.numbered a ca) at c.index.ensures in
+    let link : IsWordLink es a c.link_at-before.result =
+    read_link es c.args.self.now c.requires.words a c.link_at-before.result number ca last.names.1.holds.0
+    (numbered-below es c.requires.numbered a ca) at c.link_at-before.ensures in
     let store : IsStore a = subst IsStore same (c.is_store.ensures.0 c.if-not-is_store.false) in
     let high : IsHighestStore es a.word a.id.seq (Some c.in-Some.store) =
     subst (IsHighestStore es a.word a.id.seq) c.in-Some.is link.highest in
@@ -73,9 +73,9 @@ returns-else-highest-last c =
     let at = last.names.1.at in
     let same : c.at-last.result.now ≡ a =
     numbered-read es c.requires.numbered a c.at-last.result.now number ca at c.at-last.ensures in
-    let link : IsWordLink es a c.index.result.now =
-    read_link es c.args.self.now c.requires.words a c.index.result.now number ca last.names.1.holds.0
-    (numbered-below es c.requires.numbered a ca) at c.index.ensures in
+    let link : IsWordLink es a c.link_at-before.result =
+    read_link es c.args.self.now c.requires.words a c.link_at-before.result number ca last.names.1.holds.0
+    (numbered-below es c.requires.numbered a ca) at c.link_at-before.ensures in
     let store : IsStore a = subst IsStore same (c.is_store.ensures.0 c.if-not-is_store.false) in
     let high : IsHighestStore es a.word a.id.seq (Some c.in-Some.store) =
     subst (IsHighestStore es a.word a.id.seq) c.in-Some.is link.highest in
