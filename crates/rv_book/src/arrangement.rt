@@ -8,6 +8,7 @@ ghost use Rattle.rv_event.specs.Log.{writer};
 ghost use Rattle.std.specs.Option.{option_map};
 ghost use Rattle.rv_edges.specs.Kept.{happened, grown, links_of};
 ghost use Rattle.rv_edges.specs.Histories.{IsCarried, kept_of};
+ghost use Rattle.rv_edges.specs.KnownEvents.{IsKnown};
 ghost use Rattle.rv_edges.specs.Ties.{AreTiesOf};
 ghost use Rattle.rv_book.specs.Adding.{IsRefused};
 ghost use Rattle.rv_book.specs.Arranged.{at, EachLeads, order_of};
@@ -19,11 +20,12 @@ use crate::evidence::evidence_of;
 use crate::hints::Hints;
 use crate::nodes::{find_nodes, ids_at, ids_of};
 use rv_cert::{Certificate, Circle, Evidence};
-use rv_edges::{Around, History, Tie};
+use rv_edges::{Around, History, Known, Room, Tie};
 use rv_event::{Entry, Event, Fault, Id, Link, MemoryModel, NoMemory};
 use rv_rank::{Ranks, Refused};
 use std::alloc::Global;
 use std::marker::Model;
+use std::mem;
 
 /// Whether an event was taken.
 #[derive(Drop, Debug)]
@@ -47,6 +49,8 @@ pub struct Arrangement {
     preds: Vec<u32>,
     /// Those after it, alike.
     succs: Vec<u32>,
+    /// Room for the links of the event that is looked at.
+    room: Room,
 }
 
 impl Model for Arrangement {
@@ -90,6 +94,7 @@ impl Arrangement {
             hints: Hints::new(alloc),
             preds: Vec::new(alloc),
             succs: Vec::new(alloc),
+            room: Room::new(alloc),
         }
     }
 
@@ -168,7 +173,9 @@ impl Arrangement {
         ensures added { IfOk result (IsAdded self.old self.new entry) }
         ensures unchanged { OnErr result (self.new ≡ self.old) }
     {
-        let around = self.history.around(&entry.event)?;
+        let known = self.history.known(&entry.event);
+        let room = mem::replace(&mut self.room, Room::new(self.alloc));
+        let around = self.history.around_in(&entry.event, known, room)?;
         if around.itself {
             return refuse(self.alloc, &self.history, self.ids.as_slice(), &entry, &[]);
         }
@@ -177,16 +184,30 @@ impl Arrangement {
             let load = entry.event.id;
             return Ok(Added::Refused(evidence, Certificate::Stale { load, store }));
         }
+        let added = self.add_known(entry, &around, known)?;
+        self.room = around.into_room();
+        Ok(added)
+    }
+
+    /// Adds the entry where its edges close no circle.
+    fn add_known(&mut self, entry: Entry, around: &Around, known: Known) -> Result<Added, NoMemory>
+        requires fit { IsFit self.old (kept_of entry.event around.now) }
+        requires known { IsKnown self.old.model (happened self.old.history) entry.event known }
+        requires room { length self.old.history < 65536 }
+        ensures added { IfOk result (IsAdded self.old self.new entry) }
+        ensures unchanged { OnErr result (self.new ≡ self.old) }
+    {
         if entry.event.is_memory() {
-            return self.place(entry, &around);
+            return self.place(entry, around, known);
         }
-        self.history.push_entry(entry, &around)?;
+        self.history.push_known(entry, around, known)?;
         Ok(Added::Taken)
     }
 
     /// Adds the entry of a memory operation where its edges close no circle.
-    fn place(&mut self, entry: Entry, around: &Around) -> Result<Added, NoMemory>
+    fn place(&mut self, entry: Entry, around: &Around, known: Known) -> Result<Added, NoMemory>
         requires fit { IsFit self.old (kept_of entry.event around.now) }
+        requires known { IsKnown self.old.model (happened self.old.history) entry.event known }
         requires room { length self.old.history < 65536 }
         requires memory { IsMemory entry.event }
         ensures added { IfOk result (IsAdded self.old self.new entry) }
@@ -197,7 +218,7 @@ impl Arrangement {
         self.hints.note(id, self.ids.len() as u32)?;
         let ids = self.ids.as_slice();
         find_ends(ids, &self.hints, around, &mut self.preds, &mut self.succs)?;
-        self.history.push_entry(entry, around)?;
+        self.history.push_known(entry, around, known)?;
         let preds = self.preds.as_slice();
         let succs = self.succs.as_slice();
         match self.ranks.place(preds, succs) {

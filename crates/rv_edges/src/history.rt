@@ -16,6 +16,7 @@ ghost use Rattle.rv_versions.specs.Reserved.{IsReserved};
 ghost use Rattle.rv_edges.specs.Kept.{Kept, happened, grown, links_of, IsTied};
 ghost use Rattle.rv_edges.specs.Histories.{IsLinked, IsCarried, kept_of, with_entry, HasOwnEdge, IsStaleOf};
 ghost use Rattle.rv_edges.specs.Indexes.{AreHarts, IsHartIn, hart_in};
+ghost use Rattle.rv_edges.specs.KnownEvents.{IsKnown};
 ghost use Rattle.rv_edges.specs.Ties.{ties_of};
 ghost use Rattle.std.specs.Option.{option_copied, option_map};
 
@@ -43,6 +44,50 @@ pub struct Around {
     /// An earlier store of its hart and word with a higher version than it returned, where there is
     /// one.
     pub stale: Option<Id>,
+}
+
+impl Around {
+    /// Its lists, whose room is used again. It takes no memory.
+    pub fn into_room(self) -> Room
+        ensures before { result.before.items ≡ self.before }
+        ensures after { result.after.items ≡ self.after }
+    {
+        Room {
+            before: self.before.into_vec(),
+            after: self.after.into_vec(),
+        }
+    }
+}
+
+/// Lists whose room is used again; what they have is lost then.
+#[derive(Drop, Debug)]
+pub struct Room {
+    /// For links from other events.
+    pub before: Vec<Link>,
+    /// For links to other events.
+    pub after: Vec<Link>,
+}
+
+impl Room {
+    /// No room yet. It takes no memory; the allocator serves the calls to come.
+    pub fn new(alloc: Global) -> Self
+        ensures before { result.before.items ≡ [] }
+        ensures after { result.after.items ≡ [] }
+    {
+        Room {
+            before: Vec::new(alloc),
+            after: Vec::new(alloc),
+        }
+    }
+}
+
+/// What a history has of a new event in its look-ups.
+#[derive(Clone, Copy, Debug)]
+pub struct Known {
+    /// The number of the store of the event's own hart that the event, a load, returns.
+    pub returned: Option<u32>,
+    /// What the LR returned with which the event, an SC, is paired.
+    pub reserved: Option<Reservation>,
 }
 
 /// Events, each kept with links to the events before it.
@@ -161,9 +206,42 @@ impl History {
         ensures unsplit { IfOk result (λ a. IsUnsplit self.now.model (happened self.now.kept) event.now a.before) }
         ensures nearest { IfOk result (λ a. IsNearest (happened self.now.kept) event.now a.before a.after) }
     {
-        let reserved = self.reserved(event);
-        let rules = self.rule_links(event)?;
-        let links = self.versions.around(event, reserved, rules)?;
+        self.around_in(event, self.known(event), Room::new(self.alloc))
+    }
+
+    /// What [`History::around_in`] and [`History::push_known`] have to know of the event.
+    ///
+    /// It costs a look-up of its word, where it is a load.
+    pub fn known(&self, event: &Event) -> Known
+        requires { event_fault (happened self.now.kept) event.now ≡ None }
+        ensures { IsKnown self.now.model (happened self.now.kept) event.now result }
+    {
+        Known {
+            returned: self.returned(event),
+            reserved: self.reserved(event),
+        }
+    }
+
+    /// The same as [`History::around`], of an event that is known, in lists that may have room.
+    ///
+    /// # Errors
+    /// `NoMemory` where a list could not grow; nothing changes, but the room is gone.
+    pub fn around_in(&self, event: &Event, known: Known, room: Room) -> Result<Around, NoMemory>
+        requires sound { event_fault (happened self.now.kept) event.now ≡ None }
+        requires known { IsKnown self.now.model (happened self.now.kept) event.now known }
+        ensures linked { IfOk result (λ a. IsLinked self.now.model self.now.kept (kept_of event.now a)) }
+        ensures covered { IfOk result (λ a.
+            Covers self.now.model (grown self.now.kept event.now)
+            (IsTied (self.now.kept ++ kept_of event.now a ∷ []))) }
+        ensures itself { IfOk result (λ a. IsTrue a.itself ↔ HasOwnEdge self.now.model self.now.kept event.now) }
+        ensures stale { IfOk result (λ a. IsStaleOf self.now.kept event.now a.stale) }
+        ensures unsplit { IfOk result (λ a. IsUnsplit self.now.model (happened self.now.kept) event.now a.before) }
+        ensures nearest { IfOk result (λ a. IsNearest (happened self.now.kept) event.now a.before a.after) }
+    {
+        let Room { before, after } = room;
+        let Known { returned, reserved } = known;
+        let rules = self.rule_links(event, returned, before)?;
+        let links = self.versions.around(event, reserved, rules, after)?;
         let before = Links::from_vec(links.before);
         let after = Links::from_vec(links.after);
         Ok(Around {
@@ -232,8 +310,28 @@ impl History {
         ensures pushed { OnOk result (self.new ≡ with_entry self.old entry around.now) }
         ensures unchanged { OnErr result (self.new ≡ self.old) }
     {
-        let returned = self.returned(&entry.event);
-        let reserved = self.reserved(&entry.event);
+        let known = self.known(&entry.event);
+        self.push_known(entry, around, known)
+    }
+
+    /// The same as [`History::push_entry`], of an event that is known.
+    ///
+    /// # Errors
+    /// `NoMemory` where the entry and its links could not be kept; the history stays as it is, and
+    /// the entry is gone.
+    pub fn push_known(
+        &mut self,
+        entry: Entry,
+        around: &Around,
+        known: Known,
+    ) -> Result<(), NoMemory>
+        requires sound { event_fault (happened self.old.kept) entry.event ≡ None }
+        requires known { IsKnown self.old.model (happened self.old.kept) entry.event known }
+        requires linked { IsLinked self.old.model self.old.kept (kept_of entry.event around.now) }
+        ensures pushed { OnOk result (self.new ≡ with_entry self.old entry around.now) }
+        ensures unchanged { OnErr result (self.new ≡ self.old) }
+    {
+        let Known { returned, reserved } = known;
         let number = entry.event.id.hart;
         open_harts(self.alloc, self.model, &mut self.harts, number)?;
         let before = around.before.as_slice();
@@ -347,14 +445,24 @@ impl History {
         })
     }
 
-    /// The links by rules.
-    fn rule_links(&self, event: &Event) -> Result<Vec<Link>, NoMemory>
-        requires { event_fault (happened self.now.kept) event.now ≡ None }
+    /// The links by rules, in place of what the list had.
+    fn rule_links(
+        &self,
+        event: &Event,
+        returned: Option<u32>,
+        list: Vec<Link>,
+    ) -> Result<Vec<Link>, NoMemory>
+        requires sound { event_fault (happened self.now.kept) event.now ≡ None }
+        requires returned { IsReturned (hart_in self.now event.now.id.hart) event.now returned }
         ensures { IfOk result (λ links. AreRuleLinks (hart_in self.now event.now.id.hart) event.now links.items) }
     {
         match self.hart(event.id.hart) {
-            Some(hart) => hart.before(self.entries(), event, self.returned(event)),
-            None => Ok(Vec::new(self.alloc)),
+            Some(hart) => hart.before(self.entries(), event, returned, list),
+            None => {
+                let mut none = list;
+                none.clear();
+                Ok(none)
+            }
         }
     }
 
@@ -388,6 +496,26 @@ fn is_bad(own: &OwnEvents<'_>, event: &Event, dep: Dep) -> bool
 /// # Errors
 /// `NoMemory` where the list could not grow; no event comes or goes.
 fn open_harts(
+    alloc: Global,
+    model: MemoryModel,
+    harts: &mut Vec<HartOrder>,
+    number: u8,
+) -> Result<(), NoMemory>
+    ensures same { (log : List Event) → AreHarts model log harts.old.items → AreHarts model log harts.new.items }
+    ensures open { OnOk result (number < length harts.new.items) }
+{
+    if (number as usize) < harts.len() {
+        return Ok(());
+    }
+    add_harts(alloc, model, harts, number)
+}
+
+/// Makes these places. It is not inlined, as what it has on the stack would be cleared at each event.
+///
+/// # Errors
+/// `NoMemory` where the list could not grow; no event comes or goes.
+#[inline(never)]
+fn add_harts(
     alloc: Global,
     model: MemoryModel,
     harts: &mut Vec<HartOrder>,

@@ -26,6 +26,6 @@ mod history;
 mod links;
 mod ties;
 
-pub use history::{Around, History};
+pub use history::{Around, History, Known, Room};
 pub use links::Links;
 pub use ties::Tie;

@@ -34,6 +34,13 @@ impl Links {
         Links { items }
     }
 
+    /// The vector of them.
+    pub fn into_vec(self) -> Vec<Link>
+        ensures { result.items ≡ self }
+    {
+        self.items
+    }
+
     /// The links, in order.
     pub fn as_slice(&self) -> &[Link]
         ensures { result.now ≡ self.now }

@@ -56,7 +56,7 @@ impl HartOrder {
     /// has a link, or stands before another that has one.
     ///
     /// `returned` is the number of the hart's own store that the event, a load, returns, where
-    /// there is one.
+    /// there is one. The links stand in place of what `list` had.
     ///
     /// It costs a step for each 64 events from the first to the last of the candidates, and for
     /// each link. A store costs a step for each operation of its word back to the hart's last store
@@ -65,19 +65,20 @@ impl HartOrder {
     /// each.
     ///
     /// # Errors
-    /// `NoMemory` where the list could not be had.
+    /// `NoMemory` where the list could not grow; the hart stays as it is, and the list is gone.
     pub fn before(
         &self,
         log: &[Entry],
         event: &Event,
         returned: Option<u32>,
+        list: Vec<Link>,
     ) -> Result<Vec<Link>, NoMemory>
         requires of_log { IsHartOf (events log.now) self.now }
         requires follows { Follows (hart_of_log (events log.now) self.now) event.now }
         requires returned { IsReturned (hart_of_log (events log.now) self.now) event.now returned }
         ensures { IfOk result (λ links. AreRuleLinks (hart_of_log (events log.now) self.now) event.now links.items) }
     {
-        self.next(log, event, returned).before()
+        self.next(log, event, returned).before(list)
     }
 
     /// Adds the event, which comes next in the log. `links` are links into it, those of other harts

@@ -15,18 +15,21 @@ use rv_rows::{Row, take_highest};
 const USUAL_LINKS: usize = 8;
 
 impl Next<'_> {
-    /// The links of the hart's next event. What is no memory operation has none.
+    /// The links of the hart's next event, in place of what the list had. What is no memory
+    /// operation has none.
     ///
     /// # Errors
-    /// `NoMemory` where the list could not be had.
-    pub fn before(&self) -> Result<Vec<Link>, NoMemory>
+    /// `NoMemory` where the list could not grow; it is gone.
+    pub fn before(&self, list: Vec<Link>) -> Result<Vec<Link>, NoMemory>
         requires next { IsNext self.now }
         ensures { IfOk result (λ links. AreRuleLinks (hart_at self.now) self.now.event.now links.items) }
     {
+        let mut links = list;
+        links.clear();
         if !self.event.is_memory() {
-            return Ok(Vec::new(self.kept.alloc));
+            return Ok(links);
         }
-        let mut links = Vec::with_capacity(self.kept.alloc, USUAL_LINKS)?;
+        links.reserve(USUAL_LINKS)?;
         let mut reads = Row::new();
         self.fill_different_reads(&mut reads);
         let mut left = Row::new();

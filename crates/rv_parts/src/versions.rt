@@ -94,7 +94,7 @@ fn around(rt: &impl Abort, alloc: Global, versions: &Versions, event: &Event) ->
     assert_sound(rt, versions, event);
     let reserved = reservation(alloc, versions.entries(), event).expect(rt, "memory");
     versions
-        .around(event, reserved, Vec::new(alloc))
+        .around(event, reserved, Vec::new(alloc), Vec::new(alloc))
         .expect(rt, "memory")
 }
 

@@ -16,6 +16,7 @@ mod around;
 mod links;
 mod own;
 
+use self::links::is_unlinked;
 use self::own::returns_own;
 use crate::accesses::Accesses;
 use crate::indexes::Indexes;
@@ -81,7 +82,8 @@ impl Versions {
     }
 
     /// The links of the event, which has no fault over the log, with what its LR returned. Those
-    /// into it are added behind the given ones.
+    /// into it are added behind the given ones, and those out of it stand in place of what the other
+    /// list had.
     ///
     /// Each link is an edge between the event and another one, for one of the reasons that look at
     /// versions: coherence, reads-from, from-read, atomic-in and atomic-out (Unprivileged ISA,
@@ -91,16 +93,17 @@ impl Versions {
     /// It costs a look-up of its word, and two of its LR's where that is another one. Where the
     /// event comes in commit order, a few steps answer each question then; else it searches the
     /// accesses to the word, in logarithmic time. It takes a step more for each link, and for
-    /// atomic-out for each store that it passes on the way to another hart's.
+    /// atomic-out for each store that it passes on the way to another hart's. What is no memory
+    /// operation, and has no LR, costs the look-up alone.
     ///
     /// # Errors
-    /// `NoMemory` where a list could not be had or grow; nothing changes, but the given links are
-    /// gone.
+    /// `NoMemory` where a list could not grow; nothing changes, but the given lists are gone.
     pub fn around(
         &self,
         event: &Event,
         reserved: Option<Reservation>,
         before: Vec<Link>,
+        after: Vec<Link>,
     ) -> Result<VersionLinks, NoMemory>
         requires sound { event_fault (events self.now) event.now ≡ None }
         requires reserved { IsReserved (events self.now) event.now reserved }
@@ -108,8 +111,16 @@ impl Versions {
             × ((model : MemoryModel) → AreVersionLinks model (events self.now) event.now others w.after.items)) }
     {
         let accesses = self.of_word(event.word);
+        let mut none = after;
+        none.clear();
+        if is_unlinked(event, reserved) {
+            return Ok(VersionLinks {
+                before,
+                after: none,
+            });
+        }
         let links = self.links_before(accesses, event, reserved, before)?;
-        let after = self.links_after(accesses, event, reserved)?;
+        let after = self.links_after(accesses, event, reserved, none)?;
         Ok(VersionLinks {
             before: links,
             after,

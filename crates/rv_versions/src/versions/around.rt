@@ -1,5 +1,5 @@
 //! The links between a new event and others.
-ghost use Rattle.std.specs.Prelude.{◌≡◌, ◌++◌, List, IfOk};
+ghost use Rattle.std.specs.Prelude.{◌≡◌, ◌++◌, [], List, IfOk};
 ghost use Rattle.rv_event.specs.Log.{events};
 ghost use Rattle.rv_event.specs.declared.reason.Link.{Link};
 ghost use Rattle.rv_versions.specs.Indexes.{AreOfWord};
@@ -48,22 +48,23 @@ impl Versions {
         Ok(links)
     }
 
-    /// All links out of the event. The accesses to the event's word are given.
+    /// Adds all links out of the event to an empty list. The accesses to the event's word are given.
     ///
     /// Of the stores of higher versions those of the next one are linked.
     ///
     /// # Errors
-    /// `NoMemory` where the list could not be had.
+    /// `NoMemory` where the list could not grow.
     pub(crate) fn links_after(
         &self,
         own: &Accesses,
         event: &Event,
         reserved: Option<Reservation>,
+        none: Vec<Link>,
     ) -> Result<Vec<Link>, NoMemory>
-        requires { AreOfWord (events self.now) event.now.word own.now }
+        requires own { AreOfWord (events self.now) event.now.word own.now }
+        requires empty { none.items ≡ [] }
         ensures { IfOk result (λ links. AreAfter (events self.now) event.now reserved links.items) }
     {
-        let none = Vec::new(self.alloc);
         let hart = Some(event.id.hart);
         let lr = self.of_reserved(own, event, reserved);
         let wrote = stored(event);

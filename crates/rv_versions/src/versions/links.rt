@@ -1,5 +1,5 @@
 //! Lists of links that grow by those to a word's accesses in an interval of versions.
-ghost use Rattle.std.specs.Prelude.{ℕ, ◌≡◌, ◌≢◌, ◌↔◌, Contains, IfOk, Some};
+ghost use Rattle.std.specs.Prelude.{ℕ, ◌≡◌, ◌≢◌, ◌↔◌, Contains, IfOk, IsTrue, None, Some};
 ghost use Rattle.rv_versions.specs.Linked.{Covers, IsExtended, IsBelow, IsAbove, stored, returned, held};
 
 use crate::by_version::ByVersion;
@@ -92,6 +92,13 @@ pub(crate) fn held(reserved: Option<Reservation>) -> Option<u32>
         Some(reservation) => Some(reservation.version),
         None => None,
     }
+}
+
+/// Whether no access is linked with the event: it is no memory operation, and has no LR.
+pub(crate) fn is_unlinked(event: &Event, reserved: Option<Reservation>) -> bool
+    ensures { IsTrue result ↔ ((stored event.now ≡ None) × (returned event.now ≡ None) × (reserved ≡ None)) }
+{
+    !event.is_memory() && reserved.is_none()
 }
 
 /// Adds a link to the event of each access of these versions, for this reason. Those of one hart

@@ -59,7 +59,7 @@ invariant_of-self-in-Ok c =
       edges = c.place.new.self.edges;
       ranks = c.place.new.self.ranks;
       ids = c.push.new.self.items;
-    })) (sym c.in_ok-push_entry.ensures.pushed)
+    })) (sym c.in_ok-push_known.ensures.pushed)
     (subst (λ (x : List Id). IsArranged (record {
       model = c.self.inside.history.model;
       log = c.self.inside.history.log ++ c.args.entry ∷ [];
@@ -79,8 +79,8 @@ refuse-requires c =
     let preds = c.find_ends.new.preds.items in
     let succs = c.find_ends.new.succs.items in
     let path = c.in-Circle.path.items in
-    let was = back c.self.inside.history c.push_entry.new.self c.pop-removed.new.self c.args.entry
-    c.pop-removed.result c.args.around.now c.in_ok-push_entry.ensures.pushed c.pop-removed.ensures.model
+    let was = back c.self.inside.history c.push_known.new.self c.pop-removed.new.self c.args.entry
+    c.pop-removed.result c.args.around.now c.in_ok-push_known.ensures.pushed c.pop-removed.ensures.model
     c.pop-removed.ensures.log c.pop-removed.ensures.popped in
     let shown : ShowsCircle c.pop-removed.new.self.model c.pop-removed.new.self.kept c.as_slice-names.result.now
     c.as_slice-nodes.result.now c.pop-removed.result.event =
@@ -100,8 +100,8 @@ refuse-requires c =
 module _ (c : After-drop-removed-in-Err) where
   was : IsBack c.self.inside.history c.pop-removed.new.self c.args.entry c.pop-removed.result
   was =
-      back c.self.inside.history c.push_entry.new.self c.pop-removed.new.self c.args.entry c.pop-removed.result
-      c.args.around.now c.in_ok-push_entry.ensures.pushed c.pop-removed.ensures.model c.pop-removed.ensures.log
+      back c.self.inside.history c.push_known.new.self c.pop-removed.new.self c.args.entry c.pop-removed.result
+      c.args.around.now c.in_ok-push_known.ensures.pushed c.pop-removed.ensures.model c.pop-removed.ensures.log
       c.pop-removed.ensures.popped
 
   abbrev left : Arranged
@@ -116,8 +116,8 @@ invariant_of-self-in-Err c = subst IsArranged (sym (as_it_was c)) c.self.invaria
 
 pub returns-in-NoMemory-clause-unchanged : goal.returns-in-NoMemory-clause-unchanged
 returns-in-NoMemory-clause-unchanged c =
-    let was = back c.self.inside.history c.push_entry.new.self c.pop-removed.new.self c.args.entry
-    c.pop-removed.result c.args.around.now c.in_ok-push_entry.ensures.pushed c.pop-removed.ensures.model
+    let was = back c.self.inside.history c.push_known.new.self c.pop-removed.new.self c.args.entry
+    c.pop-removed.result c.args.around.now c.in_ok-push_known.ensures.pushed c.pop-removed.ensures.model
     c.pop-removed.ensures.log c.pop-removed.ensures.popped in
     arranged_same was.history c.in-Err.ensures.edges c.in-Err.ensures.ranks
     c.in_ok-reserve.ensures.items ∙ c.self.view_is

@@ -1,4 +1,4 @@
-use Rattle.rv_hart.proofs.Common.{◌≡◌, List, ℕ, Some, None, length, sym, subst, arith, common_steps, rules, Event}
+use Rattle.rv_hart.proofs.Common.{◌≡◌, List, ℕ, Some, None, length, sym, ◌∙◌, subst, arith, common_steps, rules, Event}
 use Rattle.rv_hart.proofs.Common.{IsTaken, Hart, hart_at}
 use Rattle.rv_hart.proofs.HartFacts.{fits_of}
 use Rattle.rv_hart.proofs.Listings.{Sweeping, IsListing, rows-few, listing-begun, listing-candidate, listing-more}
@@ -17,8 +17,8 @@ taken-init c =
     let g : Sweeping h e rows first =
     search (fits_of, c.is_memory.ensures.0 c.if-not-is_memory.false, rules) in
     let top : length rows ≡ c.len-top.result = sym c.len-top.ensures in
-    subst (λ (n : ℕ). IsListing h e rows first first n c.in_ok-links.links.items) top
-    (listing-begun g c.in_ok-links.links.items c.in_ok-links.ensures.items)
+    subst (λ (n : ℕ). IsListing h e rows first first n c.reserve.new.self.items) top
+    (listing-begun g c.reserve.new.self.items (c.in_ok-reserve.ensures.items ∙ c.clear.ensures.items))
 
 pub take_highest-requires-clause-few : goal.take_highest-requires-clause-few
 take_highest-requires-clause-few c =

@@ -12,4 +12,4 @@ returns c =
     c.above-next.ensures c.above-above.ensures c.of-own_version.ensures c.above-foreign.ensures
     c.higher_store-end_wrote.ensures c.higher_store-end_read.ensures c.higher_store-end_held.ensures
     c.in_ok-coherence.ensures c.in_ok-reads_from.ensures c.in_ok-from_read.ensures c.in_ok-atomic_in.ensures
-    c.in_ok-links.ensures c.new-none.ensures.items
+    c.in_ok-links.ensures c.requires.empty

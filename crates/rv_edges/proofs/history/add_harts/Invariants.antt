@@ -1,5 +1,5 @@
 use Rattle.rv_edges.proofs.Common.{◌≡◌, List, length, Event, AreHarts}
-use Rattle.rv_edges.proofs.history.open_harts.Given as goal
+use Rattle.rv_edges.proofs.history.add_harts.Given as goal
 
 abbrev pub invariant-loop-next : goal.invariant-loop-next
 invariant-loop-next l = (length l.harts.items ≡ l.next) ×

@@ -6,33 +6,33 @@ use Rattle.rv_edges.proofs.Common.{hart_in}
 use Rattle.rv_edges.proofs.CarriedEdges.{carried_from_IsHistory, covered_with}
 use Rattle.rv_edges.proofs.IndexFacts.{log-is, past-indexed}
 use Rattle.rv_edges.proofs.JoinedLinks.{linked_with, unsplit_is, nearest_is}
-use Rattle.rv_edges.proofs.history.History.around.Goals as goal
+use Rattle.rv_edges.proofs.history.History.around_in.Goals as goal
 
 pub around-requires-clause-sound : goal.around-requires-clause-sound
 around-requires-clause-sound c =
     let log = log-is c.self.inside.model c.self.inside.versions c.self.inside.harts.items c.self.inside.links
     c.self.invariant c.args.self.now c.self.view_is in
-    subst (λ (l : List Event). event_fault l c.args.event.now ≡ None) (sym log) c.requires
+    subst (λ (l : List Event). event_fault l c.args.event.now ≡ None) (sym log) c.requires.sound
 
 pub around-requires-clause-reserved : goal.around-requires-clause-reserved
 around-requires-clause-reserved c =
     let log = log-is c.self.inside.model c.self.inside.versions c.self.inside.harts.items c.self.inside.links
     c.self.invariant c.args.self.now c.self.view_is in
-    subst (λ (l : List Event). IsReserved l c.args.event.now c.reserved-reserved.result)
-    (sym log) c.reserved-reserved.ensures
+    subst (λ (l : List Event). IsReserved l c.args.event.now c.args.known.reserved)
+    (sym log) c.requires.known.1
 
 pub has_own_edge-requires-clause-sound : goal.has_own_edge-requires-clause-sound
 has_own_edge-requires-clause-sound c =
     let log = log-is c.self.inside.model c.self.inside.versions c.self.inside.harts.items c.self.inside.links
     c.self.invariant c.args.self.now c.self.view_is in
-    subst (λ (l : List Event). event_fault l c.args.event.now ≡ None) (sym log) c.requires
+    subst (λ (l : List Event). event_fault l c.args.event.now ≡ None) (sym log) c.requires.sound
 
 pub has_own_edge-requires-clause-reserved : goal.has_own_edge-requires-clause-reserved
 has_own_edge-requires-clause-reserved c =
     let log = log-is c.self.inside.model c.self.inside.versions c.self.inside.harts.items c.self.inside.links
     c.self.invariant c.args.self.now c.self.view_is in
-    subst (λ (l : List Event). IsReserved l c.args.event.now c.reserved-reserved.result)
-    (sym log) c.reserved-reserved.ensures
+    subst (λ (l : List Event). IsReserved l c.args.event.now c.args.known.reserved)
+    (sym log) c.requires.known.1
 
 module _ (c : goal.After-stale) where
   log : (events c.self.inside.versions) ≡ happened c.args.self.now.kept
@@ -72,7 +72,7 @@ module _ (c : goal.After-stale) where
   found = record { event = c.args.event.now; before = before; after = after }
 
   linked : IsLinked c.args.self.now.model c.args.self.now.kept found
-  linked = linked_with c.args.self.now.model c.args.self.now.kept found rules others known c.requires joined
+  linked = linked_with c.args.self.now.model c.args.self.now.kept found rules others known c.requires.sound joined
       by_rules by_versions
 
 pub returns-clause-linked : goal.returns-clause-linked
@@ -85,7 +85,7 @@ returns-clause-covered c =
     (carried_from_IsHistory c.self.inside.model (kept_from (events c.self.inside.versions) c.self.inside.links)
     c.self.invariant.history) in
     covered_with c.args.self.now.model c.args.self.now.kept (found c) (known c)
-    (record { sound = c.requires; linked = linked c }) carried.covered
+    (record { sound = c.requires.sound; linked = linked c }) carried.covered
 
 pub returns-clause-itself : goal.returns-clause-itself
 returns-clause-itself c =
@@ -98,10 +98,10 @@ returns-clause-itself c =
 
 pub returns-clause-unsplit : goal.returns-clause-unsplit
 returns-clause-unsplit c =
-    unsplit_is c.args.self.now.model (happened c.args.self.now.kept) c.args.event.now (known c) c.requires (rules c)
+    unsplit_is c.args.self.now.model (happened c.args.self.now.kept) c.args.event.now (known c) c.requires.sound (rules c)
     (others c) (before c) (after c) (joined c) (by_rules c) (by_versions c)
 
 pub returns-clause-nearest : goal.returns-clause-nearest
 returns-clause-nearest c =
-    nearest_is c.args.self.now.model (happened c.args.self.now.kept) c.args.event.now (known c) c.requires (rules c)
+    nearest_is c.args.self.now.model (happened c.args.self.now.kept) c.args.event.now (known c) c.requires.sound (rules c)
     (others c) (before c) (after c) (joined c) (by_rules c) (by_versions c)

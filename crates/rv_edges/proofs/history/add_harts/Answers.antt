@@ -1,7 +1,7 @@
 -- A hart that is opened has no events, as it had before.
 use Rattle.rv_edges.proofs.Common.{sym, ◌∙◌, subst, arith, common_steps, AreHarts}
 use Rattle.rv_edges.proofs.GrownHarts.{harts-opened}
-use Rattle.rv_edges.proofs.history.open_harts.Goals as goal
+use Rattle.rv_edges.proofs.history.add_harts.Goals as goal
 
 pub loop-next-preserved : goal.loop-next-preserved
 loop-next-preserved c = (

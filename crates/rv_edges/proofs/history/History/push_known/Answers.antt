@@ -9,21 +9,17 @@ use Rattle.rv_edges.proofs.Enough.{enough_is}
 use Rattle.rv_edges.proofs.IndexFacts.{log-is, follows, past-indexed}
 use Rattle.rv_edges.proofs.GrownHarts.{events-pop, event-is, found-is, found-of_log, harts-grow, harts-stay}
 use Rattle.rv_edges.proofs.Sides.{kept_one, same_front}
-use Rattle.rv_edges.proofs.history.History.push_entry.Goals.{After-push-arg-1}
-use Rattle.rv_edges.proofs.history.History.push_entry.Goals as goal
-
-module _ (c : After-push-arg-1) where
-  log : events c.self.inside.versions ≡ happened c.args.self.now.kept
-  log = search (log-is, rules)
+use Rattle.rv_edges.proofs.history.History.push_known.Goals as goal
 
 pub push-kept-requires-clause-sound : goal.push-kept-requires-clause-sound
 push-kept-requires-clause-sound c =
-    subst (λ (l : List Event). event_fault l c.args.entry.event ≡ None) (sym (log c)) c.requires.sound
+    let log : events c.self.inside.versions ≡ happened c.args.self.now.kept = search (log-is, rules) in
+    subst (λ (l : List Event). event_fault l c.args.entry.event ≡ None) (sym log) c.requires.sound
 
 pub push-kept-requires-clause-reserved : goal.push-kept-requires-clause-reserved
 push-kept-requires-clause-reserved c =
-    subst (λ (l : List Event). IsReserved l c.args.entry.event c.reserved-reserved.result)
-    (sym (log c)) c.reserved-reserved.ensures
+    let log : events c.self.inside.versions ≡ happened c.args.self.now.kept = search (log-is, rules) in
+    subst (λ (l : List Event). IsReserved l c.args.entry.event c.args.known.reserved) (sym log) c.requires.known.1
 
 module _ (c : goal.In-Some-get_mut) where
   abbrev e : Event
@@ -66,8 +62,8 @@ push-joined-requires-clause-follows c = subst (Follows (before_it c)) (sym (same
 
 pub push-joined-requires-clause-returned : goal.push-joined-requires-clause-returned
 push-joined-requires-clause-returned c =
-    subst (λ (a : Event). IsReturned (before_it c) a c.returned-returned.result) (sym (same-event c))
-    (subst (λ (x : Hart). IsReturned x (e c) c.returned-returned.result) (sym (here c)) c.returned-returned.ensures)
+    subst (λ (a : Event). IsReturned (before_it c) a c.args.known.returned) (sym (same-event c))
+    (subst (λ (x : Hart). IsReturned x (e c) c.args.known.returned) (sym (here c)) c.requires.known.0)
 
 pub push-joined-requires-clause-linked : goal.push-joined-requires-clause-linked
 push-joined-requires-clause-linked c =
