@@ -169,7 +169,10 @@ fn follow(rt: &impl Abort, alloc: Global, lone: &mut Lone, event: &Event) -> Vec
     let returned = returned_by(rt, alloc, lone, event);
     let log = lone.log.as_slice();
     let list = Vec::new(alloc);
-    let links = lone.hart.before(log, event, returned, list).expect(rt, "memory");
+    let links = lone
+        .hart
+        .before(log, event, returned, list)
+        .expect(rt, "memory");
     join(rt, alloc, lone, event, returned, links.as_slice());
     links
 }
@@ -200,7 +203,10 @@ fn follow_without_rules(rt: &impl Abort, alloc: Global, lone: &mut Lone, event: 
     let returned = returned_by(rt, alloc, lone, event);
     let log = lone.log.as_slice();
     let list = Vec::new(alloc);
-    let by_rules = lone.hart.before(log, event, returned, list).expect(rt, "memory");
+    let by_rules = lone
+        .hart
+        .before(log, event, returned, list)
+        .expect(rt, "memory");
     let named = by_rules.as_slice();
     let links = without_rules(rt, alloc, named);
     join(rt, alloc, lone, event, returned, links.as_slice());

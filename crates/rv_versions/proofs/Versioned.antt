@@ -136,6 +136,13 @@ module _ (xs : List Access) (ordered : AreByVersion xs) where
       let same : (get_or xs p d).version ≡ b.version = grind (arith, common_steps) in
       omega arith
 
+  -- the order stays behind a place
+  pub ordered_behind : (n : ℕ) → AreByVersion (drop n xs)
+  ordered_behind n i j d lt l =
+      let size = length-drop n xs in
+      moved StandsBefore _ _ _ _ (get_or-drop n xs i d) (get_or-drop n xs j d)
+      (ordered (n + i) (n + j) d (omega arith) (omega arith))
+
   -- what is not from a place on, and of a higher version than what is before it
   pub absent_of :
       (a : Access) (p end : ℕ) (b : Access) → p < end → end ≤ length xs → IsStart xs (a.version + 1) end →
@@ -158,6 +165,27 @@ module _ (xs : List Access) (ordered : AreByVersion xs) where
 pub start_found : (ys xs : List Access) (v n : ℕ) → ys ≡ xs →
     IsPartitionPoint (λ x. ltb x.version v ≡ true) (λ x. ltb x.version v ≡ false) ys n → IsStart xs v n
 start_found ys xs v n same part = grind (arith, common_steps)
+
+-- behind a place before which all are of a lower version
+pub start_behind : (xs : List Access) (v low n : ℕ) → low ≤ length xs → AllWithin (λ x. x.version < v) xs 0 low →
+    IsStart (drop low xs) v n → IsStart xs v (low + n)
+start_behind xs v low n within below part = (before, behind)
+  where
+    here : (k : ℕ) (d : Access) → low ≤ k → get_or (drop low xs) (k - low) d ≡ get_or xs k d
+    here k d high = get_or-drop low xs (k - low) d ∙ ap (λ (i : ℕ). get_or xs i d) (omega arith)
+
+    before : AllWithin (λ x. x.version < v) xs 0 (low + n)
+    before k d from upto = elim (cases_lt k low) [
+      | inl less ↦ below k d from less
+      | inr high ↦ subst (λ (x : Access). x.version < v) (here k d high)
+          (part.0 (k - low) d (omega arith) (omega arith))
+    ]
+
+    behind : AllWithin (λ x. v ≤ x.version) xs (low + n) (length xs)
+    behind k d from upto =
+        let size = length-drop low xs in
+        subst (λ (x : Access). v ≤ x.version) (here k d (omega arith))
+        (part.1 (k - low) d (omega arith) (omega arith))
 
 -- ---- questions
 

@@ -2,7 +2,7 @@
 //!
 //! Where events come in commit order, an access goes to the end, and what is asked is nearly always
 //! answered by the last accesses. So each function looks at these first, and searches only where
-//! they do not answer.
+//! they do not answer: from the end back, so that it costs the less, the later the version is.
 ghost use Rattle.std.specs.Prelude.{ℕ, ◌≡◌, ◌+◌, ◌<◌, ◌≤◌, ◌↔◌, [], List, length, Contains, Some, OnOk};
 ghost use Rattle.std.specs.Prelude.{OnErr, IfSome, MatchOption};
 ghost use Rattle.std.specs.List.{HoldsAt, AllWithin};
@@ -154,11 +154,37 @@ impl ByVersion {
     {
         let count = self.accesses.len();
         match self.accesses.get(count.saturating_sub(NEAR)) {
-            Some(near) if version <= u64::from(near.version) => self
-                .accesses
-                .partition_point(|x| u64::from(x.version) < version),
+            Some(near) if version <= u64::from(near.version) => self.start_far(version),
             _ => self.start_back(version, count),
         }
+    }
+
+    /// The same, by a search behind a place that is near.
+    fn start_far(&self, version: u64) -> usize
+        ensures bound { result ≤ length self.now }
+        ensures parted { IsStart self.now version result }
+    {
+        let low = self.low_end(version);
+        let rest = &self.accesses[low..];
+        low + rest.partition_point(|x| u64::from(x.version) < version)
+    }
+
+    /// A place before which all are of a version below this one. Those that are not, and stand
+    /// behind it, are at least half of what does, but for a few.
+    fn low_end(&self, version: u64) -> usize
+        ensures bound { result ≤ length self.now }
+        ensures below { AllWithin (λ x. x.version < version) self.now 0 result }
+    {
+        let count = self.accesses.len();
+        let mut step = 2 * NEAR;
+        'back: while step < count {
+            let place = count - step;
+            if u64::from(self.accesses[place].version) < version {
+                return place;
+            }
+            step *= 2;
+        }
+        0
     }
 
     /// The place from which on those before the end are of this version or a higher one.
