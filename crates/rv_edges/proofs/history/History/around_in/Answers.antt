@@ -98,10 +98,10 @@ returns-clause-itself c =
 
 pub returns-clause-unsplit : goal.returns-clause-unsplit
 returns-clause-unsplit c =
-    unsplit_is c.args.self.now.model (happened c.args.self.now.kept) c.args.event.now (known c) c.requires.sound (rules c)
-    (others c) (before c) (after c) (joined c) (by_rules c) (by_versions c)
+    unsplit_is c.args.self.now.model (happened c.args.self.now.kept) c.args.event.now (known c) c.requires.sound
+    (rules c) (others c) (before c) (after c) (joined c) (by_rules c) (by_versions c)
 
 pub returns-clause-nearest : goal.returns-clause-nearest
 returns-clause-nearest c =
-    nearest_is c.args.self.now.model (happened c.args.self.now.kept) c.args.event.now (known c) c.requires.sound (rules c)
-    (others c) (before c) (after c) (joined c) (by_rules c) (by_versions c)
+    nearest_is c.args.self.now.model (happened c.args.self.now.kept) c.args.event.now (known c) c.requires.sound
+    (rules c) (others c) (before c) (after c) (joined c) (by_rules c) (by_versions c)

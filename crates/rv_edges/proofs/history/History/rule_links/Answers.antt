@@ -13,7 +13,8 @@ pub before-requires-clause-follows : goal.before-requires-clause-follows
 before-requires-clause-follows c =
     let is = hart-is c.args.self.now c.entries.result.now c.args.event.now.id.hart c.in-Some.hart.now
     c.entries.ensures.events c.in-Some.ensures.hart in
-    subst (λ (h : Hart). Follows h c.args.event.now) (sym is) (follows c.args.self.now c.args.event.now c.requires.sound)
+    subst (λ (h : Hart). Follows h c.args.event.now) (sym is)
+    (follows c.args.self.now c.args.event.now c.requires.sound)
 
 pub before-requires-clause-returned : goal.before-requires-clause-returned
 before-requires-clause-returned c =
