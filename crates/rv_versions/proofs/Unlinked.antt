@@ -1,15 +1,14 @@
 -- What is no memory operation, and has no LR, is linked with nothing.
-use Rattle.rv_versions.proofs.Common.{◌≡◌, ℕ, Option, Some, None, List, [], refl, arith, common_steps, Reason}
+use Rattle.std.proofs.Common.{sym, ◌∙◌}
+use Rattle.std.proofs.lemmas.Option.{none-some}
+use Rattle.rv_versions.proofs.Common.{◌≡◌, ℕ, Option, Some, None, List, [], refl, arith, Reason}
 use Rattle.rv_versions.proofs.Common.{Preserved, Coherence, ReadsFrom, FromRead, AtomicIn, AtomicOut, Event, Access}
 use Rattle.rv_versions.proofs.Common.{AreLinked, stored, returned, held, ComesBefore, ComesAfter, AreTheirs, AreBefore}
-use Rattle.rv_versions.proofs.Common.{AreAfter, Accesses, Reservation}
+use Rattle.rv_versions.proofs.Common.{AreAfter, Accesses}
 use Rattle.rv_versions.specs.Indexes.{AreOfWord}
 
 apart : (o : Option ℕ) (n : ℕ) → o ≡ None → o ≡ Some n → ⊥
-apart o n none some = grind (arith, common_steps)
-
-no_lr : (r : Reservation) → None ≡ Some r → ⊥
-no_lr r is = grind (arith, common_steps)
+apart o n none some = none-some n (sym none ∙ some)
 
 -- where no access is meant, nothing is linked
 nothing : (IsMeant : Reason → Access → Type 0) → ((k : Reason) (x : Access) → IsMeant k x → ⊥) → AreLinked IsMeant []
@@ -18,7 +17,7 @@ nothing IsMeant none = record { only = λ l c. absurd (omega (arith, c.1)); each
 module _ (log : List Event) (e : Event) (own : Accesses) (of-own : AreOfWord log e.word own)
     (stores : stored e ≡ None) (loads : returned e ≡ None) where
   theirs : AreTheirs log e None own own
-  theirs = record { of_own = of-own; of_lr = λ r is. absurd (no_lr r is) }
+  theirs = record { of_own = of-own; of_lr = λ r is. absurd (none-some r is) }
 
   none_before : (k : Reason) (x : Access) → ComesBefore own own e None 0 0 k x → ⊥
   none_before Coherence x (c, (n, is, _, _)) = apart (stored e) n stores is
