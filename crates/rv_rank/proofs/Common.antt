@@ -1,32 +1,31 @@
 -- The names that the proofs of this crate share.
-pub use Rattle.rv_rank.specs.Found.{IsFound, IsSameGraph, found_ahead, found_behind}
+pub use Rattle.rv_rank.specs.Found.{IsFound, IsSameGraph, NoneFrom, found_ahead, found_behind, is_ahead_in}
+pub use Rattle.rv_rank.specs.Found.{is_behind_in, is_in, is_traced, slot_in}
 pub use Rattle.rv_rank.specs.Graph.{Edge, IsCircle, IsGrown, IsOrder, IsTrail, Reaches, here, step}
 pub use Rattle.rv_rank.specs.Local.{IsLocal}
-pub use Rattle.rv_rank.specs.Marks.{IsMarked, IsSearched, IsSpread, IsTraced, is_ahead, is_ahead_of, is_behind}
-pub use Rattle.rv_rank.specs.Marks.{is_behind_of, is_free, is_slot, mark_of}
 pub use Rattle.rv_rank.specs.Mended.{IsMended, count_below, members_of}
 pub use Rattle.rv_rank.specs.Order.{IsInverse}
 pub use Rattle.rv_rank.specs.Ordering.{Ordering}
 pub use Rattle.rv_rank.specs.Placing.{IsAffected, IsAhead, IsFreed, IsMover, IsRefusedRound, ListsOnce, OnlyAffected}
 pub use Rattle.rv_rank.specs.Placing.{moved_of}
-pub use Rattle.rv_rank.specs.Plan.{IsPlan, IsRoster, members_in, slot_in}
+pub use Rattle.rv_rank.specs.Plan.{IsPlan, IsRoster, members_in}
 pub use Rattle.rv_rank.specs.Ranking.{Ranking}
 pub use Rattle.rv_rank.specs.Rows.{EndsIn, HasRoom, IsAppended, KeepsRoom, Neighbours, degree, incoming_of, other}
 pub use Rattle.rv_rank.specs.Rows.{outgoing_of, rooms_of, row_of, rows_of}
+pub use Rattle.rv_rank.specs.Sets.{AreBelow, IsJoined, IsSearched, IsTraced, OnlyAhead}
 pub use Rattle.rv_rank.specs.Walking.{IsMirror}
 pub use Rattle.rv_rank.specs.declared.node.Side.{Side}
 pub use Rattle.rv_rank.specs.declared.node.Side.TheVariants.{Incoming, Outgoing}
 pub use Rattle.rv_rank.specs.declared.ranks.Refused.{Refused}
 pub use Rattle.rv_rank.specs.declared.ranks.Refused.TheVariants.{Circle, NoMemory}
 pub use Rattle.rv_rank.specs.declared.search.Found.{Found}
-pub use Rattle.rv_rank.specs.declared.mark.Mark.{Mark}
-pub use Rattle.rv_rank.specs.declared.mark.Mark.TheVariants.{After, Behind, Free, Start}
+pub use Rattle.rv_rows.specs.Bits.{Has, has_bit}
 pub use Rattle.std.proofs.Common.{Bool, List, [], ap, arith, cond, drop, eqb, false, get_or, inl, inr, length}
 pub use Rattle.std.proofs.Common.{length-append, length-drop, map, not, refl, reverse, rules, set, subst, suc, sym}
-pub use Rattle.std.proofs.Common.{take, true, zero, ℕ, ◌%◌, ◌++◌, ◌+◌, ◌-◌, ◌<◌, ◌^◌, ◌||◌, ◌∙◌, ◌∷◌, ◌≡◌, ◌≢◌, ◌≤◌}
+pub use Rattle.std.proofs.Common.{take, true, zero, ℕ, ◌%◌, ◌&&◌, ◌++◌, ◌+◌, ◌-◌, ◌<◌, ◌^◌, ◌||◌, ◌∙◌, ◌∷◌, ◌≡◌, ◌≢◌, ◌≤◌}
 pub use Rattle.std.proofs.Common.{◌⊎◌}
 pub use Rattle.std.proofs.Math.Seq.{drop-cons}
-pub use Rattle.std.proofs.lemmas.Bool.{cases_eq, cases_lt, cond-false, cond-true, eq-eqb, false≢true, le-ltb, lt-ltb}
+pub use Rattle.std.proofs.lemmas.Bool.{and_from, and_parts, cases_eq, cases_lt, cond-false, cond-true, eq-eqb, false≢true, le-ltb, lt-ltb}
 pub use Rattle.std.proofs.lemmas.Bool.{ne_eqb}
 pub use Rattle.std.proofs.lemmas.Grind.{common_steps}
 pub use Rattle.std.proofs.lemmas.List.{get_or-append_right, get_or-drop, get_or-map, get_or-reverse, get_or-set_other}
@@ -44,4 +43,5 @@ pub use Rattle.std.proofs.lemmas.List.Sums.{count_by-le-length, count_by_more_no
 pub use Rattle.std.proofs.lemmas.Result.{err_from_is_err_and}
 pub use Rattle.std.proofs.lemmas.Slice.Zip.{get_or-zip, length-zip}
 pub use Rattle.std.specs.List.{All, Contains, count_by, filter, remove, zip}
-pub use Rattle.std.specs.Prelude.{nat_lt, ◌==◌}
+pub use Rattle.std.specs.Prelude.{nat_lt, ◌*◌, ◌==◌}
+pub use Rattle.std.proofs.Math.Bool.{or-false, or-true}

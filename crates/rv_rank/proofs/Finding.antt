@@ -1,75 +1,126 @@
 -- What the two searches find together.
-use Rattle.rv_rank.proofs.Common.{◌≡◌, ℕ, ◌+◌, ◌<◌, ◌≤◌, true, List, ◌++◌, length, get_or, reverse, inl, sym, ◌∙◌}
-use Rattle.rv_rank.proofs.Common.{arith, ap, All, Contains, All-contains, filter_agree, filter_passes}
-use Rattle.rv_rank.proofs.Common.{common_steps, Mark, Free, IsCircle, IsTrail, IsOrder, Ordering, mark_of}
-use Rattle.rv_rank.proofs.Common.{IsMarked, IsSearched, IsTraced, is_behind, is_ahead_of, IsFound, found_ahead}
-use Rattle.rv_rank.proofs.Common.{found_behind, IsAhead, OnlyAffected}
-use Rattle.rv_rank.proofs.Marks.{marked_within, ahead_else, ahead_marked, behind_is}
-use Rattle.rv_rank.proofs.Searching.{reached_marked, marked_reached}
-use Rattle.rv_rank.proofs.Tracing.{behind_marked, reaching_behind}
+use Rattle.rv_rank.proofs.Common.{◌≡◌, ℕ, ◌<◌, ◌≤◌, ◌&&◌, true, false, not, List, [], ◌++◌, length, get_or, reverse, inl, inr}
+use Rattle.rv_rank.proofs.Common.{sym, ◌∙◌, arith, ap, All, Contains, All-contains, filter_passes, common_steps}
+use Rattle.rv_rank.proofs.Common.{and_parts, cases_lt, lt-ltb, le-ltb, false≢true, nat_lt, IsCircle, IsTrail}
+use Rattle.rv_rank.proofs.Common.{IsOrder, Ordering, IsSearched, IsTraced, IsFound, found_ahead, found_behind, Found}
+use Rattle.rv_rank.proofs.Common.{is_traced, is_behind_in, IsAhead, IsInverse, NoneFrom, OnlyAffected}
+use Rattle.rv_rank.proofs.Common.{OnlyAhead, AreBelow, Has, has_bit, ◌||◌}
+use Rattle.rv_rank.specs.Found.{is_in}
+use Rattle.std.proofs.lemmas.Bool.{and_right, false_from_ne_true}
+use Rattle.rv_rank.proofs.Listing.{filter_none}
+use Rattle.rv_rank.proofs.Searching.{reached_found}
+use Rattle.rv_rank.proofs.Tracing.{reaching_found}
 
 -- a trail from a successor to a predecessor is a circle
 pub circle_from_trail : (edges : List (List ℕ)) (succs preds : List ℕ) (end : ℕ) (path : List ℕ) →
     IsTrail edges succs end path → Contains preds end → IsCircle edges preds succs path
 circle_from_trail edges succs preds end path h w = grind (arith, common_steps)
 
-module _ (edges : List (List ℕ)) (order : Ordering) (preds succs : List ℕ) (low : ℕ) (ahead : List Mark)
-    (o : IsOrder edges order.ranks) (h : IsSearched edges order.ranks succs low ahead (length order.ranks))
-  where
-    ahead_sound : (a : ℕ) → IsMarked low order.ranks ahead a → IsAhead edges succs a
-    ahead_sound a m = marked_reached edges order.ranks succs low ahead (length order.ranks) o h a
-        (marked_within low order.ranks ahead a h.long m).2 m
+-- a node that was found backward and is affected is in the set, and of rank `low` or above
+pub traced_is : (low : ℕ) (ranks behind : List ℕ) (a : ℕ) → is_traced low ranks behind a ≡ true →
+    Has behind a × (low ≤ get_or ranks a 0)
+traced_is low ranks behind a e =
+    let both = and_parts (has_bit behind a) (not (nat_lt (get_or ranks a 0) low)) e in (
+      both.0,
+      elim (cases_lt (get_or ranks a 0) low) [
+        | inl under ↦ absurd (false≢true (sym (ap not (lt-ltb _ low under)) ∙ both.1))
+        | inr over ↦ over
+      ],
+    )
 
-    ahead_full : (a : ℕ) → IsAhead edges succs a → IsMarked low order.ranks ahead a
-    ahead_full a w = reached_marked edges order.ranks succs low ahead h w.0 a w.2 (h.begun w.0 w.1)
+-- and one that is both is affected
+pub is_traced-from : (low : ℕ) (ranks behind : List ℕ) (a : ℕ) → Has behind a → low ≤ get_or ranks a 0 →
+    is_traced low ranks behind a ≡ true
+is_traced-from low ranks behind a m up = ap (λ x. x && not (nat_lt (get_or ranks a 0) low)) m ∙ ap not (le-ltb _ low up)
 
-    -- the visits forward are of affected nodes
-    pub only_ahead : (visits : List ℕ) → visits ≡ found_ahead low order ahead →
-        OnlyAffected edges order.ranks preds succs visits
-    only_ahead visits e a w =
-        let f = rw e at w in
-        let passes = All-contains (λ x. is_ahead_of low order.ranks ahead x ≡ true) (found_ahead low order ahead)
-        a (filter_passes (is_ahead_of low order.ranks ahead) order.nodes) f in
-        let m = ahead_marked (mark_of low order.ranks ahead a) passes in
-        (inl (ahead_sound a m), (marked_within low order.ranks ahead a h.long m).0)
+-- the visits forward are of nodes found forward
+pub only_ahead : (edges : List (List ℕ)) (nodes ranks succs : List ℕ) (low : ℕ) (ahead : List ℕ) (r top : ℕ)
+    (visits : List ℕ) → IsSearched edges ranks succs low ahead r → AreBelow ranks ahead top →
+    visits ≡ found_ahead nodes ahead → OnlyAhead edges ranks succs visits
+only_ahead edges nodes ranks succs low ahead r top visits h below e a w =
+    let f = rw e at w in
+    let m = All-contains (λ x. has_bit ahead x ≡ true) (found_ahead nodes ahead) a
+    (filter_passes (has_bit ahead) nodes) f in
+    (h.found a m, (below a m).0)
 
-    module _ (marks : List Mark) (t : IsTraced edges order.ranks preds low ahead marks low) where
-      agree : (a : ℕ) → is_ahead_of low order.ranks ahead a ≡ is_ahead_of low order.ranks marks a
-      agree a = grind (arith, common_steps)
+-- and these are affected
+pub only_affected : (edges : List (List ℕ)) (ranks preds succs list : List ℕ) → OnlyAhead edges ranks succs list →
+    OnlyAffected edges ranks preds succs list
+only_affected edges ranks preds succs list h a w = (inl (h a w).0, (h a w).1)
 
-      -- what the two searches have found
-      pub found_both : (count : ℕ) (first list : List ℕ) →
-          All (λ p. mark_of low order.ranks ahead p ≡ Free) preds →
-          All (λ s. low ≤ get_or order.ranks s 0) succs → (low < length order.ranks → (s : ℕ) × Contains succs s ×
-          (get_or order.ranks s 0 ≡ low)) → count ≡ length first → first ≡ found_ahead low order ahead →
-          list ≡ first ++ reverse (found_behind low order marks) →
-          IsFound edges order preds succs low marks count list
-      found_both count first list free least lowest n f e =
-          let same : found_ahead low order ahead ≡ found_ahead low order marks =
-          search (filter_agree, agree) in
-          let long : low + length marks ≡ length order.ranks = omega (arith, t.long, h.long) in
-          record {
-            long = long;
-            lowest = lowest;
-            free = λ s p w v r. ahead_full p (s, w, r) (All-contains (λ p. mark_of low order.ranks ahead p ≡ Free)
-                preds p free v);
-            ahead = λ a p. ahead_sound a (ahead_marked (mark_of low order.ranks ahead a) (agree a ∙ p));
-            all_ahead = λ a w. sym (agree a) ∙ ahead_else (mark_of low order.ranks ahead a) (ahead_full a w)
-                (h.forward a);
-            behind = λ a p.
-                let m = behind_is (mark_of low order.ranks marks a) p in
-                let w = t.sound a m in
-                let within = marked_within low order.ranks marks a long (behind_marked _ m) in
-                let s = lowest (omega (arith, within.1, within.2)) in
-                ((s.0, s.1, omega (arith, s.2, w.0)), w.1);
-            all_behind =
-                λ a w. ap is_behind (reaching_behind edges order.ranks succs preds low ahead o h marks t a w.1.0
-                w.1.2 w.1.1 (omega (
-                  arith,
-                  w.0.2,
-                  All-contains (λ s. low ≤ get_or order.ranks s 0) succs w.0.0
-                      least w.0.1,
-                )));
-            visits = e ∙ ap (λ x. x ++ reverse (found_behind low order marks)) (f ∙ same);
-            split = n ∙ ap length (f ∙ same);
-          }
+-- without successors nothing is affected
+pub found_none : (edges : List (List ℕ)) (order : Ordering) (preds : List ℕ) (found : Found) →
+    found.low ≡ length order.ranks → found.split ≡ 0 → ((a : ℕ) → has_bit found.ahead a ≡ false) →
+    ((a : ℕ) → has_bit found.behind a ≡ false) → IsFound edges order preds [] found []
+found_none edges order preds found at none ahead behind =
+    let no_ahead : found_ahead order.nodes found.ahead ≡ [] = filter_none (has_bit found.ahead) order.nodes (λ k l. ahead (get_or order.nodes k 0)) in
+    let lacks : (a : ℕ) → is_behind_in found order.ranks a ≡ false =
+    λ a. ap (λ x. x && not (nat_lt (get_or order.ranks a 0) found.low)) (behind a) in
+    let no_behind : found_behind found.low order found.behind ≡ [] =
+    filter_none (is_traced found.low order.ranks found.behind) order.nodes (λ k l. lacks (get_or order.nodes k 0)) in
+    record {
+      few = omega (arith, at);
+      lowest = λ l. absurd (omega (arith, at, l));
+      free = λ s p w. absurd (omega (arith, w.1));
+      within = λ a e. absurd (false≢true (sym (ahead a) ∙ e));
+      nodes = λ a e. absurd (false≢true (sym (lacks a) ∙ e));
+      ahead = λ a e. absurd (false≢true (sym (ahead a) ∙ e));
+      all_ahead = λ a w. absurd (omega (arith, w.1.1));
+      behind = λ a e. absurd (false≢true (sym (lacks a) ∙ e));
+      all_behind = λ a w. absurd (omega (arith, w.0.1.1));
+      visits = sym (ap (λ x. x ++ reverse (found_behind found.low order found.behind)) no_ahead ∙ ap reverse no_behind);
+      split = none ∙ sym (ap length no_ahead);
+    }
+
+module _ (edges : List (List ℕ)) (order : Ordering) (preds succs : List ℕ) (found : Found) (o : IsOrder edges order.ranks)
+    (h : IsSearched edges order.ranks succs found.low found.ahead (length order.ranks))
+    (t : IsTraced edges order.ranks preds found.behind found.low) where
+  ahead_full : (a : ℕ) → IsAhead edges succs a → Has found.ahead a
+  ahead_full a w = reached_found edges order.ranks succs found.low found.ahead o h w.0 a w.2 (h.begun w.0 w.1)
+
+  -- what the two searches have found
+  pub found_both : (top end : ℕ) (first list : List ℕ) → AreBelow order.ranks found.ahead top →
+      AreBelow order.ranks found.behind end → All (λ p. has_bit found.ahead p ≡ false) preds →
+      All (λ s. found.low ≤ get_or order.ranks s 0) succs → found.low ≤ length order.ranks →
+      (found.low < length order.ranks → (s : ℕ) × Contains succs s × (get_or order.ranks s 0 ≡ found.low)) →
+      found.split ≡ length first → first ≡ found_ahead order.nodes found.ahead →
+      list ≡ first ++ reverse (found_behind found.low order found.behind) →
+      IsFound edges order preds succs found list
+  found_both top end first list forward backward free least few lowest n f e = record {
+    few = few;
+    lowest = lowest;
+    free = λ s p w v r. false≢true (sym (All-contains (λ p. has_bit found.ahead p ≡ false) preds p free v)
+        ∙ ahead_full p (s, w, r));
+    within = λ a m. ((forward a m).0, h.high a m);
+    nodes = λ a m. (backward a (traced_is found.low order.ranks found.behind a m).0).0;
+    ahead = h.found;
+    all_ahead = ahead_full;
+    behind = λ a m.
+        let w = traced_is found.low order.ranks found.behind a m in
+        let s = lowest (omega (arith, w.1, o.below a (backward a w.0).0)) in
+        ((s.0, s.1, omega (arith, s.2, w.1)), t.found a w.0);
+    all_behind = λ a w.
+        let up : found.low ≤ get_or order.ranks a 0 = omega (
+          arith,
+          w.0.2,
+          All-contains (λ s. found.low ≤ get_or order.ranks s 0) succs w.0.0 least w.0.1,
+        ) in
+        is_traced-from found.low order.ranks found.behind a (reaching_found edges order.ranks preds o found.low
+        found.behind t a w.1.0 w.1.2 w.1.1 up) up;
+    visits = e ∙ ap (λ x. x ++ reverse (found_behind found.low order found.behind)) f;
+    split = n ∙ ap length f;
+  }
+
+-- where none was found from a rank on, none is affected
+pub none_from : (nodes ranks : List ℕ) (found : Found) (top end : ℕ) → IsInverse nodes ranks →
+    AreBelow ranks found.ahead top → AreBelow ranks found.behind end → top ≤ found.top → end ≤ found.top →
+    NoneFrom found nodes found.top
+unfolding is_in
+none_from nodes ranks found top end h forward backward up low r from l =
+    let a = get_or nodes r 0 in
+    let here = h.there r l in
+    let no_ahead = false_from_ne_true (has_bit found.ahead a) (λ m. omega (arith, (forward a m).1, here.1, from, up)) in
+    let no_behind = false_from_ne_true (has_bit found.behind a) (λ m.
+    omega (arith, (backward a m).1, here.1, from, low)) in
+    and_right (not (nat_lt r found.low)) (is_in found.ahead found.behind a)
+    (ap (λ x. x || has_bit found.ahead a) no_behind ∙ no_ahead)

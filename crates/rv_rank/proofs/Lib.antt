@@ -1,7 +1,6 @@
 pub mod Common
 pub mod Lists
-pub mod Padding
-pub mod Marks
+pub mod Sets
 pub mod Listing
 pub mod Searching
 pub mod Tracing

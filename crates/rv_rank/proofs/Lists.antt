@@ -1,7 +1,10 @@
 -- Membership in the first elements of a list.
 use Rattle.rv_rank.proofs.Common.{cases_eq, ◌≡◌, ℕ, zero, suc, ◌+◌, ◌<◌, ◌⊎◌, List, [], ◌∷◌, length, get_or, take}
 use Rattle.rv_rank.proofs.Common.{inl, inr, arith, Contains, take_more, Contains-append_left, Contains-push}
-use Rattle.rv_rank.proofs.Common.{common_steps}
+use Rattle.rv_rank.proofs.Common.{common_steps, ◌∙◌, ◌==◌, true, eq-eqb, get_or_default}
+use Rattle.std.proofs.lemmas.Bool.{eqb-true}
+use Rattle.std.proofs.lemmas.List.Folds.{Any-from_list_any, list_any_at}
+use Rattle.std.specs.List.{list_any}
 
 -- the first elements and the next
 pub Contains-take_more : (xs : List ℕ) (i x : ℕ) → i < length xs → Contains (take (i + 1) xs) x →
@@ -35,3 +38,14 @@ contains_cases (y ∷ ys) x = elim (cases_eq y x) [
     | inr m ↦ inr (λ w. elim (Contains-cons_cases y x ys w) [ inl e ↦ n e | inr v ↦ m v ])
   ]
 ]
+
+-- a list that has a number passes the test for it
+pub list_any-contains : (xs : List ℕ) (x : ℕ) → Contains xs x → list_any (λ y. y == x) xs ≡ true
+list_any-contains xs x w = list_any_at (λ y. y == x) xs w.0 x w.1 (eq-eqb _ x w.2)
+
+-- and one that passes has it
+pub contains-list_any : (xs : List ℕ) (x : ℕ) → list_any (λ y. y == x) xs ≡ true → Contains xs x
+contains-list_any xs x e =
+    let w = Any-from_list_any (λ y. y == x) xs e in
+    let same = eqb-true w.1 x w.4 in
+    (w.0, w.2, get_or_default xs w.0 x w.1 w.2 ∙ w.3 ∙ same)

@@ -6,16 +6,21 @@ use Rattle.rv_rank.proofs.Common.{get_or-append_right, get_or-reverse, length-re
 use Rattle.rv_rank.proofs.Common.{Contains-get_or, Contains-append_left, Contains-append_right}
 use Rattle.rv_rank.proofs.Common.{Contains-append_cases, filter_passes, Contains-permutation}
 use Rattle.rv_rank.proofs.Common.{IsPermutation-reverse, IsPermutation-sym, cases_eq, cases_lt, false≢true}
-use Rattle.rv_rank.proofs.Common.{ne_eqb, eq-eqb, rules, common_steps, Found, Mark, Edge, here, step, IsOrder}
-use Rattle.rv_rank.proofs.Common.{IsGrown, IsInverse, Ordering, mark_of, is_ahead_of, is_behind_of, IsFound}
+use Rattle.rv_rank.proofs.Common.{ne_eqb, eq-eqb, rules, Found, Reaches, Edge, here, step, IsOrder}
+use Rattle.rv_rank.proofs.Common.{IsGrown, IsInverse, Ordering, is_ahead_in, is_behind_in, IsFound}
 use Rattle.rv_rank.proofs.Common.{found_ahead, found_behind, IsPlan, IsLocal, Refused, Circle, NoMemory, Ranking}
 use Rattle.rv_rank.proofs.Common.{IsAffected, ListsOnce, OnlyAffected, IsRefusedRound, IsMover, IsFreed, moved_of}
-use Rattle.rv_rank.proofs.Marks.{marked_within, ahead_marked, behind_is, behind_not_ahead}
+use Rattle.std.proofs.lemmas.Bool.{false_from_ne_true}
+use Rattle.rv_rank.proofs.Finding.{traced_is}
 use Rattle.rv_rank.proofs.Searching.{edge_below, reaches_append}
-use Rattle.rv_rank.proofs.Tracing.{behind_marked}
 use Rattle.rv_rank.proofs.Growth.{edge_from}
 use Rattle.rv_rank.proofs.Counting.{cases_test, count_to, filter_at, filter_from}
 use Rattle.rv_rank.proofs.Moving.{moved_of-listed}
+
+-- what reaches a node reaches what that node reaches
+reaches_both : (edges : List (List ℕ)) (a b c : ℕ) → Reaches edges a b → Reaches edges b c → Reaches edges a c
+reaches_both edges a b c here q = q
+reaches_both edges a b c (step {b = x} e p) q = step e (reaches_both edges x b c p q)
 
 contains_passing : (t : ℕ → Bool) (xs : List ℕ) (k a : ℕ) → k < length xs → get_or xs k 0 ≡ a → t a ≡ true →
     Contains (filter t xs) a
@@ -32,26 +37,34 @@ differs_true x y n = ap not (ne_eqb x y n)
 true_differs : (x y : ℕ) → not (eqb x y) ≡ true → x ≢ y
 true_differs x y e q = false≢true (ap not (sym (eq-eqb x y q)) ∙ e)
 
-module _ (edges : List (List ℕ)) (order : Ordering) (preds succs : List ℕ) (low : ℕ) (marks : List Mark)
-    (count : ℕ) (list : List ℕ) (o : IsOrder edges order.ranks) (inverse : IsInverse order.nodes order.ranks)
-    (h : IsFound edges order preds succs low marks count list) where
+module _ (edges : List (List ℕ)) (order : Ordering) (preds succs : List ℕ) (found : Found)
+    (list : List ℕ) (o : IsOrder edges order.ranks) (inverse : IsInverse order.nodes order.ranks)
+    (h : IsFound edges order preds succs found list) where
+  abbrev low : ℕ
+  low = found.low
+
   abbrev b : ℕ → Bool
-  b = is_behind_of low order.ranks marks
+  b = is_behind_in found order.ranks
 
   abbrev f : ℕ → Bool
-  f = is_ahead_of low order.ranks marks
+  f = is_ahead_in found
 
   ahead_within : (a : ℕ) → f a ≡ true → (a < length order.ranks) × (low ≤ get_or order.ranks a 0) ×
       (get_or order.ranks a 0 < length order.ranks)
-  ahead_within a e = marked_within low order.ranks marks a h.long (ahead_marked (mark_of low order.ranks marks a) e)
+  ahead_within a e = let w = h.within a e in (w.0, w.1, o.below a w.0)
 
   behind_within : (a : ℕ) → b a ≡ true → (a < length order.ranks) × (low ≤ get_or order.ranks a 0) ×
       (get_or order.ranks a 0 < length order.ranks)
-  behind_within a e = grind (arith, common_steps, marked_within, behind_marked, behind_is)
+  behind_within a e =
+      let l = h.nodes a e in
+      (l, (traced_is low order.ranks found.behind a e).1, o.below a l)
 
   -- no node is behind and ahead
   pub apart : (a : ℕ) → b a ≡ true → f a ≡ false
-  apart a e = behind_not_ahead (mark_of low order.ranks marks a) e
+  apart a e = false_from_ne_true (f a) (λ q.
+      let p = h.ahead a q in
+      let w = (h.behind a e).1 in
+      h.free p.0 w.0 p.1 w.1 (reaches_both edges p.0 a w.0 p.2 w.2))
 
   ahead_closed : (a c : ℕ) → f a ≡ true → Edge edges a c → f c ≡ true
   ahead_closed a c e w = let p = h.ahead a e in h.all_ahead c (p.0, p.1, reaches_append edges p.0 a c p.2 w)
@@ -80,19 +93,19 @@ module _ (edges : List (List ℕ)) (order : Ordering) (preds succs : List ℕ) (
   visits_each a w =
       let i = inverse.back a w.1 in
       rw h.visits (elim w.0 [
-        | inl x ↦ Contains-append_left (found_ahead low order marks) (reverse (found_behind low order marks)) a
+        | inl x ↦ Contains-append_left (found_ahead order.nodes found.ahead) (reverse (found_behind low order found.behind)) a
             (contains_passing f order.nodes (get_or order.ranks a 0) a i.0 i.1 (h.all_ahead a x))
-        | inr x ↦ Contains-append_right (found_ahead low order marks) (reverse (found_behind low order marks)) a
-            (Contains-permutation (found_behind low order marks) (reverse (found_behind low order marks)) a
-            (IsPermutation-reverse (found_behind low order marks))
+        | inr x ↦ Contains-append_right (found_ahead order.nodes found.ahead) (reverse (found_behind low order found.behind)) a
+            (Contains-permutation (found_behind low order found.behind) (reverse (found_behind low order found.behind)) a
+            (IsPermutation-reverse (found_behind low order found.behind))
             (contains_passing b order.nodes (get_or order.ranks a 0) a i.0 i.1 (h.all_behind a x)))
       ])
 
   visits_cases : (a : ℕ) → Contains list a → (f a ≡ true) ⊎ (b a ≡ true)
   visits_cases a w =
       let c = rw h.visits at w in
-      let back = found_behind low order marks in
-      elim (Contains-append_cases (found_ahead low order marks) (reverse back) a c) [
+      let back = found_behind low order found.behind in
+      elim (Contains-append_cases (found_ahead order.nodes found.ahead) (reverse back) a c) [
         | inl x ↦ inl (passing f order.nodes a x)
         | inr x ↦ inr (passing b order.nodes a (Contains-permutation (reverse back) back a
             (IsPermutation-sym back (reverse back) (IsPermutation-reverse back)) x))
@@ -108,15 +121,15 @@ module _ (edges : List (List ℕ)) (order : Ordering) (preds succs : List ℕ) (
   -- where a visited node stands among the visits
   place : ℕ → ℕ
   place a = cond (f a) (count_to f order.nodes (get_or order.ranks a 0))
-      (length (found_ahead low order marks) + (length (found_behind low order marks) - 1 - count_to b
+      (length (found_ahead order.nodes found.ahead) + (length (found_behind low order found.behind) - 1 - count_to b
       order.nodes (get_or order.ranks a 0)))
 
-  visit_at : (k : ℕ) → k < length (found_ahead low order marks ++ reverse (found_behind low order marks)) →
-      place (get_or (found_ahead low order marks ++ reverse (found_behind low order marks)) k 0) ≡ k
+  visit_at : (k : ℕ) → k < length (found_ahead order.nodes found.ahead ++ reverse (found_behind low order found.behind)) →
+      place (get_or (found_ahead order.nodes found.ahead ++ reverse (found_behind low order found.behind)) k 0) ≡ k
   unfolding place
   visit_at k l =
-      let first = found_ahead low order marks in
-      let back = found_behind low order marks in
+      let first = found_ahead order.nodes found.ahead in
+      let back = found_behind low order found.behind in
       let long = length-append first (reverse back) in
       let turned = length-reverse back in
       elim (cases_lt k (length first)) [
@@ -314,7 +327,8 @@ module _ (edges : List (List ℕ)) (order : Ordering) (preds succs : List ℕ) (
     ]
 
     changed : (a : ℕ) → (f a ≡ true) ⊎ (b a ≡ true) → a < length order.ranks → get_or order.ranks a 0 ≢ get_or new a 0
-    changed a w la = grind (arith, common_steps)
+    changed a (inl e) la q = omega (arith, q, l.higher a la e)
+    changed a (inr e) la q = omega (arith, q, l.lower a la e)
 
     -- just the visited nodes have other ranks than before
     pub moved : moved_of order.ranks new ≡ length list
@@ -341,14 +355,15 @@ refused_round old edges ranks visits rounds preds succs NoMemory n only = inr (n
 -- how the order is mended after the searches
 pub found_plan : (edges : List (List ℕ)) (order : Ordering) (preds succs : List ℕ) (found : Found)
     (list : List ℕ) → IsOrder edges order.ranks → IsInverse order.nodes order.ranks →
-    IsFound edges order preds succs found.low found.marks found.split list →
-    IsPlan found order.nodes order.ranks list
+    IsFound edges order preds succs found list → IsPlan found order.nodes order.ranks list
 found_plan edges order preds succs found list o inverse h = record {
-  long = h.long ∙ sym inverse.long;
+  few = omega (arith, h.few, inverse.long);
   lowest = λ l.
-      let s = first_ahead edges order preds succs found.low found.marks found.split list o inverse h
-      (omega (arith, inverse.long)) in
+      let s = first_ahead edges order preds succs found list o inverse h (omega (arith, inverse.long)) in
       (s.0, omega (arith, s.1, inverse.long), s.2, s.3);
+  ahead = λ a e. let w = h.within a e in (omega (arith, w.0, inverse.long), w.1);
+  behind = λ a e. omega (arith, h.nodes a e, inverse.long);
+  apart = apart edges order preds succs found list o inverse h;
   listed = h.visits;
   split = h.split;
 }

@@ -1,23 +1,23 @@
--- The way back through the marks.
+-- A way back from a node that was found.
 use Rattle.rv_rank.proofs.Common.{◌≡◌, ℕ, suc, zero, ◌+◌, ◌-◌, ◌<◌, List, [], ◌∷◌, ◌++◌, length, get_or, reverse}
 use Rattle.rv_rank.proofs.Common.{inl, inr, sym, ◌∙◌, arith, ap, Contains, get_or-reverse, length-reverse}
-use Rattle.rv_rank.proofs.Common.{get_or_push, get_or_append_left, length_push, cases_lt, common_steps, Mark}
-use Rattle.rv_rank.proofs.Common.{After, Edge, IsOrder, IsTrail, mark_of, IsMarked, IsSearched}
+use Rattle.rv_rank.proofs.Common.{get_or_push, get_or_append_left, length_push, cases_lt, common_steps, Edge}
+use Rattle.rv_rank.proofs.Common.{IsOrder, IsTrail, IsSearched, Has, has_bit, All, All-contains, false≢true, false, IsAhead, OnlyAhead, Contains-push_cases}
+use Rattle.rv_rank.proofs.Searching.{last_edge, reached_found}
 
 -- the way back from a node as far as another
-pub record IsWayBack (edges : List (List ℕ)) (low : ℕ) (ranks : List ℕ) (marks : List Mark) (end node : ℕ)
-    (back : List ℕ) : Type 0 where
+pub record IsWayBack (edges : List (List ℕ)) (ahead : List ℕ) (end node : ℕ) (back : List ℕ) : Type 0 where
   pub some : 0 < length back
   pub first : get_or back 0 0 ≡ end
   pub last : get_or back (length back - 1) 0 ≡ node
-  pub marked : IsMarked low ranks marks node
+  pub found : Has ahead node
   pub steps : (k : ℕ) → k + 1 < length back → Edge edges (get_or back (k + 1) 0) (get_or back k 0)
 
 -- one step further back
-pub IsWayBack-more : (edges : List (List ℕ)) (low : ℕ) (ranks : List ℕ) (marks : List Mark) (end node from : ℕ)
-    (back : List ℕ) → IsWayBack edges low ranks marks end node back → Edge edges from node →
-    IsMarked low ranks marks from → IsWayBack edges low ranks marks end from (back ++ from ∷ [])
-IsWayBack-more edges low ranks marks end node from back h e m =
+pub IsWayBack-more : (edges : List (List ℕ)) (ahead : List ℕ) (end node from : ℕ) (back : List ℕ) →
+    IsWayBack edges ahead end node back → Edge edges from node → Has ahead from →
+    IsWayBack edges ahead end from (back ++ from ∷ [])
+IsWayBack-more edges ahead end node from back h e m =
     let long = length_push back from in
     let before : (k : ℕ) → k < length back → get_or (back ++ from ∷ []) k 0 ≡ get_or back k 0 =
     λ k l. get_or_append_left back (from ∷ []) 0 k l in
@@ -27,7 +27,7 @@ IsWayBack-more edges low ranks marks end node from back h e m =
       some = omega (arith, long);
       first = before 0 h.some ∙ h.first;
       last = new _ (omega (arith, long));
-      marked = m;
+      found = m;
       steps = λ k l. elim (cases_lt (k + 1) (length back)) [
         | inl in_old ↦ let b = before (k + 1) in_old in let a = before k (omega arith) in rw (a, b) (h.steps k in_old)
         | inr at_end ↦
@@ -47,10 +47,10 @@ rising f n h i (suc d) l =
     rw e (let below = rising f n h i d (omega arith) in let last = h (i + d + 1) (omega arith) in omega arith)
 
 -- turned round it is a trail
-pub IsTrail-reverse : (edges : List (List ℕ)) (low : ℕ) (ranks succs : List ℕ) (marks : List Mark)
-    (end node : ℕ) (back : List ℕ) → IsOrder edges ranks → IsWayBack edges low ranks marks end node back →
-    Contains succs node → IsTrail edges succs end (reverse back)
-IsTrail-reverse edges low ranks succs marks end node back o h w =
+pub IsTrail-reverse : (edges : List (List ℕ)) (ranks succs ahead : List ℕ) (end node : ℕ) (back : List ℕ) →
+    IsOrder edges ranks → IsWayBack edges ahead end node back → Contains succs node →
+    IsTrail edges succs end (reverse back)
+IsTrail-reverse edges ranks succs ahead end node back o h w =
     let n = length back in
     let long = length-reverse back in
     let at : (k : ℕ) → k < n → get_or (reverse back) k 0 ≡ get_or back (n - 1 - k) 0 =
@@ -76,8 +76,30 @@ IsTrail-reverse edges low ranks succs marks end node back o h w =
           omega (arith, rw q at r, ap (λ x. get_or ranks x 0) same);
     }
 
--- the way back ends at a successor
-pub begun_at : (edges : List (List ℕ)) (low : ℕ) (ranks succs : List ℕ) (marks : List Mark) (node : ℕ) →
-    IsSearched edges ranks succs low marks (length ranks) → IsMarked low ranks marks node →
-    ((u : ℕ) → mark_of low ranks marks node ≡ After u → ⊥) → Contains succs node
-begun_at edges low ranks succs marks node h m a = grind (arith, common_steps)
+-- a node that was found, and is no successor, has a source that was found
+pub found_source : (edges : List (List ℕ)) (ranks succs : List ℕ) (low : ℕ) (ahead : List ℕ) (node : ℕ) →
+    IsOrder edges ranks → IsSearched edges ranks succs low ahead (length ranks) → Has ahead node →
+    (Contains succs node → ⊥) → (u : ℕ) × Edge edges u node × Has ahead u
+found_source edges ranks succs low ahead node o h m n =
+    let w = h.found node m in
+    elim (last_edge edges w.0 node w.2) [
+      | inl same ↦ absurd (n (rw same at w.1))
+      | inr p ↦ (p.0, p.2, reached_found edges ranks succs low ahead o h w.0 p.0 p.1 (h.begun w.0 w.1))
+    ]
+
+-- so its sources are not all missing
+pub some_source : (edges : List (List ℕ)) (ranks succs : List ℕ) (low : ℕ) (ahead sources : List ℕ) (node : ℕ) →
+    IsOrder edges ranks → IsSearched edges ranks succs low ahead (length ranks) → Has ahead node →
+    (Contains succs node → ⊥) → ((a : ℕ) → Edge edges a node → Contains sources a) →
+    All (λ a. has_bit ahead a ≡ false) sources → ⊥
+some_source edges ranks succs low ahead sources node o h m n from none =
+    let p = found_source edges ranks succs low ahead node o h m n in
+    false≢true (sym (All-contains (λ a. has_bit ahead a ≡ false) sources p.0 none (from p.0 p.1)) ∙ p.2)
+
+-- one more node that was found forward
+pub only_more : (edges : List (List ℕ)) (ranks succs list : List ℕ) (a : ℕ) → OnlyAhead edges ranks succs list →
+    IsAhead edges succs a → a < length ranks → OnlyAhead edges ranks succs (list ++ a ∷ [])
+only_more edges ranks succs list a h w l b m = elim (Contains-push_cases list a b m) [
+  | inl was ↦ h b was
+  | inr same ↦ rw (sym same) (w, l)
+]

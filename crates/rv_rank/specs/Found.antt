@@ -1,10 +1,11 @@
 -- What the two searches of a placement find.
-use Rattle.std.specs.Prelude.{◌≡◌, ℕ, ◌+◌, ◌<◌, ◌≤◌, true, List, ◌++◌, length, reverse, slice_index}
+use Rattle.std.specs.Prelude.{◌≡◌, ℕ, ◌<◌, ◌≤◌, ◌&&◌, ◌||◌, Bool, true, false, not, nat_lt, List, ◌++◌, length}
+use Rattle.std.specs.Prelude.{reverse, slice_index}
 use Rattle.std.specs.List.{Contains, filter}
-use Rattle.rv_rank.specs.declared.mark.Mark.{Mark}
+use Rattle.rv_rows.specs.Bits.{has_bit}
+use Rattle.rv_rank.specs.declared.search.Found.{Found}
 use Rattle.rv_rank.specs.Walking.{Walking}
 use Rattle.rv_rank.specs.Ordering.{Ordering}
-use Rattle.rv_rank.specs.Marks.{is_ahead_of, is_behind_of}
 use Rattle.rv_rank.specs.Placing.{NoneReaches, IsAhead, IsBehind}
 
 -- nothing but the visits differs, and no room is lost
@@ -13,24 +14,51 @@ pub record IsSameGraph (old new : Walking) : Type 0 where
   pub rounds : new.rounds ≡ old.rounds
   pub room : old.room ≤ new.room
 
+-- whether one of the two sets has a node
+unfoldable pub is_in : List ℕ → List ℕ → ℕ → Bool
+is_in ahead behind a = has_bit behind a || has_bit ahead a
+
+-- whether a node was found backward, and is of rank `low` or above
+abbrev pub is_traced : ℕ → List ℕ → List ℕ → ℕ → Bool
+is_traced low ranks behind a = has_bit behind a && not (nat_lt (slice_index ranks a) low)
+
 -- the nodes found forward, by rank
-abbrev pub found_ahead : ℕ → Ordering → List Mark → List ℕ
-found_ahead low order marks = filter (is_ahead_of low order.ranks marks) order.nodes
+abbrev pub found_ahead : List ℕ → List ℕ → List ℕ
+found_ahead nodes ahead = filter (has_bit ahead) nodes
 
--- the nodes found backward, by rank
-abbrev pub found_behind : ℕ → Ordering → List Mark → List ℕ
-found_behind low order marks = filter (is_behind_of low order.ranks marks) order.nodes
+-- the nodes found backward of rank `low` or above, by rank
+abbrev pub found_behind : ℕ → Ordering → List ℕ → List ℕ
+found_behind low order behind = filter (is_traced low order.ranks behind) order.nodes
 
--- the marks tell the two sets; the list has the forward one by rising rank, and the other one by
--- falling rank
-pub record IsFound (edges : List (List ℕ)) (order : Ordering) (preds succs : List ℕ) (low : ℕ)
-    (marks : List Mark) (count : ℕ) (list : List ℕ) : Type 0 where
-  pub long : low + length marks ≡ length order.ranks
-  pub lowest : low < length order.ranks → (s : ℕ) × Contains succs s × (slice_index order.ranks s ≡ low)
+-- whether an affected node was found forward
+abbrev pub is_ahead_in : Found → ℕ → Bool
+is_ahead_in found a = has_bit found.ahead a
+
+-- whether an affected node was found backward
+abbrev pub is_behind_in : Found → List ℕ → ℕ → Bool
+is_behind_in found ranks a = is_traced found.low ranks found.behind a
+
+-- whether the node of a rank is affected
+abbrev pub slot_in : Found → List ℕ → ℕ → Bool
+slot_in found nodes r = not (nat_lt r found.low) && is_in found.ahead found.behind (slice_index nodes r)
+
+-- from this rank on no node is affected
+abbrev pub NoneFrom : Found → List ℕ → ℕ → Type 0
+NoneFrom found nodes top = (r : ℕ) → top ≤ r → r < length nodes → slot_in found nodes r ≡ false
+
+-- the two sets are the affected nodes; the list has the forward one by rising rank, and the other
+-- one by falling rank
+pub record IsFound (edges : List (List ℕ)) (order : Ordering) (preds succs : List ℕ) (found : Found)
+    (list : List ℕ) : Type 0 where
+  pub few : found.low ≤ length order.ranks
+  pub lowest : found.low < length order.ranks →
+      (s : ℕ) × Contains succs s × (slice_index order.ranks s ≡ found.low)
   pub free : NoneReaches edges succs preds
-  pub ahead : (a : ℕ) → is_ahead_of low order.ranks marks a ≡ true → IsAhead edges succs a
-  pub all_ahead : (a : ℕ) → IsAhead edges succs a → is_ahead_of low order.ranks marks a ≡ true
-  pub behind : (a : ℕ) → is_behind_of low order.ranks marks a ≡ true → IsBehind edges order.ranks preds succs a
-  pub all_behind : (a : ℕ) → IsBehind edges order.ranks preds succs a → is_behind_of low order.ranks marks a ≡ true
-  pub visits : list ≡ found_ahead low order marks ++ reverse (found_behind low order marks)
-  pub split : count ≡ length (found_ahead low order marks)
+  pub within : (a : ℕ) → is_ahead_in found a ≡ true → (a < length order.ranks) × (found.low ≤ slice_index order.ranks a)
+  pub nodes : (a : ℕ) → is_behind_in found order.ranks a ≡ true → a < length order.ranks
+  pub ahead : (a : ℕ) → is_ahead_in found a ≡ true → IsAhead edges succs a
+  pub all_ahead : (a : ℕ) → IsAhead edges succs a → is_ahead_in found a ≡ true
+  pub behind : (a : ℕ) → is_behind_in found order.ranks a ≡ true → IsBehind edges order.ranks preds succs a
+  pub all_behind : (a : ℕ) → IsBehind edges order.ranks preds succs a → is_behind_in found order.ranks a ≡ true
+  pub visits : list ≡ found_ahead order.nodes found.ahead ++ reverse (found_behind found.low order found.behind)
+  pub split : found.split ≡ length (found_ahead order.nodes found.ahead)

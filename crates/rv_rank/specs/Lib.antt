@@ -6,7 +6,7 @@ pub mod Visits
 pub mod Rows
 pub mod Order
 pub mod Ordering
-pub mod Marks
+pub mod Sets
 pub mod Found
 pub mod Mended
 pub mod Plan

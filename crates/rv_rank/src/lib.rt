@@ -15,7 +15,6 @@
 //! respect the kept edges already.
 #![tactic(auto)]
 
-mod mark;
 mod node;
 mod order;
 mod ranks;

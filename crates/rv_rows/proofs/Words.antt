@@ -34,11 +34,6 @@ less_is (suc zero) (suc zero) p q = refl
 less_is (suc zero) (suc (suc y)) p q = absurd (omega arith)
 less_is (suc (suc x)) y p q = absurd (omega arith)
 
--- one after the other is both
-pub or_assoc : (a b c : Bool) → ((a || b) || c) ≡ (a || (b || c))
-or_assoc true b c = refl
-or_assoc false b c = refl
-
 -- less one and then the other is less both
 pub less_both : (a b c : Bool) → ((a && not b) && not c) ≡ (a && not (b || c))
 less_both true true c = refl

@@ -7,6 +7,7 @@
 //! links that remain where all others follow.
 //!
 //! - `row`: a set of numbers. `rows`: many, kept one after the other in one list of words.
+//! - `bit_set`: a set of numbers with room for as many as it was made for.
 //! - `thinning`: a step of the sweep.
 //! - `laws`: what the steps of a whole sweep take.
 //! - `specs/`: what a row has (`Bits`), how rows lie one after the other (`Flat`), what a step of a
@@ -16,11 +17,13 @@
 //! all that its row has; and the steps of a whole sweep over closed rows thin the candidates.
 #![tactic(auto)]
 
+mod bit_set;
 mod laws;
 mod row;
 mod rows;
 mod thinning;
 
+pub use bit_set::BitSet;
 pub use laws::sweeps_thin;
 pub use row::Row;
 pub use rows::Rows;

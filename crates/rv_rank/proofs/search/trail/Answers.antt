@@ -1,45 +1,52 @@
-use Rattle.rv_rank.proofs.Common.{rules, arith, get_or, ◌≡◌, ◌-◌, ◌∙◌, Free, After}
-use Rattle.rv_rank.proofs.Trail.{IsWayBack-more, begun_at, IsTrail-reverse}
-use Rattle.rv_rank.proofs.Marks.{marked_within, read_of}
+use Rattle.rv_rank.proofs.Common.{arith, length, ◌∙◌, ap, sym}
+use Rattle.rv_rank.proofs.Common.{common_steps, false≢true, length_push}
+use Rattle.rv_rank.proofs.Lists.{list_any-contains, contains-list_any}
+use Rattle.rv_rank.proofs.Trail.{IsWayBack-more, some_source, IsTrail-reverse, only_more}
 use Rattle.rv_rank.proofs.search.trail.Goals as goal
 
-pub rank-requires : goal.rank-requires
-rank-requires c = search (marked_within, rules)
+pub unreachable-requires : goal.unreachable-requires
+unreachable-requires c =
+    let inv = c.loop-walk.invariant in
+    let both = rw inv.same.edges at c.backward.ensures.value in
+    some_source c.args.walk.now.edges c.args.order.now.ranks c.args.succs.now c.requires.searched.0
+    c.args.ahead.now c.backward.result.now c.loop-walk.node c.requires.ordered c.requires.searched.1 inv.way.found
+    (λ w. false≢true (sym c.loop-walk-test.true ∙ c.contains.ensures.value
+    ∙ list_any-contains c.args.succs.now c.loop-walk.node w))
+    (λ a e. (both a).1 e) c.in_default.ensures
 
-pub overflow_sub-rank : goal.overflow_sub-rank
-overflow_sub-rank c = search (marked_within, rules)
+pub returns-in_err-push-2-clause-affected : goal.returns-in_err-push-2-clause-affected
+returns-in_err-push-2-clause-affected c =
+    let inv = c.loop-walk.invariant in
+    rw c.backward.follows.holds-at-none.visits (only_more c.args.walk.now.edges c.args.order.now.ranks
+    c.args.succs.now c.loop-walk.walk.visits c.loop-walk.node inv.only
+    (c.requires.searched.1.found c.loop-walk.node inv.way.found) (c.requires.nodes c.loop-walk.node inv.way.found))
 
-pub loop-from-smaller : goal.loop-from-smaller
-loop-from-smaller c =
-    let w = marked_within c.args.low c.args.order.now.ranks c.args.marks.now c.loop-from.node
-    c.requires.searched.long c.loop-from.invariant.marked in
-    let read : get_or c.args.marks.now (c.rank.result - c.args.low) Free ≡ After c.in-After.from = search rules in
-    let at = read_of c.args.low c.args.order.now.ranks c.args.marks.now c.loop-from.node c.rank.result w.0
-    (omega (arith, c.rank.ensures.value, w.1)) c.rank.ensures.value in
-    let p = c.requires.searched.after c.loop-from.node c.in-After.from (at ∙ read) in
-    c.requires.ordered.forward c.in-After.from c.loop-from.node p.0
+pub loop-walk-smaller : goal.loop-walk-smaller
+loop-walk-smaller c =
+    let inv = c.loop-walk.invariant in
+    let both = rw inv.same.edges at c.backward.ensures.value in
+    c.requires.ordered.forward c.in-Some.from c.loop-walk.node ((both c.in-Some.from).0 c.in-Some.ensures.0)
 
-pub loop-from-preserved : goal.loop-from-preserved
-loop-from-preserved c =
-    let w = marked_within c.args.low c.args.order.now.ranks c.args.marks.now c.loop-from.node
-    c.requires.searched.long c.loop-from.invariant.marked in
-    let read : get_or c.args.marks.now (c.rank.result - c.args.low) Free ≡ After c.in-After.from = search rules in
-    let at = read_of c.args.low c.args.order.now.ranks c.args.marks.now c.loop-from.node c.rank.result w.0
-    (omega (arith, c.rank.ensures.value, w.1)) c.rank.ensures.value in
-    let p = c.requires.searched.after c.loop-from.node c.in-After.from (at ∙ read) in
-    rw c.in_ok-push-2.ensures.items (IsWayBack-more c.args.walk.now.edges c.args.low c.args.order.now.ranks
-    c.args.marks.now c.args.end c.loop-from.node c.in-After.from c.loop-from.path.items
-    c.loop-from.invariant p.0 p.1)
+pub loop-walk-preserved : goal.loop-walk-preserved
+loop-walk-preserved c =
+    let inv = c.loop-walk.invariant in
+    let both = rw inv.same.edges at c.backward.ensures.value in
+    let e = (both c.in-Some.from).0 c.in-Some.ensures.0 in
+    let visited = c.backward.follows.holds-at-none in
+    let long = ap length visited.visits ∙ length_push c.loop-walk.walk.visits c.loop-walk.node in
+    record {
+      way = rw c.in_ok-push-2.ensures.items (IsWayBack-more c.args.walk.now.edges c.args.ahead.now c.args.end
+          c.loop-walk.node c.in-Some.from c.loop-walk.path.items inv.way e c.in-Some.ensures.1);
+      only = rw visited.visits (only_more c.args.walk.now.edges c.args.order.now.ranks c.args.succs.now
+          c.loop-walk.walk.visits c.loop-walk.node inv.only (c.requires.searched.1.found c.loop-walk.node inv.way.found)
+          (c.requires.nodes c.loop-walk.node inv.way.found));
+      same = grind (arith, common_steps);
+      room = omega (arith, long, inv.room, c.requires.ordered.forward c.in-Some.from c.loop-walk.node e);
+    }
 
-pub returns : goal.returns
-returns c =
-    let w = marked_within c.args.low c.args.order.now.ranks c.args.marks.now c.loop-from.node
-    c.requires.searched.long c.loop-from.invariant.marked in
-    let at = read_of c.args.low c.args.order.now.ranks c.args.marks.now c.loop-from.node c.rank.result w.0
-    (omega (arith, c.rank.ensures.value, w.1)) c.rank.ensures.value in
-    let start = begun_at c.args.walk.now.edges c.args.low c.args.order.now.ranks c.args.succs.now
-    c.args.marks.now c.loop-from.node c.requires.searched c.loop-from.invariant.marked
-    (rw (at, ← c.at.ensures) c.in_default.not-After) in
-    rw c.reverse.ensures.items (IsTrail-reverse c.args.walk.now.edges c.args.low c.args.order.now.ranks
-    c.args.succs.now c.args.marks.now c.args.end c.loop-from.node c.loop-from.path.items c.requires.ordered
-    c.loop-from.invariant start)
+pub returns-clause-trail : goal.returns-clause-trail
+returns-clause-trail c =
+    let inv = c.loop-walk.invariant in
+    rw c.reverse.ensures.items (IsTrail-reverse c.args.walk.now.edges c.args.order.now.ranks c.args.succs.now
+    c.args.ahead.now c.args.end c.loop-walk.node c.loop-walk.path.items c.requires.ordered inv.way
+    (contains-list_any c.args.succs.now c.loop-walk.node (sym c.contains.ensures.value ∙ c.loop-walk-test.false)))

@@ -18,8 +18,7 @@ returns-in_err-reserve-clause-round c =
     let found = rw c.in_ok-begin.ensures.edges at c.in_ok-found.ensures.found in
     let next = c.search.ensures.same.rounds ∙ c.in_ok-begin.ensures.rounds in
     let only = visits_only c.self.inside.walk.edges c.self.inside.order c.args.preds.now c.args.succs.now
-    c.in_ok-found.found.low c.in_ok-found.found.marks c.in_ok-found.found.split
-    c.search.new.walk.visits c.self.invariant c.len-node.ensures.inverse found in
+    c.in_ok-found.found c.search.new.walk.visits c.self.invariant c.len-node.ensures.inverse found in
     let p = err_from_is_err_and c.from_residual-in_err-reserve.result c.from_residual-in_err-reserve.ensures.1 in
     rw (p.1, ← c.self.view_is) (refused_round _ c.search.new.walk.edges c.reserve.new.self.ranks
     c.search.new.walk.visits c.search.new.walk.rounds _ _ p.0 next only)
@@ -29,8 +28,7 @@ returns-in_err-add-clause-round c =
     let found = rw c.in_ok-begin.ensures.edges at c.in_ok-found.ensures.found in
     let next = c.in_err-add.ensures.rounds ∙ c.search.ensures.same.rounds ∙ c.in_ok-begin.ensures.rounds in
     let only = visits_only c.self.inside.walk.edges c.self.inside.order c.args.preds.now c.args.succs.now
-    c.in_ok-found.found.low c.in_ok-found.found.marks c.in_ok-found.found.split
-    c.search.new.walk.visits c.self.invariant c.len-node.ensures.inverse found in
+    c.in_ok-found.found c.search.new.walk.visits c.self.invariant c.len-node.ensures.inverse found in
     let p = err_from_is_err_and c.from_residual-in_err-add.result c.from_residual-in_err-add.ensures.1 in
     rw (p.1, ← c.self.view_is) (refused_round _ c.add.new.self.edges c.reserve.new.self.ranks
     c.add.new.self.visits c.add.new.self.rounds _ _ p.0 next (rw c.in_err-add.ensures.visits only))
@@ -57,8 +55,7 @@ invariant_of-self-2 c =
     let low_preds = rw (← c.self.view_is) at c.requires.preds in
     let low_succs = rw (← c.self.view_is) at c.requires.succs in
     ordered c.self.inside.walk.edges c.self.inside.order c.args.preds.now c.args.succs.now
-    c.in_ok-found.found.low c.in_ok-found.found.marks c.in_ok-found.found.split
-    c.search.new.walk.visits c.self.invariant c.len-node.ensures.inverse found c.add.new.self.edges
+    c.in_ok-found.found c.search.new.walk.visits c.self.invariant c.len-node.ensures.inverse found c.add.new.self.edges
     c.mend.new.self.ranks low_preds low_succs grown local
 
 pub returns-clause-placed : goal.returns-clause-placed
@@ -67,9 +64,7 @@ returns-clause-placed c =
     let order = c.self.inside.order in
     let preds = c.args.preds.now in
     let succs = c.args.succs.now in
-    let low = c.in_ok-found.found.low in
-    let marks = c.in_ok-found.found.marks in
-    let split = c.in_ok-found.found.split in
+    let sets = c.in_ok-found.found in
     let list = c.search.new.walk.visits in
     let o = c.self.invariant in
     let inverse = c.len-node.ensures.inverse in
@@ -83,21 +78,21 @@ returns-clause-placed c =
     let visited : c.visits-2.result.now ≡ list = c.visits-2.ensures ∙ c.in_ok-add.ensures.visits in
     rw (← c.self.view_is, visited) (record {
       node = c.len-node.ensures.count;
-      moved = sym (moved edges order preds succs low marks split list o inverse found new_edges new low_preds
+      moved = sym (moved edges order preds succs sets list o inverse found new_edges new low_preds
           low_succs grown local);
       visited = ap length (sym c.in_ok-add.ensures.visits);
       free = found.free;
       grown = grown;
       ordered = invariant_of-self-2 c;
       spared = search (spared, rules);
-      exchanged = exchanged edges order preds succs low marks split list o inverse found new_edges new low_preds
+      exchanged = exchanged edges order preds succs sets list o inverse found new_edges new low_preds
           low_succs grown local;
-      taken = taken edges order preds succs low marks split list o inverse found new_edges new low_preds
+      taken = taken edges order preds succs sets list o inverse found new_edges new low_preds
           low_succs grown local;
-      visits = rw c.in_ok-add.ensures.visits (visits_listed edges order preds succs low marks split list o
+      visits = rw c.in_ok-add.ensures.visits (visits_listed edges order preds succs sets list o
           inverse found);
       rounds = c.in_ok-add.ensures.rounds ∙ c.search.ensures.same.rounds ∙ c.in_ok-begin.ensures.rounds;
       greatest = search (greatest, rules);
-      still = λ e. let none = still edges order preds succs low marks split list o inverse found new_edges new
+      still = λ e. let none = still edges order preds succs sets list o inverse found new_edges new
           low_preds low_succs grown local e in (none, none);
     })

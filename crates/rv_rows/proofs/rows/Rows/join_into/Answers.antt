@@ -3,7 +3,7 @@ use Rattle.std.proofs.lemmas.Grind.{common_steps}
 use Rattle.rv_rows.specs.Bits.{has_bit}
 use Rattle.rv_rows.specs.Flat.{beginning_at, part_at, shifted}
 use Rattle.rv_rows.proofs.Laying.{low_place, place_at, row_there, part_short, beginning_short}
-use Rattle.rv_rows.proofs.Words.{or_assoc}
+use Rattle.std.proofs.Math.Bool.{or_assoc}
 use Rattle.rv_rows.proofs.rows.Rows.join_into.Goals as goal
 
 pub index-place-requires : goal.index-place-requires
