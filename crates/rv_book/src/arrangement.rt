@@ -145,9 +145,12 @@ impl Arrangement {
         self.history.writer(word, version)
     }
 
-    /// The links that the history keeps, one event after the other. It takes no memory.
-    pub fn links(&self) -> &[Link]
-        ensures value { result.now ≡ links_of self.now.history }
+    /// The links that the history keeps, one event after the other.
+    ///
+    /// # Errors
+    /// `NoMemory` where the list could not be had.
+    pub fn links(&self) -> Result<Vec<Link>, NoMemory>
+        ensures value { IfOk result (λ links. links.items ≡ links_of self.now.history) }
         ensures carried { IsCarried self.now.model self.now.history }
     {
         self.history.links()

@@ -181,9 +181,12 @@ impl Book {
     }
 
     /// The links by which the book keeps the edges of its log, one entry after the other: each is
-    /// of an edge, and wherever the log has an edge a path of them leads. It takes no memory.
-    pub fn links(&self) -> &[Link]
-        ensures { AreLinksOf self.now.model (events self.now.log) result.now }
+    /// of an edge, and wherever the log has an edge a path of them leads.
+    ///
+    /// # Errors
+    /// `NoMemory` where the list could not be had; the book stays as it is.
+    pub fn links(&self) -> Result<Vec<Link>, NoMemory>
+        ensures { IfOk result (λ links. AreLinksOf self.now.model (events self.now.log) links.items) }
     {
         self.arrangement.links()
     }

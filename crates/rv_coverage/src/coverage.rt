@@ -43,9 +43,10 @@ pub fn coverage_of(alloc: Global, book: &Book) -> Result<Coverage, NoMemory>
     ensures { IfOk result (IsCoverage book.now.model book.now.log) }
 {
     let log = book.log();
+    let links = book.links()?;
     Ok(Coverage {
         events: event_counts(alloc, log)?,
-        links: link_counts(alloc, book.links())?,
+        links: link_counts(alloc, links.as_slice())?,
         reads: read_counts(alloc, book)?,
         harts: count_harts(log),
         pairs: count_pairs(alloc, log)?,

@@ -262,14 +262,17 @@ impl History {
         self.versions.entries()
     }
 
-    /// The links that the history keeps, one event after the other. It takes no memory.
+    /// The links that the history keeps, one event after the other.
     ///
     /// Each is of an edge of the history, and wherever it has an edge a path of them leads.
-    pub fn links(&self) -> &[Link]
-        ensures value { result.now ≡ links_of self.now.kept }
+    ///
+    /// # Errors
+    /// `NoMemory` where the list could not be had.
+    pub fn links(&self) -> Result<Vec<Link>, NoMemory>
+        ensures value { IfOk result (λ links. links.items ≡ links_of self.now.kept) }
         ensures carried { IsCarried self.now.model self.now.kept }
     {
-        self.links.all()
+        self.links.all(self.alloc)
     }
 
     /// The links that the history keeps, each with both of its ends, one event after the other.

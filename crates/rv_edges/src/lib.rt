@@ -2,7 +2,8 @@
 //!
 //! A [`History`] is a list of events, each kept with links to the events before it.
 //! [`History::around`] finds the links of a new event; [`History::push`] adds the event with them,
-//! [`History::pop`] takes the last one off. Listed and kept links carry every edge: wherever the
+//! [`History::pop`] takes the last one off. [`History::known`] looks up once what both ask of the
+//! event, for [`History::around_in`] and [`History::push_known`]. Listed and kept links carry every edge: wherever the
 //! log has an edge between two events, a path of links leads from the one to the other. So an order
 //! that respects the links respects all edges.
 //!
@@ -13,7 +14,7 @@
 //! decides each edge is `rv_event`'s.
 //!
 //! - `history`: the history, its links and what it keeps of harts and versions.
-//! - `links`: lists of links.
+//! - `links`: lists of links. `packed_link`: a link in 6 bytes.
 //! - `ties`: links with both of their ends.
 //! - `specs/`: events with their links (`Kept`), what links promise (`Histories`), links as pairs of
 //!   ids (`Ties`), what is kept of harts (`Indexes`).
@@ -24,6 +25,7 @@
 
 mod history;
 mod links;
+mod packed_link;
 mod ties;
 
 pub use history::{Around, History, Known, Room};

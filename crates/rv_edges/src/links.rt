@@ -1,14 +1,15 @@
 //! Lists of links.
-ghost use Rattle.std.specs.Prelude.{◌≡◌, ◌≢◌, ◌++◌, ◌∷◌, [], IfOk, OnOk, OnErr, ◌≤◌, length};
+ghost use Rattle.std.specs.Prelude.{◌≡◌, ◌≢◌, ◌++◌, ◌∷◌, [], IfOk, OnOk, OnErr, ◌≤◌, length, take};
 ghost use Rattle.std.specs.List.{flat_map};
 ghost use Rattle.rv_event.specs.Log.{events};
 ghost use Rattle.rv_edges.specs.Kept.{kept_from};
 ghost use Rattle.rv_edges.specs.OwnLinks.{OwnLinks, own_from, total};
 ghost use Rattle.rv_edges.specs.Ties.{ties_of};
 
+use crate::packed_link::{PackedLink, push_links};
 use crate::ties::{Tie, push_ties};
 use rv_event::{Entry, Link, NoMemory};
-use std::alloc::{AllocError, Global};
+use std::alloc::Global;
 use std::marker::Model;
 
 /// Links, seen by contracts as their list.
@@ -77,7 +78,7 @@ impl Sides {
 /// it.
 #[derive(Drop)]
 pub struct KeptLinks {
-    links: Vec<Link>,
+    links: Vec<PackedLink>,
     sides: Vec<Sides>,
 }
 
@@ -103,11 +104,14 @@ impl KeptLinks {
         }
     }
 
-    /// All links, one event after the other. It takes no memory.
-    pub fn all(&self) -> &[Link]
-        ensures { result.now ≡ flat_map (λ own. own.before ++ own.after) self.now }
+    /// All links, one event after the other.
+    ///
+    /// # Errors
+    /// `NoMemory` where the list could not be had.
+    pub fn all(&self, alloc: Global) -> Result<Vec<Link>, NoMemory>
+        ensures { IfOk result (λ links. links.items ≡ flat_map (λ own. own.before ++ own.after) self.now) }
     {
-        self.links.as_slice()
+        unpacked(alloc, self.links.as_slice())
     }
 
     /// All links with both of their ends, one event of the log after the other.
@@ -134,10 +138,10 @@ impl KeptLinks {
     {
         let sides = Sides::of(before, after)?;
         self.sides.reserve(1)?;
-        self.links.extend_from_slice(before)?;
-        let extended = self.links.extend_from_slice(after);
-        if let Err(AllocError) = extended {
-            self.links.truncate(self.links.len() - before.len());
+        let count = self.links.len();
+        let packed = push_both(&mut self.links, before, after);
+        if let Err(NoMemory) = packed {
+            self.links.truncate(count);
             return Err(NoMemory);
         }
         self.sides.push_reserved(sides);
@@ -156,11 +160,34 @@ impl KeptLinks {
     }
 }
 
+/// Puts the one list's links and then the other's behind those that the list has.
+///
+/// # Errors
+/// `NoMemory` where a link could not be kept; the list may have some of them then.
+fn push_both(list: &mut Vec<PackedLink>, before: &[Link], after: &[Link]) -> Result<(), NoMemory>
+    ensures pushed { OnOk result (list.new.items ≡ list.old.items ++ (before.now ++ after.now)) }
+    ensures kept { take (length list.old.items) list.new.items ≡ list.old.items }
+{
+    push_links(list, before)?;
+    push_links(list, after)
+}
+
+/// The links in a list of their own.
+fn unpacked(alloc: Global, packed: &[PackedLink]) -> Result<Vec<Link>, NoMemory>
+    ensures { IfOk result (λ links. links.items ≡ packed.now) }
+{
+    let mut links = Vec::with_capacity(alloc, packed.len())?;
+    for link in packed {
+        links.push(link.link())?;
+    }
+    Ok(links)
+}
+
 /// The links with both of their ends: so many are of the first entry, and so on.
 fn ties_from(
     alloc: Global,
     log: &[Entry],
-    links: &[Link],
+    links: &[PackedLink],
     sides: &[Sides],
 ) -> Result<Vec<Tie>, NoMemory>
     requires long { length sides.now ≤ length log.now }

@@ -2,7 +2,8 @@
 ghost use Rattle.std.specs.Prelude.{◌≡◌, ◌++◌, OnOk};
 ghost use Rattle.rv_edges.specs.Ties.{ties_around};
 
-use rv_event::{Id, Link, NoMemory};
+use crate::packed_link::PackedLink;
+use rv_event::{Id, NoMemory};
 
 /// A link with both of its ends: an edge leads from the one event to the other.
 #[derive(Clone, Copy, PartialEq, Eq, Debug)]
@@ -20,21 +21,21 @@ pub struct Tie {
 pub fn push_ties(
     ties: &mut Vec<Tie>,
     id: Id,
-    before: &[Link],
-    after: &[Link],
+    before: &[PackedLink],
+    after: &[PackedLink],
 ) -> Result<(), NoMemory>
     ensures { OnOk result (ties.new.items ≡ ties.old.items ++ ties_around id before.now after.now) }
 {
     for source in before {
         ties.push(Tie {
-            from: source.id,
+            from: source.link().id,
             to: id,
         })?;
     }
     for target in after {
         ties.push(Tie {
             from: id,
-            to: target.id,
+            to: target.link().id,
         })?;
     }
     Ok(())

@@ -1,5 +1,6 @@
 -- What the two searches find together.
-use Rattle.rv_rank.proofs.Common.{◌≡◌, ℕ, ◌<◌, ◌≤◌, ◌&&◌, true, false, not, List, [], ◌++◌, length, get_or, reverse, inl, inr}
+use Rattle.rv_rank.proofs.Common.{◌≡◌, ℕ, ◌<◌, ◌≤◌, ◌&&◌, true, false, not, List, [], ◌++◌, length, get_or, reverse}
+use Rattle.rv_rank.proofs.Common.{inl, inr}
 use Rattle.rv_rank.proofs.Common.{sym, ◌∙◌, arith, ap, All, Contains, All-contains, filter_passes, common_steps}
 use Rattle.rv_rank.proofs.Common.{and_parts, cases_lt, lt-ltb, le-ltb, false≢true, nat_lt, IsCircle, IsTrail}
 use Rattle.rv_rank.proofs.Common.{IsOrder, Ordering, IsSearched, IsTraced, IsFound, found_ahead, found_behind, Found}
@@ -53,7 +54,8 @@ pub found_none : (edges : List (List ℕ)) (order : Ordering) (preds : List ℕ)
     found.low ≡ length order.ranks → found.split ≡ 0 → ((a : ℕ) → has_bit found.ahead a ≡ false) →
     ((a : ℕ) → has_bit found.behind a ≡ false) → IsFound edges order preds [] found []
 found_none edges order preds found at none ahead behind =
-    let no_ahead : found_ahead order.nodes found.ahead ≡ [] = filter_none (has_bit found.ahead) order.nodes (λ k l. ahead (get_or order.nodes k 0)) in
+    let no_ahead : found_ahead order.nodes found.ahead ≡ [] =
+    filter_none (has_bit found.ahead) order.nodes (λ k l. ahead (get_or order.nodes k 0)) in
     let lacks : (a : ℕ) → is_behind_in found order.ranks a ≡ false =
     λ a. ap (λ x. x && not (nat_lt (get_or order.ranks a 0) found.low)) (behind a) in
     let no_behind : found_behind found.low order found.behind ≡ [] =
@@ -72,7 +74,8 @@ found_none edges order preds found at none ahead behind =
       split = none ∙ sym (ap length no_ahead);
     }
 
-module _ (edges : List (List ℕ)) (order : Ordering) (preds succs : List ℕ) (found : Found) (o : IsOrder edges order.ranks)
+module _ (edges : List (List ℕ)) (order : Ordering) (preds succs : List ℕ) (found : Found)
+    (o : IsOrder edges order.ranks)
     (h : IsSearched edges order.ranks succs found.low found.ahead (length order.ranks))
     (t : IsTraced edges order.ranks preds found.behind found.low) where
   ahead_full : (a : ℕ) → IsAhead edges succs a → Has found.ahead a

@@ -14,7 +14,8 @@ filter_same t u (x ∷ xs) h =
     ap (λ b. cond b (x ∷ filter t xs) (filter t xs)) (h 0 (omega arith)) ∙ ap (λ l. cond (u x) (x ∷ l) l) rest
 
 -- where none passes nothing is listed
-pub filter_none : (t : ℕ → Bool) (xs : List ℕ) → ((k : ℕ) → k < length xs → t (get_or xs k 0) ≡ false) → filter t xs ≡ []
+pub filter_none : (t : ℕ → Bool) (xs : List ℕ) → ((k : ℕ) → k < length xs → t (get_or xs k 0) ≡ false) →
+    filter t xs ≡ []
 filter_none t [] h = refl
 filter_none t (x ∷ xs) h =
     let rest = filter_none t xs (λ k l. h (suc k) (omega arith)) in

@@ -49,6 +49,12 @@ module _ (edges : List (List ℕ)) (order : Ordering) (preds succs : List ℕ) (
   abbrev f : ℕ → Bool
   f = is_ahead_in found
 
+  abbrev forward : List ℕ
+  forward = found_ahead order.nodes found.ahead
+
+  abbrev backward : List ℕ
+  backward = found_behind low order found.behind
+
   ahead_within : (a : ℕ) → f a ≡ true → (a < length order.ranks) × (low ≤ get_or order.ranks a 0) ×
       (get_or order.ranks a 0 < length order.ranks)
   ahead_within a e = let w = h.within a e in (w.0, w.1, o.below a w.0)
@@ -93,19 +99,19 @@ module _ (edges : List (List ℕ)) (order : Ordering) (preds succs : List ℕ) (
   visits_each a w =
       let i = inverse.back a w.1 in
       rw h.visits (elim w.0 [
-        | inl x ↦ Contains-append_left (found_ahead order.nodes found.ahead) (reverse (found_behind low order found.behind)) a
+        | inl x ↦ Contains-append_left forward (reverse backward) a
             (contains_passing f order.nodes (get_or order.ranks a 0) a i.0 i.1 (h.all_ahead a x))
-        | inr x ↦ Contains-append_right (found_ahead order.nodes found.ahead) (reverse (found_behind low order found.behind)) a
-            (Contains-permutation (found_behind low order found.behind) (reverse (found_behind low order found.behind)) a
-            (IsPermutation-reverse (found_behind low order found.behind))
+        | inr x ↦ Contains-append_right forward (reverse backward) a
+            (Contains-permutation backward (reverse backward) a
+            (IsPermutation-reverse backward)
             (contains_passing b order.nodes (get_or order.ranks a 0) a i.0 i.1 (h.all_behind a x)))
       ])
 
   visits_cases : (a : ℕ) → Contains list a → (f a ≡ true) ⊎ (b a ≡ true)
   visits_cases a w =
       let c = rw h.visits at w in
-      let back = found_behind low order found.behind in
-      elim (Contains-append_cases (found_ahead order.nodes found.ahead) (reverse back) a c) [
+      let back = backward in
+      elim (Contains-append_cases forward (reverse back) a c) [
         | inl x ↦ inl (passing f order.nodes a x)
         | inr x ↦ inr (passing b order.nodes a (Contains-permutation (reverse back) back a
             (IsPermutation-sym back (reverse back) (IsPermutation-reverse back)) x))
@@ -121,15 +127,15 @@ module _ (edges : List (List ℕ)) (order : Ordering) (preds succs : List ℕ) (
   -- where a visited node stands among the visits
   place : ℕ → ℕ
   place a = cond (f a) (count_to f order.nodes (get_or order.ranks a 0))
-      (length (found_ahead order.nodes found.ahead) + (length (found_behind low order found.behind) - 1 - count_to b
+      (length forward + (length backward - 1 - count_to b
       order.nodes (get_or order.ranks a 0)))
 
-  visit_at : (k : ℕ) → k < length (found_ahead order.nodes found.ahead ++ reverse (found_behind low order found.behind)) →
-      place (get_or (found_ahead order.nodes found.ahead ++ reverse (found_behind low order found.behind)) k 0) ≡ k
+  visit_at : (k : ℕ) → k < length (forward ++ reverse backward) →
+      place (get_or (forward ++ reverse backward) k 0) ≡ k
   unfolding place
   visit_at k l =
-      let first = found_ahead order.nodes found.ahead in
-      let back = found_behind low order found.behind in
+      let first = forward in
+      let back = backward in
       let long = length-append first (reverse back) in
       let turned = length-reverse back in
       elim (cases_lt k (length first)) [

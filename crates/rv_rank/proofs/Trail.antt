@@ -2,7 +2,8 @@
 use Rattle.rv_rank.proofs.Common.{◌≡◌, ℕ, suc, zero, ◌+◌, ◌-◌, ◌<◌, List, [], ◌∷◌, ◌++◌, length, get_or, reverse}
 use Rattle.rv_rank.proofs.Common.{inl, inr, sym, ◌∙◌, arith, ap, Contains, get_or-reverse, length-reverse}
 use Rattle.rv_rank.proofs.Common.{get_or_push, get_or_append_left, length_push, cases_lt, common_steps, Edge}
-use Rattle.rv_rank.proofs.Common.{IsOrder, IsTrail, IsSearched, Has, has_bit, All, All-contains, false≢true, false, IsAhead, OnlyAhead, Contains-push_cases}
+use Rattle.rv_rank.proofs.Common.{IsOrder, IsTrail, IsSearched, Has, has_bit, All, All-contains, false≢true, false}
+use Rattle.rv_rank.proofs.Common.{IsAhead, OnlyAhead, Contains-push_cases}
 use Rattle.rv_rank.proofs.Searching.{last_edge, reached_found}
 
 -- the way back from a node as far as another

@@ -3,7 +3,8 @@
 //!
 //! A node is placed together with its edges from older nodes (its predecessors) and to older nodes
 //! (its successors). Where the new edges would close a circle, a path of kept edges from a
-//! successor to a predecessor is given in place of a new order. The crate stands on std alone.
+//! successor to a predecessor is given in place of a new order. The crate stands on the sets of
+//! `rv_rows`.
 //!
 //! The one contract above it is that of `Ranks::place`: each edge goes from the lower rank to the
 //! higher, or a path shows a circle; only the affected nodes have new ranks, and only they are

@@ -1,7 +1,8 @@
 //! The nodes by rank, and the ranks by node.
 //!
 //! Either table takes 4 bytes a node and grows by a quarter, as the head comment of `walk` adds up.
-ghost use Rattle.std.specs.Prelude.{◌≡◌, ◌<◌, ◌≤◌, ◌⊎◌, ◌+◌, ℕ, List, [], length, slice_index, slice_set, IfOk};
+ghost use Rattle.std.specs.Prelude.{◌≡◌, ◌<◌, ◌≤◌, ◌⊎◌, ◌+◌, ℕ, List, [], length};
+ghost use Rattle.std.specs.Prelude.{slice_index, slice_set, IfOk};
 ghost use Rattle.std.specs.Prelude.{OnOk, vec_len, vec_capacity};
 ghost use Rattle.std.specs.List.{All, Contains};
 ghost use Rattle.rv_rank.specs.Local.{IsLocal};
@@ -157,7 +158,8 @@ fn mend_all(nodes: &mut [u32], ranks: &mut [u32], found: &Found, visits: &[u32])
     ensures last { result ≡ slice_index (members_in found.now visits.now (length nodes.old))
         (length visits.now) }
     ensures mended { (mid : List ℕ) × (ranks.new ≡ slice_set mid result (length nodes.old))
-        × IsMended (slot_in found.now nodes.old) (members_in found.now visits.now (length nodes.old))
+        × IsMended (slot_in found.now nodes.old)
+        (members_in found.now visits.now (length nodes.old))
         nodes.old ranks.old nodes.new mid (length nodes.old) }
 {
     mend(nodes, ranks, found, visits);
@@ -172,7 +174,8 @@ fn mend(nodes: &mut [u32], ranks: &mut [u32], found: &Found, visits: &[u32])
     requires small { length nodes.old < 65536 }
     requires roster { IsRoster found.now nodes.old ranks.old visits.now }
     requires top { NoneFrom found.now nodes.old found.now.top }
-    ensures { IsMended (slot_in found.now nodes.old) (members_in found.now visits.now (length nodes.old))
+    ensures { IsMended (slot_in found.now nodes.old)
+        (members_in found.now visits.now (length nodes.old))
         nodes.old ranks.old nodes.new ranks.new (length nodes.old) }
 {
     let new = nodes.len() as u32;

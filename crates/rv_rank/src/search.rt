@@ -4,14 +4,15 @@
 //! successors meets each of them after all that lead to it, and a pass by falling rank over those
 //! found from the predecessors meets each before all that lead to it. Neither pass needs a
 //! worklist, and each node is visited once. No pass goes above the highest rank that was marked.
-ghost use Rattle.std.specs.Prelude.{◌≡◌, ◌↔◌, ℕ, ◌<◌, List, [], ◌≤◌, ◌*◌, ◌++◌, length, reverse, false};
+ghost use Rattle.std.specs.Prelude.{◌≡◌, ℕ, ◌<◌, [], ◌≤◌, ◌*◌, ◌++◌, length, reverse, false};
 ghost use Rattle.std.specs.Prelude.{slice_index, IfOk, IfErr, OnErr, MatchOption};
 ghost use Rattle.std.specs.List.{All, Contains};
 ghost use Rattle.rv_rows.specs.Bits.{Has, has_bit};
 ghost use Rattle.rv_rank.specs.Graph.{IsOrder, IsTrail};
 ghost use Rattle.rv_rank.specs.Order.{IsInverse};
 ghost use Rattle.rv_rank.specs.Sets.{AreBelow, IsJoined, IsSearched, IsTraced, OnlyAhead};
-ghost use Rattle.rv_rank.specs.Found.{IsSameGraph, IsFound, NoneFrom, found_ahead, found_behind, is_in};
+ghost use Rattle.rv_rank.specs.Found.{IsSameGraph, IsFound, NoneFrom};
+ghost use Rattle.rv_rank.specs.Found.{found_ahead, found_behind, is_in};
 ghost use Rattle.rv_rank.specs.Placing.{IsRefusal, OnlyAffected};
 
 use crate::order::Order;
@@ -20,9 +21,9 @@ use crate::walk::Walk;
 use rv_rows::BitSet;
 use std::alloc::{AllocError, Global};
 
-/// The affected nodes: those found forward and those found backward, the least rank of a successor,
-/// a rank from which on none was found, and how many of the visits were made forward. The set of
-/// those found backward may have nodes of lower ranks, which are not affected.
+/// What a search found: the nodes ahead and those behind, as sets, the least rank of a successor, a
+/// rank from which on none was found, and how many of the visits were made forward. The set behind
+/// may have nodes of lower ranks than `low`, which are not affected.
 #[derive(Drop)]
 pub struct Found {
     pub low: usize,
@@ -223,7 +224,8 @@ fn trail(
 ) -> Result<Vec<u32>, AllocError>
     requires ordered { IsOrder walk.old.edges order.now.ranks }
     requires searched { (low : ℕ)
-        × IsSearched walk.old.edges order.now.ranks succs.now low ahead.now (length order.now.ranks) }
+        × IsSearched walk.old.edges order.now.ranks succs.now low ahead.now
+        (length order.now.ranks) }
     requires nodes { (a : ℕ) → Has ahead.now a → a < length order.now.ranks }
     requires found { Has ahead.now end }
     requires affected { OnlyAhead walk.old.edges order.now.ranks succs.now walk.old.visits }

@@ -13,9 +13,8 @@
 //! edge twice, both mentions count.
 //!
 //! Beyond this are some 200 bytes for each keeper, room that a refused placement made in vain, and,
-//! until a call returns, the marks of a placement with successors, 8 bytes for each rank from the
-//! least of theirs on, the path that `Circle` gives, and the old block of a table or a list that
-//! grows.
+//! until a call returns, the two sets of a placement with successors, a bit for each node in either,
+//! the path that `Circle` gives, and the old block of a table or a list that grows.
 ghost use Rattle.std.specs.Prelude.{◌≡◌, ◌<◌, ◌≤◌, ◌+◌, ◌*◌, ◌%◌, ◌-◌, ◌^◌, ◌↔◌, ◌++◌, ℕ, [], ◌∷◌, length};
 ghost use Rattle.std.specs.Prelude.{slice_index_or, max, ◌/◌, vec_len, vec_capacity, IsTrue, OnOk, OnErr};
 ghost use Rattle.std.specs.List.{All, Contains};

@@ -3,7 +3,7 @@ use Rattle.std.proofs.Common.{◌∙◌, ap, sym, subst, ◌≤◌, length, List
 use Rattle.rv_event.proofs.Bounded.{length-WellFormed}
 use Rattle.rv_event.specs.Log.{events}
 use Rattle.rv_event.specs.declared.event.Entry.{Entry}
-use Rattle.rv_coverage.specs.Counts.{event_counts, harts_of, pairs_of}
+use Rattle.rv_coverage.specs.Counts.{event_counts, harts_of, link_counts, pairs_of}
 use Rattle.rv_coverage.proofs.coverage.coverage_of.Goals as goal
 
 pub count_pairs-requires : goal.count_pairs-requires
@@ -14,10 +14,10 @@ count_pairs-requires c = record {
 
 pub returns : goal.returns
 returns c = record {
-  kept = c.links.result.now;
-  of_log = c.links.ensures;
+  kept = c.in_ok-links.links.items;
+  of_log = c.in_ok-links.ensures;
   events_are = c.in_ok-event_counts.ensures ∙ ap event_counts c.log-log.ensures.value;
-  links_are = c.in_ok-link_counts.ensures;
+  links_are = c.in_ok-link_counts.ensures ∙ ap link_counts c.as_slice.ensures.value;
   reads_are = c.in_ok-read_counts.ensures;
   harts_are = c.count_harts.ensures ∙ ap harts_of c.log-log.ensures.value;
   pairs_are = c.in_ok-count_pairs.ensures ∙ ap (λ (l : List Entry). pairs_of (events l)) c.log-log.ensures.value;

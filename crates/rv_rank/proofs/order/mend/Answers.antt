@@ -1,4 +1,5 @@
-use Rattle.rv_rank.proofs.Common.{rules, arith, get_or, length, ◌≡◌, ◌<◌, ◌≤◌, ◌&&◌, sym, ◌∙◌, ap, refl, not, common_steps, slot_in, is_in, members_of, nat_lt, lt-ltb, le-ltb, false≢true}
+use Rattle.rv_rank.proofs.Common.{rules, arith, get_or, length, ◌≡◌, ◌<◌, ◌≤◌, ◌&&◌, sym, ◌∙◌, ap, refl, not}
+use Rattle.rv_rank.proofs.Common.{common_steps, slot_in, is_in, members_of, nat_lt, lt-ltb, le-ltb, false≢true}
 use Rattle.std.proofs.lemmas.Bool.{and_left}
 use Rattle.rv_rank.proofs.Slots.{below_yes, below_no, below_mono, below_none, below_few, members_of-long}
 use Rattle.rv_rank.proofs.Slots.{IsMended-all, IsMended-more, IsMended-skip}
@@ -10,7 +11,8 @@ loop-rank-init c =
     let found = c.args.found.now in
     let nodes = c.args.nodes.now in
     let none = below_none (slot_in found nodes) found.low (λ k l.
-    and_left (not (nat_lt k found.low)) (is_in found.ahead found.behind (get_or nodes k 0)) (ap not (lt-ltb k found.low l))) in
+    and_left (not (nat_lt k found.low)) (is_in found.ahead found.behind (get_or nodes k 0))
+    (ap not (lt-ltb k found.low l))) in
     record {
       mended = record {
         long_nodes = refl;

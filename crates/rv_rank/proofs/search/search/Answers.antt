@@ -69,7 +69,8 @@ returns-clause-found c =
       ahead = c.sweep_forward-top.new.ahead;
       behind = c.sweep_backward-end.new.behind;
     })
-    c.requires.ordered c.sweep_forward-top.ensures.searched traced c.sweep_forward-top.result c.sweep_backward-end.result
+    c.requires.ordered c.sweep_forward-top.ensures.searched traced c.sweep_forward-top.result
+    c.sweep_backward-end.result
     c.sweep_forward-top.new.walk.visits c.sweep_backward-end.new.walk.visits c.sweep_forward-top.ensures.below
     c.sweep_backward-end.ensures.below c.in_default.ensures lowest.least lowest.within
     (λ l. elim lowest.some [ inl e ↦ absurd (omega (arith, e, l)) | inr w ↦ w ])

@@ -1,5 +1,7 @@
-use Rattle.rv_rank.proofs.Common.{rules, arith, get_or, [], length, drop, reverse, filter, ◌≡◌, ◌<◌, ◌≤◌, ◌+◌, ◌-◌, ◌++◌, ◌∙◌, refl, ap, sym, ℕ, true, false, not, inl, inr}
-use Rattle.rv_rank.proofs.Common.{common_steps, Contains-get_or, length-drop, length-append, length-reverse, Has, has_bit, is_traced, nat_lt, ◌&&◌, AreBelow}
+use Rattle.rv_rank.proofs.Common.{rules, arith, get_or, [], length, drop, reverse, filter, ◌≡◌, ◌<◌, ◌≤◌, ◌+◌, ◌-◌}
+use Rattle.rv_rank.proofs.Common.{◌++◌, ◌∙◌, refl, ap, sym, ℕ, true, false, not, inl, inr}
+use Rattle.rv_rank.proofs.Common.{common_steps, Contains-get_or, length-drop, length-append, length-reverse, Has}
+use Rattle.rv_rank.proofs.Common.{has_bit, is_traced, nat_lt, ◌&&◌, AreBelow}
 use Rattle.std.proofs.lemmas.Bool.{false_from_ne_true}
 use Rattle.rv_rank.proofs.Listing.{listed_all_few, listed_down_more, listed_from, listed_past}
 use Rattle.rv_rank.proofs.Growth.{edge_from}
@@ -20,7 +22,8 @@ loop-rank-init c =
     listed_past (is_traced low ranks new) nodes end (λ k from l.
     let here = c.requires.inverse.there k l in
     false_from_ne_true (is_traced low ranks new (get_or nodes k 0)) (λ m.
-    omega (arith, (marked.below (get_or nodes k 0) (traced_is low ranks new (get_or nodes k 0) m).0).1, here.1, from))) in
+    let w = traced_is low ranks new (get_or nodes k 0) m in
+    omega (arith, (marked.below (get_or nodes k 0) w.0).1, here.1, from))) in
     record {
       traced = IsTraced-start c.args.walk.now.edges ranks c.args.preds.now c.requires.ordered c.args.behind.now new
           end c.requires.empty marked.joined marked.below;

@@ -1,4 +1,5 @@
-use Rattle.rv_rank.proofs.Common.{rules, arith, get_or, [], length, take, filter, ◌≡◌, ◌<◌, ◌≤◌, ◌∙◌, refl, ap, sym, ℕ, false}
+use Rattle.rv_rank.proofs.Common.{rules, arith, get_or, [], length, take, filter, ◌≡◌, ◌<◌, ◌≤◌, ◌∙◌, refl, ap, sym, ℕ}
+use Rattle.rv_rank.proofs.Common.{false}
 use Rattle.rv_rank.proofs.Common.{common_steps, length-take, Has, has_bit}
 use Rattle.rv_rank.proofs.Listing.{listed_all_few, listed_none, listed_more, listed_skip, listed_to}
 use Rattle.rv_rank.proofs.Searching.{IsSearched-start, IsSearched-more, IsSearched-skip, targets_below}
@@ -19,7 +20,8 @@ loop-rank-init c =
     let none : filter (has_bit new) (take low nodes) ≡ [] =
     listed_none (has_bit new) nodes low (λ k b l.
     let here = c.requires.inverse.there k l in
-    false_from_ne_true (has_bit new (get_or nodes k 0)) (λ m. omega (arith, searched.high (get_or nodes k 0) m, here.1, b))) in
+    false_from_ne_true (has_bit new (get_or nodes k 0)) (λ m.
+    omega (arith, searched.high (get_or nodes k 0) m, here.1, b))) in
     record {
       searched = searched;
       visits = c.requires.begun ∙ sym none;
@@ -37,7 +39,8 @@ returns-then-rank-top-clause-visits c =
     let above : c.loop-rank.top ≤ c.loop-rank.rank = search rules in
     inv.visits ∙ listed_to (has_bit ahead) nodes c.loop-rank.rank (λ k from l.
     let here = c.requires.inverse.there k l in
-    false_from_ne_true (has_bit ahead (get_or nodes k 0)) (λ m. omega (arith, (inv.below (get_or nodes k 0) m).1, here.1, above, from)))
+    false_from_ne_true (has_bit ahead (get_or nodes k 0)) (λ m.
+    omega (arith, (inv.below (get_or nodes k 0) m).1, here.1, above, from)))
 
 pub forward-requires-clause-room : goal.forward-requires-clause-room
 forward-requires-clause-room c = search (listed_all_few, length-take, rules)

@@ -17,7 +17,7 @@ module _ (c : goal.After-push_reserved) where
   sides : c.push_reserved.new.self.items ≡ c.self.inside.sides.items ++ sides_of before after ∷ []
   sides = grind (arith, common_steps)
 
-  links : c.extend_from_slice-extended.new.self.items ≡ old ++ (before ++ after)
+  links : c.push_both-packed.new.list.items ≡ old ++ (before ++ after)
   links = grind (arith, common_steps)
 
 pub invariant_of-self-2 : goal.invariant_of-self-2
