@@ -213,7 +213,24 @@ fn first_of(set: &BitSet, nodes: &[u32]) -> Option<u32>
     None
 }
 
-/// A way on which edges lead from a successor to `end`, which was found forward.
+/// Of the nodes that the set has, the one of the lowest rank.
+fn lowest_of(order: &Order, set: &BitSet, nodes: &[u32]) -> Option<u32>
+    requires { All (λ a. a < length order.now.ranks) nodes.now }
+    ensures { MatchOption result
+        (All (λ a. has_bit set.now a ≡ false) nodes.now)
+        (λ a. Contains nodes.now a × Has set.now a) }
+{
+    let mut lowest = first_of(set, nodes)?;
+    for node in nodes {
+        if set.has(*node as usize) && order.rank(*node) < order.rank(lowest) {
+            lowest = *node;
+        }
+    }
+    Some(lowest)
+}
+
+/// A way on which edges lead from a successor to `end`, which was found forward. Each node but the
+/// first is led to from that of the lowest rank that was found, so the way leaves out what it can.
 fn trail(
     alloc: Global,
     walk: &mut Walk,
@@ -239,7 +256,7 @@ fn trail(
     path.push(end)?;
     let mut node = end;
     while !succs.contains(&node) {
-        let Some(from) = first_of(ahead, walk.backward(node)) else {
+        let Some(from) = lowest_of(order, ahead, walk.backward(node)) else {
             unreachable!()
         };
         path.push(from)?;

@@ -1,6 +1,7 @@
-use Rattle.rv_rank.proofs.Common.{arith, length, ◌∙◌, ap, sym}
-use Rattle.rv_rank.proofs.Common.{common_steps, false≢true, length_push}
+use Rattle.rv_rank.proofs.Common.{arith, get_or, length, ◌∙◌, ap, sym}
+use Rattle.rv_rank.proofs.Common.{Contains-get_or, common_steps, false≢true, length_push}
 use Rattle.rv_rank.proofs.Lists.{list_any-contains, contains-list_any}
+use Rattle.rv_rank.proofs.Growth.{edge_from}
 use Rattle.rv_rank.proofs.Trail.{IsWayBack-more, some_source, IsTrail-reverse, only_more}
 use Rattle.rv_rank.proofs.search.trail.Goals as goal
 
@@ -50,3 +51,11 @@ returns-clause-trail c =
     rw c.reverse.ensures.items (IsTrail-reverse c.args.walk.now.edges c.args.order.now.ranks c.args.succs.now
     c.args.ahead.now c.args.end c.loop-walk.node c.loop-walk.path.items c.requires.ordered inv.way
     (contains-list_any c.args.succs.now c.loop-walk.node (sym c.contains.ensures.value ∙ c.loop-walk-test.false)))
+
+pub lowest_of-requires : goal.lowest_of-requires
+lowest_of-requires c = λ k d l.
+    let inv = c.loop-walk.invariant in
+    let e = (c.backward.ensures.value (get_or c.backward.result.now k d)).0
+    (Contains-get_or c.backward.result.now k d l) in
+    let b = edge_from c.loop-walk.walk.edges (get_or c.backward.result.now k d) c.loop-walk.node e in
+    omega (arith, b, ap length inv.same.edges, c.requires.ordered.long)
