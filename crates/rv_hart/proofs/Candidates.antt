@@ -12,6 +12,14 @@ pub record AreAdded (h : Hart) (e : Event) (k : ℕ) (first row : List ℕ) : Ty
   pub kept : (s : ℕ) → Has first s → Has row s
   pub each : (j s : ℕ) → 2 < j → j ≤ k → IsOrderedBy h e j s → Has row s
 
+-- no rule has added anything yet
+pub added-none : (h : Hart) (e : Event) (first : List ℕ) → AreAdded h e 2 first first
+added-none h e first = record {
+  sound = λ s x. inl x;
+  kept = λ s x. x;
+  each = λ j s above few x. absurd (omega (arith, above, few));
+}
+
 -- one rule more
 pub added-more : (h : Hart) (e : Event) (k : ℕ) (first row row' : List ℕ) → AreAdded h e k first row →
     Adds h e (k + 1) row row' → AreAdded h e (k + 1) first row'
