@@ -130,8 +130,8 @@ impl KeptLinks {
     /// Adds those of one event more.
     ///
     /// # Errors
-    /// `NoMemory` where a list could not grow, and where a side has 2^32 links or more; nothing
-    /// changes.
+    /// `NoMemory` where a list could not grow, where a side has 2^32 links or more, and where the
+    /// number of a link's event within its hart is above 65,535; nothing changes.
     pub fn append(&mut self, before: &[Link], after: &[Link]) -> Result<(), NoMemory>
         ensures pushed { OnOk result (self.new ≡ self.old ++ record { before = before.now; after = after.now } ∷ []) }
         ensures unchanged { OnErr result (self.new ≡ self.old) }
