@@ -1,5 +1,5 @@
 //! A link, as it is kept.
-ghost use Rattle.std.specs.Prelude.{◌≡◌, ◌++◌, IfOk, OnOk, length, take};
+ghost use Rattle.std.specs.Prelude.{◌≡◌, ◌<◌, ◌++◌, IfOk, OnOk, OnErr, length, take};
 
 use rv_event::{Id, Link, NoMemory, Reason};
 use std::marker::Model;
@@ -28,7 +28,8 @@ impl PackedLink {
     /// # Errors
     /// `NoMemory` where the number of its event within the hart is above 65,535.
     pub fn of(link: Link) -> Result<PackedLink, NoMemory>
-        ensures { IfOk result (λ packed. packed ≡ link) }
+        ensures kept { IfOk result (λ packed. packed ≡ link) }
+        ensures refused { OnErr result (65535 < link.id.seq) }
     {
         match u16::try_from(link.id.seq) {
             Ok(seq) => Ok(PackedLink {
