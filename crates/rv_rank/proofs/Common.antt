@@ -1,6 +1,6 @@
 -- The names that the proofs of this crate share.
-pub use Rattle.rv_rank.specs.Found.{IsFound, IsSameGraph, NoneFrom, found_ahead, found_behind, is_ahead_in}
-pub use Rattle.rv_rank.specs.Found.{is_behind_in, is_in, is_traced, slot_in}
+pub use Rattle.rv_rank.specs.Found.{AreSlots, IsFound, IsSameGraph, found_ahead, found_behind, is_ahead_in}
+pub use Rattle.rv_rank.specs.Found.{is_behind_in, is_traced, slot_in}
 pub use Rattle.rv_rank.specs.Graph.{Edge, IsCircle, IsGrown, IsOrder, IsTrail, Reaches, here, step}
 pub use Rattle.rv_rank.specs.Local.{IsLocal}
 pub use Rattle.rv_rank.specs.Mended.{IsMended, count_below, members_of}
@@ -12,7 +12,7 @@ pub use Rattle.rv_rank.specs.Plan.{IsPlan, IsRoster, members_in}
 pub use Rattle.rv_rank.specs.Ranking.{Ranking}
 pub use Rattle.rv_rank.specs.Rows.{EndsIn, HasRoom, IsAppended, KeepsRoom, Neighbours, degree, incoming_of, other}
 pub use Rattle.rv_rank.specs.Rows.{outgoing_of, rooms_of, row_of, rows_of}
-pub use Rattle.rv_rank.specs.Sets.{AreBelow, IsJoined, IsSearched, IsTraced, OnlyAhead}
+pub use Rattle.rv_rank.specs.Sets.{AreAdded, AreBelow, AreRanked, HasRoomFor, IsJoined, IsSearched, IsTraced, OnlyAhead}
 pub use Rattle.rv_rank.specs.Walking.{IsMirror}
 pub use Rattle.rv_rank.specs.declared.node.Side.{Side}
 pub use Rattle.rv_rank.specs.declared.node.Side.TheVariants.{Incoming, Outgoing}

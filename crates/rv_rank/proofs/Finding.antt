@@ -4,10 +4,8 @@ use Rattle.rv_rank.proofs.Common.{inl, inr}
 use Rattle.rv_rank.proofs.Common.{sym, ◌∙◌, arith, ap, All, Contains, All-contains, filter_passes, common_steps}
 use Rattle.rv_rank.proofs.Common.{and_parts, cases_lt, lt-ltb, le-ltb, false≢true, nat_lt, IsCircle, IsTrail}
 use Rattle.rv_rank.proofs.Common.{IsOrder, Ordering, IsSearched, IsTraced, IsFound, found_ahead, found_behind, Found}
-use Rattle.rv_rank.proofs.Common.{is_traced, is_behind_in, IsAhead, IsInverse, NoneFrom, OnlyAffected}
-use Rattle.rv_rank.proofs.Common.{OnlyAhead, AreBelow, Has, has_bit, ◌||◌}
-use Rattle.rv_rank.specs.Found.{is_in}
-use Rattle.std.proofs.lemmas.Bool.{and_right, false_from_ne_true}
+use Rattle.rv_rank.proofs.Common.{is_traced, is_behind_in, IsAhead, IsInverse, OnlyAffected}
+use Rattle.rv_rank.proofs.Common.{OnlyAhead, AreAdded, AreRanked, Has, has_bit, is_ahead_in, ◌||◌}
 use Rattle.rv_rank.proofs.Listing.{filter_none}
 use Rattle.rv_rank.proofs.Searching.{reached_found}
 use Rattle.rv_rank.proofs.Tracing.{reaching_found}
@@ -35,14 +33,14 @@ pub is_traced-from : (low : ℕ) (ranks behind : List ℕ) (a : ℕ) → Has beh
 is_traced-from low ranks behind a m up = ap (λ x. x && not (nat_lt (get_or ranks a 0) low)) m ∙ ap not (le-ltb _ low up)
 
 -- the visits forward are of nodes found forward
-pub only_ahead : (edges : List (List ℕ)) (nodes ranks succs : List ℕ) (low : ℕ) (ahead : List ℕ) (r top : ℕ)
-    (visits : List ℕ) → IsSearched edges ranks succs low ahead r → AreBelow ranks ahead top →
+pub only_ahead : (edges : List (List ℕ)) (nodes ranks succs : List ℕ) (low : ℕ) (ahead : List ℕ) (r : ℕ)
+    (visits : List ℕ) → IsSearched edges ranks succs low ahead r → ((a : ℕ) → Has ahead a → a < length ranks) →
     visits ≡ found_ahead nodes ahead → OnlyAhead edges ranks succs visits
-only_ahead edges nodes ranks succs low ahead r top visits h below e a w =
+only_ahead edges nodes ranks succs low ahead r visits h below e a w =
     let f = rw e at w in
     let m = All-contains (λ x. has_bit ahead x ≡ true) (found_ahead nodes ahead) a
     (filter_passes (has_bit ahead) nodes) f in
-    (h.found a m, (below a m).0)
+    (h.found a m, below a m)
 
 -- and these are affected
 pub only_affected : (edges : List (List ℕ)) (ranks preds succs list : List ℕ) → OnlyAhead edges ranks succs list →
@@ -52,8 +50,9 @@ only_affected edges ranks preds succs list h a w = (inl (h a w).0, (h a w).1)
 -- without successors nothing is affected
 pub found_none : (edges : List (List ℕ)) (order : Ordering) (preds : List ℕ) (found : Found) →
     found.low ≡ length order.ranks → found.split ≡ 0 → ((a : ℕ) → has_bit found.ahead a ≡ false) →
-    ((a : ℕ) → has_bit found.behind a ≡ false) → IsFound edges order preds [] found []
-found_none edges order preds found at none ahead behind =
+    ((a : ℕ) → has_bit found.behind a ≡ false) → ((r : ℕ) → has_bit found.slots r ≡ false) →
+    IsFound edges order preds [] found []
+found_none edges order preds found at none ahead behind slots =
     let no_ahead : found_ahead order.nodes found.ahead ≡ [] =
     filter_none (has_bit found.ahead) order.nodes (λ k l. ahead (get_or order.nodes k 0)) in
     let lacks : (a : ℕ) → is_behind_in found order.ranks a ≡ false =
@@ -72,6 +71,12 @@ found_none edges order preds found at none ahead behind =
       all_behind = λ a w. absurd (omega (arith, w.0.1.1));
       visits = sym (ap (λ x. x ++ reverse (found_behind found.low order found.behind)) no_ahead ∙ ap reverse no_behind);
       split = none ∙ sym (ap length no_ahead);
+      slots = record {
+        each = λ r l.
+            let a = get_or order.nodes r 0 in
+            slots r ∙ sym (ap (λ x. x || is_ahead_in found a) (lacks a) ∙ ahead a);
+        within = λ r e. absurd (false≢true (sym (slots r) ∙ e));
+      };
     }
 
 module _ (edges : List (List ℕ)) (order : Ordering) (preds succs : List ℕ) (found : Found)
@@ -82,25 +87,27 @@ module _ (edges : List (List ℕ)) (order : Ordering) (preds succs : List ℕ) (
   ahead_full a w = reached_found edges order.ranks succs found.low found.ahead o h w.0 a w.2 (h.begun w.0 w.1)
 
   -- what the two searches have found
-  pub found_both : (top end : ℕ) (first list : List ℕ) → AreBelow order.ranks found.ahead top →
-      AreBelow order.ranks found.behind end → All (λ p. has_bit found.ahead p ≡ false) preds →
+  pub found_both : (first list slots : List ℕ) → IsInverse order.nodes order.ranks →
+      AreRanked order found.ahead slots →
+      ((a : ℕ) → Has found.behind a → a < length order.ranks) →
+      AreAdded (is_traced found.low order.ranks found.behind) order.nodes slots found.slots → All (λ p. has_bit found.ahead p ≡ false) preds →
       All (λ s. found.low ≤ get_or order.ranks s 0) succs → found.low ≤ length order.ranks →
       (found.low < length order.ranks → (s : ℕ) × Contains succs s × (get_or order.ranks s 0 ≡ found.low)) →
       found.split ≡ length first → first ≡ found_ahead order.nodes found.ahead →
       list ≡ first ++ reverse (found_behind found.low order found.behind) →
       IsFound edges order preds succs found list
-  found_both top end first list forward backward free least few lowest n f e = record {
+  found_both first list slots inverse ranked backward added free least few lowest n f e = record {
     few = few;
     lowest = lowest;
     free = λ s p w v r. false≢true (sym (All-contains (λ p. has_bit found.ahead p ≡ false) preds p free v)
         ∙ ahead_full p (s, w, r));
-    within = λ a m. ((forward a m).0, h.high a m);
-    nodes = λ a m. (backward a (traced_is found.low order.ranks found.behind a m).0).0;
+    within = λ a m. (ranked.nodes a m, h.high a m);
+    nodes = λ a m. backward a (traced_is found.low order.ranks found.behind a m).0;
     ahead = h.found;
     all_ahead = ahead_full;
     behind = λ a m.
         let w = traced_is found.low order.ranks found.behind a m in
-        let s = lowest (omega (arith, w.1, o.below a (backward a w.0).0)) in
+        let s = lowest (omega (arith, w.1, o.below a (backward a w.0))) in
         ((s.0, s.1, omega (arith, s.2, w.1)), t.found a w.0);
     all_behind = λ a w.
         let up : found.low ≤ get_or order.ranks a 0 = omega (
@@ -112,18 +119,14 @@ module _ (edges : List (List ℕ)) (order : Ordering) (preds succs : List ℕ) (
         found.behind t a w.1.0 w.1.2 w.1.1 up) up;
     visits = e ∙ ap (λ x. x ++ reverse (found_behind found.low order found.behind)) f;
     split = n ∙ ap length f;
+    slots = record {
+      each = λ r l.
+          let a = get_or order.nodes r 0 in
+          added.ranks r l ∙
+          ap (λ x. is_behind_in found order.ranks a || x) (ranked.same r (omega (arith, l, inverse.long)));
+      within = λ r e. elim (cases_lt r (length order.nodes)) [
+        | inl under ↦ under
+        | inr past ↦ absurd (omega (arith, ranked.within r (sym (added.beyond r past) ∙ e), inverse.long, past))
+      ];
+    };
   }
-
--- where none was found from a rank on, none is affected
-pub none_from : (nodes ranks : List ℕ) (found : Found) (top end : ℕ) → IsInverse nodes ranks →
-    AreBelow ranks found.ahead top → AreBelow ranks found.behind end → top ≤ found.top → end ≤ found.top →
-    NoneFrom found nodes found.top
-unfolding is_in
-none_from nodes ranks found top end h forward backward up low r from l =
-    let a = get_or nodes r 0 in
-    let here = h.there r l in
-    let no_ahead = false_from_ne_true (has_bit found.ahead a) (λ m. omega (arith, (forward a m).1, here.1, from, up)) in
-    let no_behind = false_from_ne_true (has_bit found.behind a) (λ m.
-    omega (arith, (backward a m).1, here.1, from, low)) in
-    and_right (not (nat_lt r found.low)) (is_in found.ahead found.behind a)
-    (ap (λ x. x || has_bit found.ahead a) no_behind ∙ no_ahead)

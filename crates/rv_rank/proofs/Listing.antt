@@ -3,7 +3,7 @@ use Rattle.rv_rank.proofs.Common.{◌≡◌, ℕ, suc, ◌+◌, ◌<◌, ◌≤�
 use Rattle.rv_rank.proofs.Common.{length, get_or, take, drop, reverse, sym, ◌∙◌, arith, ap, refl, length-drop}
 use Rattle.rv_rank.proofs.Common.{filter, drop-cons, get_or-take, get_or-drop, length-take, reverse-append}
 use Rattle.rv_rank.proofs.Common.{take-append-drop, filter_more, filter-append, length-filter, count_by-le-length}
-use Rattle.rv_rank.proofs.Common.{common_steps}
+use Rattle.rv_rank.proofs.Common.{common_steps, zero, cases_eq, cases_lt, inl, inr, take_all}
 use Rattle.std.proofs.lemmas.List.{append-nil}
 
 filter_same : (t u : ℕ → Bool) (xs : List ℕ) →
@@ -44,6 +44,24 @@ listed_more t u xs r l h e =
 pub listed_skip : (t : ℕ → Bool) (xs : List ℕ) (r : ℕ) → r < length xs → t (get_or xs r 0) ≡ false →
     filter t (take r xs) ≡ filter t (take (r + 1) xs)
 listed_skip t xs r l e = grind (arith, common_steps)
+
+-- those that fail, upward
+pub listed_jump : (t : ℕ → Bool) (xs : List ℕ) (r q : ℕ) → r ≤ q →
+    ((k : ℕ) → r ≤ k → k < q → k < length xs → t (get_or xs k 0) ≡ false) →
+    filter t (take r xs) ≡ filter t (take q xs)
+listed_jump t xs r zero l h = let e : r ≡ zero = omega arith in rw e refl
+listed_jump t xs r (suc q) l h = elim (cases_eq r (suc q)) [
+  | inl e ↦ rw e refl
+  | inr less ↦
+      let first = listed_jump t xs r q (omega arith) (λ k from under in_list. h k from (omega arith) in_list) in
+      first ∙ elim (cases_lt q (length xs)) [
+        | inl under ↦
+            let more : q + 1 ≡ suc q = omega arith in
+            let next = listed_skip t xs q under (h q (omega arith) (omega arith) under) in
+            rw more at next
+        | inr past ↦ ap (filter t) (take_all q xs past ∙ sym (take_all (suc q) xs (omega arith)))
+      ]
+]
 
 -- one more that passes, downward
 pub listed_down_more : (t u : ℕ → Bool) (xs : List ℕ) (r : ℕ) → r < length xs →

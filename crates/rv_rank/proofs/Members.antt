@@ -1,15 +1,13 @@
 -- The members of a placement, as the visits tell them.
 use Rattle.rv_rank.proofs.Common.{◌≡◌, ℕ, ◌+◌, ◌<◌, ◌≤◌, Bool, true, false, List, [], ◌∷◌, ◌++◌, length, get_or}
-use Rattle.rv_rank.proofs.Common.{set, sym, ◌∙◌, ◌&&◌, ◌||◌, not, nat_lt, arith, ap, All, filter, get_or_default, rules}
-use Rattle.rv_rank.proofs.Common.{common_steps, cases_lt, lt-ltb, le-ltb, inl, inr, has_bit, IsInverse, is_ahead_in}
+use Rattle.rv_rank.proofs.Common.{set, sym, ◌∙◌, arith, ap, All, filter, get_or_default, rules}
+use Rattle.rv_rank.proofs.Common.{common_steps, inl, inr, IsInverse, is_ahead_in}
 use Rattle.rv_rank.proofs.Common.{is_behind_in, slot_in, members_of, IsMended, Found, IsPlan, IsRoster, IsLocal}
-use Rattle.rv_rank.specs.Found.{is_in}
 use Rattle.std.proofs.lemmas.Bool.{false_from_ne_true}
-use Rattle.std.proofs.Math.Bool.{and-false, and-true}
 use Rattle.rv_rank.proofs.Finding.{traced_is}
 use Rattle.rv_rank.proofs.Counting.{count_to, count_below-count_to}
 use Rattle.rv_rank.proofs.Slots.{members_of-long}
-use Rattle.rv_rank.proofs.Mending.{either_of, members_long, members_apart, members_below, mended_inverse}
+use Rattle.rv_rank.proofs.Mending.{either_of, or_cases, members_long, members_apart, members_below, mended_inverse}
 use Rattle.rv_rank.proofs.Mending.{mended_local}
 
 module _ (found : Found) (nodes ranks visits : List ℕ) (inverse : IsInverse nodes ranks)
@@ -33,26 +31,6 @@ module _ (found : Found) (nodes ranks visits : List ℕ) (inverse : IsInverse no
   new_f : f (length nodes) ≡ false
   new_f = false_from_ne_true (f (length nodes)) (λ e. omega (arith, (plan.ahead (length nodes) e).0))
 
-  -- the node of a rank is affected where it was found forward or backward
-  tests : (k : ℕ) → k < length nodes → slot_in found nodes k ≡ either_of b f (get_or nodes k 0)
-  unfolding is_in
-  tests k l =
-      let a = get_or nodes k 0 in
-      let back = has_bit found.behind a in
-      let here = inverse.there k l in
-      let ranked = ap (λ r. (back && not (nat_lt r low)) || f a) here.1 in
-      elim (cases_lt k low) [
-        | inl under ↦
-            let lacks = false_from_ne_true (f a) (λ e. omega (arith, (plan.ahead a e).1, here.1, under)) in
-            let no = ap not (lt-ltb k low under) in
-            ap (λ x. x && (back || f a)) no ∙ sym lacks ∙ ap (λ x. x || f a) (sym (and-false back)) ∙
-            ap (λ x. (back && x) || f a) (sym no) ∙ sym ranked
-        | inr over ↦
-            let yes = ap not (le-ltb k low over) in
-            ap (λ x. x && (back || f a)) yes ∙ ap (λ x. x || f a) (sym (and-true back)) ∙
-            ap (λ x. (back && x) || f a) (sym yes) ∙ sym ranked
-      ]
-
   above_b : (a : ℕ) → a < length nodes → b a ≡ true → low ≤ get_or ranks a 0
   above_b a l e = (traced_is low ranks found.behind a e).1
 
@@ -60,7 +38,22 @@ module _ (found : Found) (nodes ranks visits : List ℕ) (inverse : IsInverse no
   above_f a l e = (plan.ahead a e).1
 
   first_slot : low < length nodes → f (get_or nodes low 0) ≡ true
-  first_slot l = search rules
+  first_slot l =
+      let s = plan.lowest l in
+      ap f (ap (λ k. get_or nodes k 0) (sym s.3) ∙ (inverse.back s.0 (omega (arith, s.1, inverse.long))).1) ∙ s.2
+
+  -- a slot is the rank of an affected node
+  slots_within : (r : ℕ) → slot_in found r ≡ true → (low ≤ r) × (r < length nodes)
+  slots_within r e =
+      let l = plan.slots.within r e in
+      let a = get_or nodes r 0 in
+      let here = (inverse.there r l).1 in (
+        elim (or_cases (b a) (f a) (sym (plan.slots.each r l) ∙ e)) [
+          | inl w ↦ omega (arith, above_b a (omega (arith, inverse.there r l, inverse.long)) w, here)
+          | inr w ↦ omega (arith, (plan.ahead a w).1, here)
+        ],
+        l,
+      )
 
   same_members : members_of visits split (length nodes) ≡ filter b nodes ++ length nodes ∷ filter f nodes
   same_members = grind (arith, common_steps)
@@ -95,13 +88,13 @@ module _ (found : Found) (nodes ranks visits : List ℕ) (inverse : IsInverse no
         count_listed,
         count_below-count_to,
         either_of,
-        tests,
+        slots_within,
         rules,
       )
 
   module _ (ranks0 nodes1 ranks1 : List ℕ) (last : ℕ) (begun : ranks0 ≡ ranks ++ length nodes ∷ [])
       (is_last : last ≡ get_or (members_of visits split (length nodes)) (length visits) 0)
-      (h : IsMended (slot_in found nodes) (members_of visits split (length nodes)) nodes ranks0 nodes1 ranks1
+      (h : IsMended (slot_in found) (members_of visits split (length nodes)) nodes ranks0 nodes1 ranks1
       (length nodes)) where
     last_is : last ≡ get_or (filter b nodes ++ length nodes ∷ filter f nodes)
         (count_to (either_of b f) nodes (length nodes)) 0
@@ -112,12 +105,12 @@ module _ (found : Found) (nodes ranks visits : List ℕ) (inverse : IsInverse no
     pub final_inverse : IsInverse (nodes1 ++ last ∷ []) (set ranks1 last (length nodes))
     final_inverse =
         let m = rw same_members at h in
-        rw last_is (mended_inverse b f nodes ranks inverse plan.apart new_b new_f (slot_in found nodes) tests low
+        rw last_is (mended_inverse b f nodes ranks inverse plan.apart new_b new_f (slot_in found) plan.slots.each low
         (omega (arith, plan.few)) first_slot above_b above_f ranks0 nodes1 ranks1 begun m)
 
     -- and all other ranks stay
     pub final_local : IsLocal b f low ranks (set ranks1 last (length nodes))
     final_local =
         let m = rw same_members at h in
-        rw last_is (mended_local b f nodes ranks inverse plan.apart new_b new_f (slot_in found nodes) tests low
+        rw last_is (mended_local b f nodes ranks inverse plan.apart new_b new_f (slot_in found) plan.slots.each low
         (omega (arith, plan.few)) first_slot above_b above_f ranks0 nodes1 ranks1 begun m)

@@ -38,7 +38,7 @@ or_true true = refl
 or_true false = refl
 
 -- one of the two holds
-or_cases : (p q : Bool) → (p || q) ≡ true → (p ≡ true) ⊎ (q ≡ true)
+pub or_cases : (p q : Bool) → (p || q) ≡ true → (p ≡ true) ⊎ (q ≡ true)
 or_cases true q e = inl refl
 or_cases false q e = inr e
 

@@ -372,4 +372,5 @@ found_plan edges order preds succs found list o inverse h = record {
   apart = apart edges order preds succs found list o inverse h;
   listed = h.visits;
   split = h.split;
+  slots = h.slots;
 }

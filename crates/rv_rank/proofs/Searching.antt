@@ -2,7 +2,7 @@
 use Rattle.rv_rank.proofs.Common.{◌≡◌, ◌≢◌, ℕ, ◌+◌, ◌<◌, ◌≤◌, ◌⊎◌, false, List, [], length, get_or, inl, inr}
 use Rattle.rv_rank.proofs.Common.{sym, ◌∙◌, arith, ap, refl, All, All-contains, Contains, Contains-get_or, get_or_past}
 use Rattle.rv_rank.proofs.Common.{cases_eq, cases_lt, false≢true, Edge, Reaches, here, step, IsOrder}
-use Rattle.rv_rank.proofs.Common.{Has, has_bit, AreBelow, IsJoined, IsSearched}
+use Rattle.rv_rank.proofs.Common.{Has, has_bit, AreRanked, IsInverse, IsJoined, IsSearched, Ordering}
 use Rattle.rv_rank.proofs.Growth.{edge_from}
 
 -- an edge leads to a node
@@ -76,30 +76,28 @@ IsSearched-more edges ranks succs low old new r v o h at below m j = record {
   ];
 }
 
--- a node that was not found is passed
-pub IsSearched-skip : (edges : List (List ℕ)) (ranks succs : List ℕ) (low : ℕ) (ahead : List ℕ) (r v : ℕ) →
-    IsOrder edges ranks → IsSearched edges ranks succs low ahead r → get_or ranks v 0 ≡ r → v < length ranks →
-    has_bit ahead v ≡ false → IsSearched edges ranks succs low ahead (r + 1)
-IsSearched-skip edges ranks succs low ahead r v o h at below free = record {
-  begun = h.begun;
-  closed = λ a b under m e. elim (cases_eq a v) [
-    | inl same ↦ absurd (false≢true (sym free ∙ ap (has_bit ahead) (sym same) ∙ m))
-    | inr other ↦
-        let differs : get_or ranks a 0 ≢ r =
-        λ q. other (o.once a v (omega (arith, edge_from edges a b e, o.long)) below (q ∙ sym at)) in
-        h.closed a b (omega arith) m e
-  ];
-  found = h.found;
-  high = h.high;
-}
+-- where no slot stands from rank r up to q, what was found below q is below r
+pub ranks_before : (order : Ordering) (ahead slots : List ℕ) (r q : ℕ) → IsInverse order.nodes order.ranks →
+    AreRanked order ahead slots → ((k : ℕ) → r ≤ k → k < q → has_bit slots k ≡ false) → (a : ℕ) → Has ahead a →
+    get_or order.ranks a 0 < q → get_or order.ranks a 0 < r
+ranks_before order ahead slots r q inverse ranked none a m under = elim (cases_lt (get_or order.ranks a 0) r) [
+  | inl low ↦ low
+  | inr high ↦
+      let k = get_or order.ranks a 0 in
+      let here = inverse.back a (ranked.nodes a m) in
+      let is = ranked.same k (omega (arith, here.0, inverse.long)) ∙ ap (has_bit ahead) here.1 ∙ m in
+      absurd (false≢true (sym (none k high under) ∙ is))
+]
 
--- where none was found from a rank on, the search is through
-pub IsSearched-all : (edges : List (List ℕ)) (ranks succs : List ℕ) (low : ℕ) (ahead : List ℕ) (r top : ℕ) →
-    IsSearched edges ranks succs low ahead r → AreBelow ranks ahead top → top ≤ r →
-    IsSearched edges ranks succs low ahead (length ranks)
-IsSearched-all edges ranks succs low ahead r top h below few = record {
+-- ranks that are no slots are passed
+pub IsSearched-jump : (edges : List (List ℕ)) (order : Ordering) (succs : List ℕ) (low : ℕ) (ahead slots : List ℕ)
+    (r q : ℕ) → IsInverse order.nodes order.ranks → AreRanked order ahead slots →
+    ((k : ℕ) → r ≤ k → k < q → has_bit slots k ≡ false) → IsSearched edges order.ranks succs low ahead r →
+    IsSearched edges order.ranks succs low ahead q
+IsSearched-jump edges order succs low ahead slots r q inverse ranked none h = record {
   begun = h.begun;
-  closed = λ a b under m e. h.closed a b (omega (arith, (below a m).1, few)) m e;
+  closed = λ a b under m e.
+      h.closed a b (ranks_before order ahead slots r q inverse ranked none a m under) m e;
   found = h.found;
   high = h.high;
 }

@@ -36,6 +36,18 @@ below_none s zero n = refl
 below_none s (suc r) n = ap (λ b. cond b (suc (count_below s r)) (count_below s r)) (n r (omega arith)) ∙
     below_none s r (λ k l. n k (omega arith))
 
+-- over ranks that are no slots it stays
+pub below_jump : (s : ℕ → Bool) (j k : ℕ) → j ≤ k → ((i : ℕ) → j ≤ i → i < k → s i ≡ false) →
+    count_below s k ≡ count_below s j
+below_jump s j zero l n = let e : j ≡ zero = omega arith in rw e refl
+below_jump s j (suc k) l n = elim (cases_eq j (suc k)) [
+  | inl e ↦ rw e refl
+  | inr less ↦
+      let more = below_no s k (n k (omega arith) (omega arith)) in
+      let q : k + 1 ≡ suc k = omega arith in
+      (rw q at more) ∙ below_jump s j k (omega arith) (λ i from under. n i from (omega arith))
+]
+
 -- it is at most the rank
 pub below_few : (s : ℕ → Bool) (k : ℕ) → count_below s k ≤ k
 below_few s zero = omega arith
@@ -45,12 +57,6 @@ below_few s (suc k) =
       | true ↦ omega (arith, h)
       | false ↦ omega (arith, h)
     ]
-
--- a rank that is no slot stays
-pub IsMended-skip : (slot : ℕ → Bool) (members nodes ranks new_nodes new_ranks : List ℕ) (r : ℕ) →
-    IsMended slot members nodes ranks new_nodes new_ranks r → slot r ≡ false →
-    IsMended slot members nodes ranks new_nodes new_ranks (r + 1)
-IsMended-skip slot members nodes ranks new_nodes new_ranks r h f = grind (arith, common_steps)
 
 -- a slot takes the next member
 pub IsMended-more : (slot : ℕ → Bool) (members nodes ranks new_nodes new_ranks : List ℕ) (r : ℕ) →

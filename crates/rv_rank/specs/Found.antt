@@ -1,5 +1,5 @@
 -- What the two searches of a placement find.
-use Rattle.std.specs.Prelude.{◌≡◌, ℕ, ◌<◌, ◌≤◌, ◌&&◌, ◌||◌, Bool, true, false, not, nat_lt, List, ◌++◌, length}
+use Rattle.std.specs.Prelude.{◌≡◌, ℕ, ◌<◌, ◌≤◌, ◌&&◌, ◌||◌, Bool, true, not, nat_lt, List, ◌++◌, length}
 use Rattle.std.specs.Prelude.{reverse, slice_index}
 use Rattle.std.specs.List.{Contains, filter}
 use Rattle.rv_rows.specs.Bits.{has_bit}
@@ -13,10 +13,6 @@ pub record IsSameGraph (old new : Walking) : Type 0 where
   pub edges : new.edges ≡ old.edges
   pub rounds : new.rounds ≡ old.rounds
   pub room : old.room ≤ new.room
-
--- whether one of the two sets has a node
-unfoldable pub is_in : List ℕ → List ℕ → ℕ → Bool
-is_in ahead behind a = has_bit behind a || has_bit ahead a
 
 -- whether a node was found backward, and is of rank `low` or above
 abbrev pub is_traced : ℕ → List ℕ → List ℕ → ℕ → Bool
@@ -39,12 +35,14 @@ abbrev pub is_behind_in : Found → List ℕ → ℕ → Bool
 is_behind_in found ranks a = is_traced found.low ranks found.behind a
 
 -- whether the node of a rank is affected
-abbrev pub slot_in : Found → List ℕ → ℕ → Bool
-slot_in found nodes r = not (nat_lt r found.low) && is_in found.ahead found.behind (slice_index nodes r)
+abbrev pub slot_in : Found → ℕ → Bool
+slot_in found r = has_bit found.slots r
 
--- from this rank on no node is affected
-abbrev pub NoneFrom : Found → List ℕ → ℕ → Type 0
-NoneFrom found nodes top = (r : ℕ) → top ≤ r → r < length nodes → slot_in found nodes r ≡ false
+-- the slots are the ranks of the nodes of the two sets
+pub record AreSlots (found : Found) (nodes ranks : List ℕ) : Type 0 where
+  pub each : (r : ℕ) → r < length nodes →
+      slot_in found r ≡ (is_behind_in found ranks (slice_index nodes r) || is_ahead_in found (slice_index nodes r))
+  pub within : (r : ℕ) → slot_in found r ≡ true → r < length nodes
 
 -- the two sets are the affected nodes; the list has the forward one by rising rank, and the other
 -- one by falling rank
@@ -62,3 +60,4 @@ pub record IsFound (edges : List (List ℕ)) (order : Ordering) (preds succs : L
   pub all_behind : (a : ℕ) → IsBehind edges order.ranks preds succs a → is_behind_in found order.ranks a ≡ true
   pub visits : list ≡ found_ahead order.nodes found.ahead ++ reverse (found_behind found.low order found.behind)
   pub split : found.split ≡ length (found_ahead order.nodes found.ahead)
+  pub slots : AreSlots found order.nodes order.ranks

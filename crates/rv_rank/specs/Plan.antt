@@ -2,7 +2,7 @@
 use Rattle.std.specs.Prelude.{◌≡◌, ◌≢◌, ℕ, ◌+◌, ◌<◌, ◌≤◌, true, false, List, ◌++◌, length, reverse, slice_index}
 use Rattle.std.specs.List.{All, filter}
 use Rattle.rv_rank.specs.declared.search.Found.{Found}
-use Rattle.rv_rank.specs.Found.{is_ahead_in, is_behind_in, slot_in}
+use Rattle.rv_rank.specs.Found.{AreSlots, is_ahead_in, is_behind_in, slot_in}
 use Rattle.rv_rank.specs.Mended.{count_below, members_of}
 
 -- the members in their new order
@@ -20,12 +20,14 @@ pub record IsPlan (found : Found) (nodes ranks visits : List ℕ) : Type 0 where
   pub apart : (a : ℕ) → is_behind_in found ranks a ≡ true → is_ahead_in found a ≡ false
   pub listed : visits ≡ filter (is_ahead_in found) nodes ++ reverse (filter (is_behind_in found ranks) nodes)
   pub split : found.split ≡ length (filter (is_ahead_in found) nodes)
+  pub slots : AreSlots found nodes ranks
 
 -- the members are one more than the slots, none stands twice, and each has a place among the ranks
 pub record IsRoster (found : Found) (nodes ranks visits : List ℕ) : Type 0 where
   pub few : found.low ≤ length nodes
   pub split : found.split ≤ length visits
-  pub count : length visits ≡ count_below (slot_in found nodes) (length nodes)
+  pub count : length visits ≡ count_below (slot_in found) (length nodes)
+  pub slots : (r : ℕ) → slot_in found r ≡ true → (found.low ≤ r) × (r < length nodes)
   pub placed : All (λ a. a < length ranks) (members_in found visits (length nodes))
   pub apart : (i j : ℕ) → i < j → j < length visits + 1 →
       slice_index (members_in found visits (length nodes)) i ≢ slice_index (members_in found visits (length nodes)) j

@@ -1,7 +1,9 @@
 -- What a search has found of the nodes, as sets of them.
-use Rattle.std.specs.Prelude.{◌≡◌, ℕ, ◌<◌, ◌≤◌, ◌⊎◌, List, length, slice_index}
+use Rattle.std.specs.Prelude.{◌≡◌, ℕ, ◌<◌, ◌≤◌, ◌⊎◌, ◌*◌, ◌||◌, Bool, List, length, slice_index}
 use Rattle.std.specs.List.{Contains}
-use Rattle.rv_rows.specs.Bits.{Has}
+use Rattle.rv_rows.specs.Bits.{Has, has_bit}
+use Rattle.rv_rank.specs.declared.search.Found.{Found}
+use Rattle.rv_rank.specs.Ordering.{Ordering}
 use Rattle.rv_rank.specs.Graph.{Edge, Reaches}
 use Rattle.rv_rank.specs.Placing.{IsAhead}
 
@@ -11,6 +13,23 @@ pub record IsJoined (old new nodes : List ℕ) : Type 0 where
   pub kept : (a : ℕ) → Has old a → Has new a
   pub found : (a : ℕ) → Contains nodes a → Has new a
   pub only : (a : ℕ) → Has new a → Has old a ⊎ Contains nodes a
+
+-- the sets have room for so many nodes
+pub record HasRoomFor (count : ℕ) (found : Found) : Type 0 where
+  pub ahead : count ≤ 64 * length found.ahead
+  pub behind : count ≤ 64 * length found.behind
+  pub slots : count ≤ 64 * length found.slots
+
+-- the set is of nodes, and the slots are their ranks
+pub record AreRanked (order : Ordering) (set slots : List ℕ) : Type 0 where
+  pub nodes : (a : ℕ) → Has set a → a < length order.ranks
+  pub within : (r : ℕ) → Has slots r → r < length order.ranks
+  pub same : (r : ℕ) → r < length order.ranks → has_bit slots r ≡ has_bit set (slice_index order.nodes r)
+
+-- the ranks of the nodes that pass the test were put in
+pub record AreAdded (test : ℕ → Bool) (nodes old new : List ℕ) : Type 0 where
+  pub ranks : (r : ℕ) → r < length nodes → has_bit new r ≡ (test (slice_index nodes r) || has_bit old r)
+  pub beyond : (r : ℕ) → length nodes ≤ r → has_bit new r ≡ has_bit old r
 
 -- the set is of nodes, each of a rank below r
 abbrev pub AreBelow : List ℕ → List ℕ → ℕ → Type 0

@@ -6,7 +6,7 @@ ghost use Rattle.std.specs.Prelude.{slice_index, slice_set, IfOk};
 ghost use Rattle.std.specs.Prelude.{OnOk, vec_len, vec_capacity};
 ghost use Rattle.std.specs.List.{All, Contains};
 ghost use Rattle.rv_rank.specs.Local.{IsLocal};
-ghost use Rattle.rv_rank.specs.Found.{NoneFrom, is_ahead_in, is_behind_in, slot_in};
+ghost use Rattle.rv_rank.specs.Found.{is_ahead_in, is_behind_in, slot_in};
 ghost use Rattle.rv_rank.specs.Mended.{members_of, IsMended};
 ghost use Rattle.rv_rank.specs.Plan.{members_in, IsPlan, IsRoster};
 ghost use Rattle.rv_rank.specs.Order.{IsInverse};
@@ -122,7 +122,6 @@ impl Order {
     pub fn mend(&mut self, found: &Found, visits: &[u32])
         requires small { length self.old.ranks < 65536 }
         requires plan { IsPlan found.now self.old.nodes self.old.ranks visits.now }
-        requires top { NoneFrom found.now self.old.nodes found.now.top }
         requires room { length self.old.ranks < self.old.room }
         ensures { IsLocal (is_behind_in found.now self.old.ranks) (is_ahead_in found.now)
             found.now.low self.old.ranks self.new.ranks }
@@ -136,7 +135,6 @@ fn place_members(nodes: &mut Vec<u32>, ranks: &mut Vec<u32>, found: &Found, visi
     requires inverse { IsInverse nodes.old.items ranks.old.items }
     requires small { length nodes.old.items < 65536 }
     requires plan { IsPlan found.now nodes.old.items ranks.old.items visits.now }
-    requires top { NoneFrom found.now nodes.old.items found.now.top }
     requires room_nodes { vec_len nodes.old < vec_capacity nodes.old }
     requires room_ranks { vec_len ranks.old < vec_capacity ranks.old }
     ensures inverse { IsInverse nodes.new.items ranks.new.items }
@@ -154,11 +152,10 @@ fn place_members(nodes: &mut Vec<u32>, ranks: &mut Vec<u32>, found: &Found, visi
 fn mend_all(nodes: &mut [u32], ranks: &mut [u32], found: &Found, visits: &[u32]) -> u32
     requires small { length nodes.old < 65536 }
     requires roster { IsRoster found.now nodes.old ranks.old visits.now }
-    requires top { NoneFrom found.now nodes.old found.now.top }
     ensures last { result ≡ slice_index (members_in found.now visits.now (length nodes.old))
         (length visits.now) }
     ensures mended { (mid : List ℕ) × (ranks.new ≡ slice_set mid result (length nodes.old))
-        × IsMended (slot_in found.now nodes.old)
+        × IsMended (slot_in found.now)
         (members_in found.now visits.now (length nodes.old))
         nodes.old ranks.old nodes.new mid (length nodes.old) }
 {
@@ -173,20 +170,19 @@ fn mend_all(nodes: &mut [u32], ranks: &mut [u32], found: &Found, visits: &[u32])
 fn mend(nodes: &mut [u32], ranks: &mut [u32], found: &Found, visits: &[u32])
     requires small { length nodes.old < 65536 }
     requires roster { IsRoster found.now nodes.old ranks.old visits.now }
-    requires top { NoneFrom found.now nodes.old found.now.top }
-    ensures { IsMended (slot_in found.now nodes.old)
+    ensures { IsMended (slot_in found.now)
         (members_in found.now visits.now (length nodes.old))
         nodes.old ranks.old nodes.new ranks.new (length nodes.old) }
 {
     let new = nodes.len() as u32;
     let mut next = 0;
-    for rank in found.low..found.top.min(nodes.len()) {
-        if found.has(nodes[rank]) {
-            let node = member(visits, found.split, new, next);
-            nodes[rank] = node;
-            ranks[node as usize] = rank as u32;
-            next += 1;
-        }
+    let mut rank = found.low;
+    'slots: while let Some(slot) = found.slots.first_from(rank) {
+        let node = member(visits, found.split, new, next);
+        nodes[slot] = node;
+        ranks[node as usize] = slot as u32;
+        next += 1;
+        rank = slot + 1;
     }
 }
 

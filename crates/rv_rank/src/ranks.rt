@@ -11,7 +11,7 @@ ghost use Rattle.rv_rank.specs.Graph.{IsOrder};
 ghost use Rattle.rv_rank.specs.declared.ranks.Refused.TheVariants.{NoMemory};
 
 use crate::order::Order;
-use crate::search::search;
+use crate::search::{Found, search};
 use crate::walk::Walk;
 use std::alloc::{AllocError, Global};
 use std::marker::Model;
@@ -56,6 +56,7 @@ pub struct Ranks {
     alloc: Global,
     walk: Walk,
     order: Order,
+    found: Found,
 }
 
 impl Model for Ranks {
@@ -88,6 +89,7 @@ impl Ranks {
             alloc,
             walk: Walk::new(alloc),
             order: Order::new(alloc),
+            found: Found::new(alloc),
         }
     }
 
@@ -163,10 +165,17 @@ impl Ranks {
     {
         self.walk.begin()?;
         let node = self.order.len() as u32;
-        let found = search(self.alloc, &mut self.walk, &self.order, preds, succs)?;
+        search(
+            self.alloc,
+            &mut self.walk,
+            &self.order,
+            preds,
+            succs,
+            &mut self.found,
+        )?;
         self.order.reserve()?;
         self.walk.add(preds, succs)?;
-        self.order.mend(&found, self.walk.visits());
+        self.order.mend(&self.found, self.walk.visits());
         let visited = self.walk.visits().len() as u32;
         Ok(Placed {
             node,

@@ -5,14 +5,14 @@
 //! found from the predecessors meets each before all that lead to it. Neither pass needs a
 //! worklist, and each node is visited once. No pass goes above the highest rank that was marked.
 ghost use Rattle.std.specs.Prelude.{◌≡◌, ℕ, ◌<◌, [], ◌≤◌, ◌*◌, ◌++◌, length, reverse, false};
-ghost use Rattle.std.specs.Prelude.{slice_index, IfOk, IfErr, OnErr, MatchOption};
+ghost use Rattle.std.specs.Prelude.{slice_index, IfOk, OnOk, IfErr, OnErr, MatchOption};
 ghost use Rattle.std.specs.List.{All, Contains};
 ghost use Rattle.rv_rows.specs.Bits.{Has, has_bit};
 ghost use Rattle.rv_rank.specs.Graph.{IsOrder, IsTrail};
 ghost use Rattle.rv_rank.specs.Order.{IsInverse};
-ghost use Rattle.rv_rank.specs.Sets.{AreBelow, IsJoined, IsSearched, IsTraced, OnlyAhead};
-ghost use Rattle.rv_rank.specs.Found.{IsSameGraph, IsFound, NoneFrom};
-ghost use Rattle.rv_rank.specs.Found.{found_ahead, found_behind, is_in};
+ghost use Rattle.rv_rank.specs.Sets.{AreAdded, AreBelow, AreRanked, HasRoomFor, IsJoined};
+ghost use Rattle.rv_rank.specs.Sets.{IsSearched, IsTraced, OnlyAhead};
+ghost use Rattle.rv_rank.specs.Found.{IsSameGraph, IsFound, found_ahead, found_behind, is_traced};
 ghost use Rattle.rv_rank.specs.Placing.{IsRefusal, OnlyAffected};
 
 use crate::order::Order;
@@ -21,78 +21,128 @@ use crate::walk::Walk;
 use rv_rows::BitSet;
 use std::alloc::{AllocError, Global};
 
-/// What a search found: the nodes ahead and those behind, as sets, the least rank of a successor, a
-/// rank from which on none was found, and how many of the visits were made forward. The set behind
-/// may have nodes of lower ranks than `low`, which are not affected.
+/// What a search found: the nodes ahead and those behind, as sets, the ranks of those affected, the
+/// least rank of a successor, and how many of the visits were made forward. The set behind may have
+/// nodes of lower ranks than `low`, which are not affected.
+///
+/// Each search takes out what the one before it found, and uses the room of the sets again.
 #[derive(Drop)]
 pub struct Found {
     pub low: usize,
-    pub top: usize,
     pub split: usize,
     pub ahead: BitSet,
     pub behind: BitSet,
+    pub slots: BitSet,
 }
 
 impl Found {
-    /// Whether one of the two sets has the node.
-    #[tactic(auto, unfolding(crate::specs::Found::is_in))]
-    pub fn has(&self, node: u32) -> bool
-        ensures { result ≡ is_in self.now.ahead self.now.behind node }
+    /// Nothing, without room. It takes no memory.
+    pub fn new(alloc: Global) -> Self
+        ensures ahead { (a : ℕ) → has_bit result.ahead a ≡ false }
+        ensures behind { (a : ℕ) → has_bit result.behind a ≡ false }
+        ensures slots { (r : ℕ) → has_bit result.slots r ≡ false }
     {
-        self.behind.has(node as usize) | self.ahead.has(node as usize)
+        Found {
+            low: 0,
+            split: 0,
+            ahead: BitSet::new(alloc),
+            behind: BitSet::new(alloc),
+            slots: BitSet::new(alloc),
+        }
+    }
+
+    /// Takes out what was found: of so many nodes none is affected.
+    fn clear(&mut self, count: usize)
+        ensures low { self.new.low ≡ count }
+        ensures split { self.new.split ≡ 0 }
+        ensures ahead { (a : ℕ) → has_bit self.new.ahead a ≡ false }
+        ensures behind { (a : ℕ) → has_bit self.new.behind a ≡ false }
+        ensures slots { (r : ℕ) → has_bit self.new.slots r ≡ false }
+    {
+        self.low = count;
+        self.split = 0;
+        self.ahead.clear();
+        self.behind.clear();
+        self.slots.clear();
+    }
+
+    /// Makes room for so many nodes. The sets lose nothing.
+    ///
+    /// # Errors
+    /// `AllocError` where the memory was refused.
+    fn reserve(&mut self, count: usize) -> Result<(), AllocError>
+        ensures ahead { (a : ℕ) → has_bit self.new.ahead a ≡ has_bit self.old.ahead a }
+        ensures behind { (a : ℕ) → has_bit self.new.behind a ≡ has_bit self.old.behind a }
+        ensures slots { (r : ℕ) → has_bit self.new.slots r ≡ has_bit self.old.slots r }
+        ensures room { OnOk result (HasRoomFor count self.new) }
+    {
+        self.ahead.reserve(count)?;
+        self.behind.reserve(count)?;
+        self.slots.reserve(count)?;
+        Ok(())
+    }
+
+    /// Puts the nodes into the set ahead, and their ranks among the slots.
+    fn put_ahead(&mut self, order: &Order, nodes: &[u32])
+        requires inverse { IsInverse order.now.nodes order.now.ranks }
+        requires room { HasRoomFor (length order.now.ranks) self.old }
+        requires nodes { All (λ a. a < length order.now.ranks) nodes.now }
+        requires ranked { AreRanked order.now self.old.ahead self.old.slots }
+        ensures joined { IsJoined self.old.ahead self.new.ahead nodes.now }
+        ensures ranked { AreRanked order.now self.new.ahead self.new.slots }
+        ensures room { HasRoomFor (length order.now.ranks) self.new }
+        ensures behind { self.new.behind ≡ self.old.behind }
+    {
+        for node in nodes {
+            self.ahead.insert(*node as usize);
+            self.slots.insert(order.rank(*node) as usize);
+        }
     }
 }
 
-/// Searches the two sets that a placement affects. Neither the ranks nor the edges change.
+/// Searches the two sets that a placement affects, and puts what it found in place of what was
+/// there. Neither the ranks nor the edges change.
 ///
-/// Without successors it takes no memory and no step.
+/// Without successors it takes no memory, and no step but to take out what was found before.
 pub fn search(
     alloc: Global,
     walk: &mut Walk,
     order: &Order,
     preds: &[u32],
     succs: &[u32],
-) -> Result<Found, Refused>
+    found: &mut Found,
+) -> Result<(), Refused>
     requires ordered { IsOrder walk.old.edges order.now.ranks }
     requires inverse { IsInverse order.now.nodes order.now.ranks }
     requires preds { All (λ p. p < length order.now.ranks) preds.now }
     requires succs { All (λ s. s < length order.now.ranks) succs.now }
     requires begun { walk.old.visits ≡ [] }
+    requires small { length order.now.ranks < 65536 }
     requires room { 2 * length walk.old.edges ≤ walk.old.room }
-    ensures found { IfOk result (λ f. IsFound walk.old.edges order.now preds.now succs.now
-        f walk.new.visits) }
-    ensures top { IfOk result (λ f. NoneFrom f order.now.nodes f.top) }
+    ensures found { OnOk result (IsFound walk.old.edges order.now preds.now succs.now
+        found.new walk.new.visits) }
     ensures refused { IfErr result (IsRefusal walk.old.edges preds.now succs.now) }
     ensures affected { OnErr result
         (OnlyAffected walk.old.edges order.now.ranks preds.now succs.now walk.new.visits) }
     ensures same { IsSameGraph walk.old walk.new }
 {
+    let count = order.len();
+    found.clear(count);
     if succs.is_empty() {
-        return Ok(Found {
-            low: order.len(),
-            top: order.len(),
-            split: 0,
-            ahead: BitSet::new(alloc),
-            behind: BitSet::new(alloc),
-        });
+        return Ok(());
     }
+    found.reserve(count)?;
     let low = order.least_rank(succs);
-    let mut ahead = BitSet::with_room(alloc, order.len())?;
-    let top = sweep_forward(walk, order, low, succs, &mut ahead);
+    sweep_forward(walk, order, low, succs, found);
     let split = walk.visits().len();
-    if let Some(end) = first_of(&ahead, preds) {
-        let path = trail(alloc, walk, order, succs, &ahead, end)?;
+    if let Some(end) = first_of(&found.ahead, preds) {
+        let path = trail(alloc, walk, order, succs, &found.ahead, end)?;
         return Err(Refused::Circle(path));
     }
-    let mut behind = BitSet::with_room(alloc, order.len())?;
-    let end = sweep_backward(walk, order, low, preds, &mut behind);
-    Ok(Found {
-        low,
-        top: top.max(end),
-        split,
-        ahead,
-        behind,
-    })
+    sweep_backward(walk, order, low, preds, found);
+    found.low = low;
+    found.split = split;
+    Ok(())
 }
 
 /// Puts the nodes into the set, which has room for them.
@@ -125,78 +175,66 @@ fn put_below(order: &Order, set: &mut BitSet, nodes: &[u32], top: usize) -> usiz
     top
 }
 
-/// Finds what edges reach from the successors, and visits just those nodes, by rising rank. Answers
-/// a rank from which on none was found.
-fn sweep_forward(
-    walk: &mut Walk,
-    order: &Order,
-    low: usize,
-    succs: &[u32],
-    ahead: &mut BitSet,
-) -> usize
+/// Finds what edges reach from the successors, and visits just those nodes, by rising rank.
+fn sweep_forward(walk: &mut Walk, order: &Order, low: usize, succs: &[u32], found: &mut Found)
     requires ordered { IsOrder walk.old.edges order.now.ranks }
     requires inverse { IsInverse order.now.nodes order.now.ranks }
     requires succs { All (λ s. s < length order.now.ranks) succs.now }
     requires low { All (λ s. low ≤ slice_index order.now.ranks s) succs.now }
     requires within { low ≤ length order.now.ranks }
-    requires empty { (a : ℕ) → has_bit ahead.old a ≡ false }
-    requires for_all { length order.now.ranks ≤ 64 * length ahead.old }
+    requires empty { (a : ℕ) → has_bit found.old.ahead a ≡ false }
+    requires free { (r : ℕ) → has_bit found.old.slots r ≡ false }
+    requires for_all { HasRoomFor (length order.now.ranks) found.old }
     requires begun { walk.old.visits ≡ [] }
+    requires small { length order.now.ranks < 65536 }
     requires room { 2 * length walk.old.edges ≤ walk.old.room }
-    ensures searched { IsSearched walk.old.edges order.now.ranks succs.now low ahead.new
+    ensures searched { IsSearched walk.old.edges order.now.ranks succs.now low found.new.ahead
         (length order.now.ranks) }
-    ensures visits { walk.new.visits ≡ found_ahead order.now.nodes ahead.new }
+    ensures visits { walk.new.visits ≡ found_ahead order.now.nodes found.new.ahead }
     ensures same { IsSameGraph walk.old walk.new }
-    ensures below { AreBelow order.now.ranks ahead.new result }
-    ensures within { result ≤ length order.now.ranks }
+    ensures ranked { AreRanked order.now found.new.ahead found.new.slots }
+    ensures for_all { HasRoomFor (length order.now.ranks) found.new }
+    ensures behind { found.new.behind ≡ found.old.behind }
 {
-    let mut top = put_below(order, ahead, succs, low);
-    for rank in low..order.len() {
-        if rank >= top {
-            return top;
-        }
-        let node = order.node_at(rank);
-        if ahead.has(node as usize) {
-            top = put_below(order, ahead, walk.forward(node), top);
-        }
+    found.put_ahead(order, succs);
+    let mut rank = low;
+    'ranks: while let Some(next) = found.slots.first_from(rank) {
+        let node = order.node_at(next);
+        found.put_ahead(order, walk.forward(node));
+        rank = next + 1;
     }
-    top
 }
 
-/// Finds what reaches the predecessors by edges from rank `low` up, and visits those nodes of rank
-/// `low` or above, by falling rank. Answers a rank from which on none was found.
-fn sweep_backward(
-    walk: &mut Walk,
-    order: &Order,
-    low: usize,
-    preds: &[u32],
-    behind: &mut BitSet,
-) -> usize
+/// Finds what reaches the predecessors by edges from rank `low` up, visits those nodes of rank
+/// `low` or above, by falling rank, and puts their ranks among the slots.
+fn sweep_backward(walk: &mut Walk, order: &Order, low: usize, preds: &[u32], found: &mut Found)
     requires ordered { IsOrder walk.old.edges order.now.ranks }
     requires inverse { IsInverse order.now.nodes order.now.ranks }
     requires preds { All (λ p. p < length order.now.ranks) preds.now }
     requires within { low ≤ length order.now.ranks }
-    requires empty { (a : ℕ) → has_bit behind.old a ≡ false }
-    requires for_all { length order.now.ranks ≤ 64 * length behind.old }
+    requires empty { (a : ℕ) → has_bit found.old.behind a ≡ false }
+    requires for_all { HasRoomFor (length order.now.ranks) found.old }
     requires few { length walk.old.visits ≤ length order.now.ranks }
     requires room { 2 * length walk.old.edges ≤ walk.old.room }
-    ensures traced { IsTraced walk.old.edges order.now.ranks preds.now behind.new low }
+    ensures traced { IsTraced walk.old.edges order.now.ranks preds.now found.new.behind low }
     ensures visits { walk.new.visits
-        ≡ walk.old.visits ++ reverse (found_behind low order.now behind.new) }
+        ≡ walk.old.visits ++ reverse (found_behind low order.now found.new.behind) }
     ensures same { IsSameGraph walk.old walk.new }
-    ensures below { AreBelow order.now.ranks behind.new result }
-    ensures within { result ≤ length order.now.ranks }
+    ensures nodes { (a : ℕ) → Has found.new.behind a → a < length order.now.ranks }
+    ensures slots { AreAdded (is_traced low order.now.ranks found.new.behind) order.now.nodes
+        found.old.slots found.new.slots }
+    ensures ahead { found.new.ahead ≡ found.old.ahead }
 {
-    let end = put_below(order, behind, preds, low);
+    let end = put_below(order, &mut found.behind, preds, low);
     let mut rank = end;
     while rank > low {
         rank -= 1;
         let node = order.node_at(rank);
-        if behind.has(node as usize) {
-            put_all(behind, walk.backward(node));
+        if found.behind.has(node as usize) {
+            found.slots.insert(rank);
+            put_all(&mut found.behind, walk.backward(node));
         }
     }
-    end
 }
 
 /// The first of the nodes that the set has.

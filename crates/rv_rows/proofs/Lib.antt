@@ -1,3 +1,4 @@
 pub mod Words
+pub mod Scan
 pub mod Sweep
 pub mod Laying

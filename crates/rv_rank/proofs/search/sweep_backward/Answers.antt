@@ -1,7 +1,7 @@
 use Rattle.rv_rank.proofs.Common.{rules, arith, get_or, [], length, drop, reverse, filter, ◌≡◌, ◌<◌, ◌≤◌, ◌+◌, ◌-◌}
 use Rattle.rv_rank.proofs.Common.{◌++◌, ◌∙◌, refl, ap, sym, ℕ, true, false, not, inl, inr}
 use Rattle.rv_rank.proofs.Common.{common_steps, Contains-get_or, length-drop, length-append, length-reverse, Has}
-use Rattle.rv_rank.proofs.Common.{has_bit, is_traced, nat_lt, ◌&&◌, AreBelow}
+use Rattle.rv_rank.proofs.Common.{has_bit, is_traced, nat_lt, ◌&&◌, ◌||◌, AreBelow, cases_eq, cases_lt, eq-eqb, ne_eqb, or-true, or-false}
 use Rattle.std.proofs.lemmas.Bool.{false_from_ne_true}
 use Rattle.rv_rank.proofs.Listing.{listed_all_few, listed_down_more, listed_from, listed_past}
 use Rattle.rv_rank.proofs.Growth.{edge_from}
@@ -25,7 +25,7 @@ loop-rank-init c =
     let w = traced_is low ranks new (get_or nodes k 0) m in
     omega (arith, (marked.below (get_or nodes k 0) w.0).1, here.1, from))) in
     record {
-      traced = IsTraced-start c.args.walk.now.edges ranks c.args.preds.now c.requires.ordered c.args.behind.now new
+      traced = IsTraced-start c.args.walk.now.edges ranks c.args.preds.now c.requires.ordered c.args.found.now.behind new
           end c.requires.empty marked.joined marked.below;
       visits = grind (arith, common_steps);
       same = record { edges = refl; rounds = refl; room = omega arith };
@@ -33,7 +33,17 @@ loop-rank-init c =
       within = marked.within;
       up_to = omega arith;
       below = marked.below;
-      long = marked.joined.long;
+      long = refl;
+      slots = refl;
+      passed = λ k from l.
+          let here = c.requires.inverse.there k l in
+          let lacks = false_from_ne_true (is_traced low ranks new (get_or nodes k 0)) (λ m.
+          let w = traced_is low ranks new (get_or nodes k 0) m in
+          omega (arith, (marked.below (get_or nodes k 0) w.0).1, here.1, from)) in
+          sym (ap (λ x. x || has_bit c.args.found.now.slots k) lacks);
+      others = λ k l. refl;
+      beyond = λ k l. refl;
+      ahead = refl;
     }
 
 pub backward-requires-clause-room : goal.backward-requires-clause-room
@@ -50,7 +60,8 @@ put_all-requires c = λ k d l.
       b,
       ap length c.loop-rank.invariant.same.edges,
       c.requires.ordered.long,
-      c.requires.for_all,
+      c.requires.for_all.behind,
+      c.put_below-end.ensures.joined.long,
       c.loop-rank.invariant.long,
     )
 
@@ -60,7 +71,7 @@ loop-rank-preserved-then-has c =
     let nodes = c.args.order.now.nodes in
     let ranks = c.args.order.now.ranks in
     let low = c.args.low in
-    let old = c.loop-rank.behind in
+    let old = c.loop-rank.found.behind in
     let new = c.put_all.new.set in
     let r = c.loop-rank.rank - 1 in
     let inv = c.loop-rank.invariant in
@@ -89,9 +100,11 @@ loop-rank-preserved-then-has c =
     ))) in
     let behind : is_traced low ranks new v ≡ true =
     is_traced-from low ranks new v (joined.kept v taken) (omega (arith, at, high)) in
-    let more = listed_down_more (is_traced low ranks old) (is_traced low ranks new) nodes r l same
-    (ap (is_traced low ranks new) (sym is) ∙ behind) in
+    let here : is_traced low ranks new (get_or nodes r 0) ≡ true = ap (is_traced low ranks new) (sym is) ∙ behind in
+    let more = listed_down_more (is_traced low ranks old) (is_traced low ranks new) nodes r l same here in
     let first = c.args.walk.now.visits in
+    let slots = c.loop-rank.found.slots in
+    let first_slots = c.args.found.now.slots in
     let list = reverse (filter (is_traced low ranks old) (drop (r + 1) nodes)) in
     let under : AreBelow ranks new c.put_below-end.result = λ a m. elim (joined.only a m) [
       | inl was ↦ inv.below a was
@@ -109,6 +122,23 @@ loop-rank-preserved-then-has c =
       up_to = omega (arith, inv.up_to);
       below = under;
       long = joined.long ∙ inv.long;
+      slots = c.insert.ensures.room ∙ inv.slots;
+      passed = λ k from m. elim (cases_eq r k) [
+        | inl q ↦
+            let test = rw q at here in
+            c.insert.ensures.inserted k ∙ ap (λ x. has_bit slots k || x) (eq-eqb r k q) ∙ or-true (has_bit slots k) ∙
+            sym (ap (λ x. x || has_bit first_slots k) test)
+        | inr n ↦ c.insert.ensures.inserted k ∙ ap (λ x. has_bit slots k || x) (ne_eqb r k n) ∙ or-false (has_bit slots k)
+            ∙ inv.passed k (omega (arith, from, n, up)) m ∙
+            ap (λ x. x || has_bit first_slots k) (same k (omega (arith, from, n)) m)
+      ];
+      others = λ k under. c.insert.ensures.inserted k ∙
+          ap (λ x. has_bit slots k || x) (ne_eqb r k (omega (arith, under))) ∙ or-false (has_bit slots k) ∙
+          inv.others k (omega (arith, under, up));
+      beyond = λ k past. c.insert.ensures.inserted k ∙
+          ap (λ x. has_bit slots k || x) (ne_eqb r k (omega (arith, past, l))) ∙ or-false (has_bit slots k) ∙
+          inv.beyond k past;
+      ahead = inv.ahead;
     }
 
 pub loop-rank-preserved : goal.loop-rank-preserved
@@ -117,7 +147,7 @@ loop-rank-preserved c =
     let nodes = c.args.order.now.nodes in
     let ranks = c.args.order.now.ranks in
     let low = c.args.low in
-    let behind = c.loop-rank.behind in
+    let behind = c.loop-rank.found.behind in
     let r = c.loop-rank.rank - 1 in
     let inv = c.loop-rank.invariant in
     let up : c.loop-rank.rank ≡ r + 1 = omega arith in
@@ -141,6 +171,16 @@ loop-rank-preserved c =
       up_to = omega (arith, inv.up_to);
       below = inv.below;
       long = inv.long;
+      slots = inv.slots;
+      passed = λ k from m. elim (cases_eq r k) [
+        | inl q ↦
+            let test = rw q at no in
+            inv.others k (omega (arith, sym q, up)) ∙ sym (ap (λ x. x || has_bit c.args.found.now.slots k) test)
+        | inr n ↦ inv.passed k (omega (arith, from, n, up)) m
+      ];
+      others = λ k under. inv.others k (omega (arith, under, up));
+      beyond = inv.beyond;
+      ahead = inv.ahead;
     }
 
 pub returns-clause-visits : goal.returns-clause-visits
@@ -148,7 +188,7 @@ returns-clause-visits c =
     let nodes = c.args.order.now.nodes in
     let ranks = c.args.order.now.ranks in
     let low = c.args.low in
-    let behind = c.loop-rank.behind in
+    let behind = c.loop-rank.found.behind in
     let inv = c.loop-rank.invariant in
     let e : c.loop-rank.rank ≡ low = omega (arith, inv.above) in
     let all = listed_from (is_traced low ranks behind) nodes low (λ k b l.
@@ -157,3 +197,24 @@ returns-clause-visits c =
     omega (arith, (traced_is low ranks behind (get_or nodes k 0) m).1, here.1, b))) in
     let listed = rw e at inv.visits in
     listed ∙ ap (λ x. c.args.walk.now.visits ++ reverse x) all
+
+pub returns-clause-slots : goal.returns-clause-slots
+returns-clause-slots c =
+    let nodes = c.args.order.now.nodes in
+    let ranks = c.args.order.now.ranks in
+    let low = c.args.low in
+    let behind = c.loop-rank.found.behind in
+    let slots = c.args.found.now.slots in
+    let inv = c.loop-rank.invariant in
+    let e : c.loop-rank.rank ≡ low = omega (arith, inv.above) in
+    record {
+      ranks = λ k l. elim (cases_lt k low) [
+        | inl under ↦
+            let here = c.requires.inverse.there k l in
+            let lacks = false_from_ne_true (is_traced low ranks behind (get_or nodes k 0)) (λ m.
+            omega (arith, (traced_is low ranks behind (get_or nodes k 0) m).1, here.1, under)) in
+            inv.others k (omega (arith, e, under)) ∙ sym (ap (λ x. x || has_bit slots k) lacks)
+        | inr over ↦ inv.passed k (omega (arith, e, over)) l
+      ];
+      beyond = inv.beyond;
+    }
