@@ -46,7 +46,7 @@ pub use Rattle.rv_hart.specs.Places.{places_from, places_of}
 pub use Rattle.rv_hart.specs.Rows.{IsBefore, IsCandidate, IsEnough, IsGenerated, IsOrderedBy, RowsMean}
 pub use Rattle.rv_hart.specs.RuleLinks.{AreEnoughLinks, AreRuleLinks}
 pub use Rattle.rv_hart.specs.RuleRows.{Adds, ConditionOf, IsApart, IsLastOther, IsLeadingRow, IsLowestRule}
-pub use Rattle.rv_hart.specs.RuleRows.{IsOperationOf}
+pub use Rattle.rv_hart.specs.RuleRows.{IsLowestBelow, IsOperationOf}
 pub use Rattle.rv_hart.specs.Sets.{AreSets, HasEvent, IsAddressing, IsControlling, IsFencedFor, IsReservation}
 pub use Rattle.rv_hart.specs.Sets.{AreCarriedRows, IsCarried, IsNaming, IsReserving, NamesMemory, RowIs}
 pub use Rattle.rv_hart.specs.Words.{AreNumbered, AreWords, IsAbove, IsBeforeRun, IsHighestStore, IsLastBelow}

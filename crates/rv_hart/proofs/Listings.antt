@@ -1,14 +1,14 @@
 -- The lowest rules of candidates, and the links of the listed ones.
-use Rattle.rv_hart.proofs.Common.{◌≡◌, ℕ, ◌+◌, ◌<◌, ◌≤◌, false, ◌||◌, ◌==◌, ◌↔◌, List, [], ◌∷◌, ◌++◌, length}
+use Rattle.rv_hart.proofs.Common.{◌≡◌, ℕ, ◌<◌, ◌≤◌, false, ◌||◌, ◌==◌, ◌↔◌, List, [], ◌∷◌, ◌++◌, length}
 use Rattle.rv_hart.proofs.Common.{get_or, Contains, ◌⊎◌, Some, None, inl, inr, sym, refl, ap, ◌∙◌, arith, subst}
-use Rattle.rv_hart.proofs.Common.{eqb-true, eq-eqb, or_cases, or_left, or_right, false≢true, cases_lt}
+use Rattle.rv_hart.proofs.Common.{eqb-true, eq-eqb, or_cases, or_left, or_right, false≢true}
 use Rattle.rv_hart.proofs.Common.{Contains-push_cases, Contains-push, Contains-append_left, same_Some}
-use Rattle.rv_hart.proofs.Common.{common_steps, rules, named-is, Condition-number, IsMemory, Rule, IsPreserved}
+use Rattle.rv_hart.proofs.Common.{common_steps, named-is, Condition-number, IsMemory, Rule, IsPreserved}
 use Rattle.rv_hart.proofs.Common.{IsLowest, Id, Event, Link, Reason, Preserved, Names, Has, has_bit, RowHas}
 use Rattle.rv_hart.proofs.Common.{IsTaken, IsReached, IsThinned, Swept, swept-init, swept-step, swept-done}
 use Rattle.rv_hart.proofs.Common.{Gathers, gathers-none, gathers-step, Hart, followed, hart_with, IsOrderedBy}
 use Rattle.rv_hart.proofs.Common.{IsCandidate, IsBefore, IsEnough, RowsMean, AreRuleLinks, IsOperationOf}
-use Rattle.rv_hart.proofs.Common.{ConditionOf, IsApart, IsClosed, IsGenerated, IsLeadingRow, IsLowestRule, cases_eq}
+use Rattle.rv_hart.proofs.Common.{ConditionOf, IsLowestBelow, IsApart, IsClosed, IsGenerated, IsLeadingRow, IsLowestRule, cases_eq}
 use Rattle.rv_event.specs.Log.{named}
 use Rattle.rv_hart.proofs.HartFacts.{Known, Fits, known_with, same_event, old_new}
 use Rattle.rv_hart.proofs.RowMeanings.{carried, unsplit, row_is, rule-old, rows_closed}
@@ -24,24 +24,20 @@ module _ {h : Hart} {e : Event} (f : Fits h e) (memory : IsMemory e) (s : ℕ) (
   pub candidate-operation : IsOperationOf h a
   candidate-operation = record { of_hart = candidate.1.of_hart; memory = candidate.1.rule.from_memory }
 
-  -- the first rule that holds is the lowest
-  pub lowest-here : (k : ℕ) → ConditionOf h e k a → ((j : ℕ) → j < k → IsOrderedBy h e j s → ⊥) → IsLowestRule h e s k
-  lowest-here k holds none = grind (arith, common_steps)
+  -- the lowest rule whose condition holds of the candidate is its lowest rule
+  pub lowest-condition : (k : ℕ) → IsLowestBelow h e a 14 (Some k) → IsLowestRule h e s k
+  lowest-condition k low = record {
+    ordered = subst (IsOrderedBy h e k) candidate.1.at
+        (ordered f memory k a candidate.1.of_hart (candidate.1.rule.from_memory, low.1));
+    lowest = λ j under o. low.2 j under (subst (ConditionOf h e j)
+        (same_event f.known o.a a o.of_hart candidate.1.of_hart (o.at ∙ sym candidate.1.at)) o.rule.condition);
+  }
 
-  -- a rule that does not hold is passed
-  pub none-here : (k : ℕ) → (ConditionOf h e k a → ⊥) → ((j : ℕ) → j < k → IsOrderedBy h e j s → ⊥) → (j : ℕ) →
-      j < k + 1 → IsOrderedBy h e j s → ⊥
-  none-here k fails none j low x = go (cases_lt j k)
-    where
-      go : (j < k) ⊎ (k ≤ j) → ⊥
-      go (inl under) = none j under x
-      go (inr over) = search (same_event, rules)
-
-  -- some rule holds of a candidate
-  pub some-rule : (k : ℕ) → 14 ≤ k → ((j : ℕ) → j < k → IsOrderedBy h e j s → ⊥) → ⊥
-  some-rule k high none =
+  -- some rule's condition holds of a candidate
+  pub some-condition : IsLowestBelow h e a 14 None → ⊥
+  some-condition none =
       let low = Condition-number h.model (followed h e) a e candidate.0 candidate.1.rule.condition in
-      none candidate.0 (omega arith) candidate.1
+      none candidate.0 (omega arith) candidate.1.rule.condition
 
 -- the row of rule 2 decides the rule for an operation that stands in the row of no other load of it
 pub reads-decide : {h : Hart} {e : Event} → Fits h e → IsMemory e → (rows : List (List ℕ)) → RowsMean h rows →

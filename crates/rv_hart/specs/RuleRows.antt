@@ -1,5 +1,5 @@
 -- For each rule the events that it orders before a new one.
-use Rattle.std.specs.Prelude.{ℕ, ◌≡◌, ◌≢◌, ◌<◌, ◌⊎◌, ◌↔◌, List, Contains}
+use Rattle.std.specs.Prelude.{ℕ, ◌≡◌, ◌≢◌, ◌<◌, ◌⊎◌, ◌↔◌, List, Contains, Option, Some, None}
 use Rattle.rv_event.specs.Operations.{IsLoad, IsMemory, IsStore}
 use Rattle.rv_event.specs.Preserved.{Condition, Rule}
 use Rattle.rv_event.specs.declared.event.Event.{Event}
@@ -44,6 +44,12 @@ pub record IsOperationOf (h : Hart) (a : Event) : Type 0 where
 -- the condition of the rule holds between the event and the new one
 abbrev pub ConditionOf : Hart → Event → ℕ → Event → Type 0
 ConditionOf h e k a = Condition h.model (followed h e) a e k
+
+-- the lowest of the rules below `limit` whose condition holds between the event and the new one
+abbrev pub IsLowestBelow : Hart → Event → Event → ℕ → Option ℕ → Type 0
+IsLowestBelow h e a limit (Some k) =
+    (k < limit) × ConditionOf h e k a × ((j : ℕ) → j < k → ConditionOf h e j a → ⊥)
+IsLowestBelow h e a limit None = (j : ℕ) → j < limit → ConditionOf h e j a → ⊥
 
 -- the rule orders event s before the new one, and no lower one does
 pub record IsLowestRule (h : Hart) (e : Event) (s k : ℕ) : Type 0 where

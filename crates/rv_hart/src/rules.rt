@@ -4,13 +4,14 @@
 //! The candidates are all that the table has; the lowest rule of a candidate is the first whose
 //! parts have it. Rules 1 and 2 are not in the table, as their walks stop at operations that all
 //! earlier ones lead to.
-ghost use Rattle.std.specs.Prelude.{ℕ, ◌≡◌, ◌<◌, ◌↔◌, ◌⊎◌, IsTrue, false};
+ghost use Rattle.std.specs.Prelude.{ℕ, ◌≡◌, ◌+◌, ◌<◌, ◌↔◌, ◌⊎◌, IsTrue, false};
 ghost use Rattle.rv_event.specs.declared.event.Op.TheVariants.{Amo, Sc};
 ghost use Rattle.rv_rows.specs.Bits.{has_bit};
 ghost use Rattle.rv_hart.specs.Kept.{hart_at, IsAsked, IsKept};
 ghost use Rattle.rv_hart.specs.Parts.{AddsPart, ArePartsFor, IsIn, IsOfPart, IsPartFor, NamesEvents};
 ghost use Rattle.rv_hart.specs.Rows.{IsCandidate, IsEnough};
-ghost use Rattle.rv_hart.specs.RuleRows.{Adds, ConditionOf, IsApart, IsLeadingRow, IsLowestRule};
+ghost use Rattle.rv_hart.specs.RuleRows.{Adds, ConditionOf, IsApart, IsLeadingRow};
+ghost use Rattle.rv_hart.specs.RuleRows.{IsLowestBelow, IsLowestRule};
 ghost use Rattle.rv_hart.specs.RuleRows.{IsOperationOf};
 ghost use Rattle.rv_hart.specs.Sets.{RowIs};
 
@@ -171,6 +172,7 @@ impl Next<'_> {
 
     /// Puts the candidates into an empty row: what some rule orders before the event, of rules 1
     /// and 2 only what the rest leads to. `reads` is the row of rule 2.
+    #[inline(always)]
     pub fn fill_candidates(&self, reads: &Row, row: &mut Row)
         requires asked { IsAsked self.now }
         requires reads { IsLeadingRow (hart_at self.now) self.now.event.now 2 reads.now }
@@ -214,17 +216,60 @@ impl Next<'_> {
         requires candidate { IsCandidate (hart_at self.now) self.now.event.now number }
         ensures { IsLowestRule (hart_at self.now) self.now.event.now number result }
     {
-        let met = self.events.at(number);
-        for rule in 1..14u8 {
-            if self.is_condition(rule, met, reads) {
-                return rule;
-            }
+        match self.lowest_of(self.events.at(number), reads) {
+            Some(rule) => rule,
+            None => unreachable!(),
         }
-        unreachable!()
+    }
+
+    /// The lowest rule whose condition holds between the operation that was met and the event.
+    /// `reads` is the row of rule 2, none of whose other loads it leads to.
+    #[inline(always)]
+    fn lowest_of(&self, met: &Event, reads: &Row) -> Option<u8>
+        requires asked { IsAsked self.now }
+        requires met { IsOperationOf (hart_at self.now) met.now }
+        requires reads { IsLeadingRow (hart_at self.now) self.now.event.now 2 reads.now }
+        requires apart { IsApart self.now.kept.now.rows reads.now met.now.id.seq }
+        ensures { IsLowestBelow (hart_at self.now) self.now.event.now met.now 14 result }
+    {
+        let lowest = self.lowest_to(1, None, met, reads);
+        let lowest = self.lowest_to(2, lowest, met, reads);
+        let lowest = self.lowest_to(3, lowest, met, reads);
+        let lowest = self.lowest_to(4, lowest, met, reads);
+        let lowest = self.lowest_to(5, lowest, met, reads);
+        let lowest = self.lowest_to(6, lowest, met, reads);
+        let lowest = self.lowest_to(7, lowest, met, reads);
+        let lowest = self.lowest_to(8, lowest, met, reads);
+        let lowest = self.lowest_to(9, lowest, met, reads);
+        let lowest = self.lowest_to(10, lowest, met, reads);
+        let lowest = self.lowest_to(11, lowest, met, reads);
+        let lowest = self.lowest_to(12, lowest, met, reads);
+        self.lowest_to(13, lowest, met, reads)
+    }
+
+    /// The same up to this rule, where `lower` is the lowest of those before it. It is inlined, so
+    /// a call that names the rule costs its line of the table alone, and what is found costs
+    /// nothing more.
+    #[inline(always)]
+    fn lowest_to(&self, rule: u8, lower: Option<u8>, met: &Event, reads: &Row) -> Option<u8>
+        requires asked { IsAsked self.now }
+        requires met { IsOperationOf (hart_at self.now) met.now }
+        requires reads { IsLeadingRow (hart_at self.now) self.now.event.now 2 reads.now }
+        requires apart { IsApart self.now.kept.now.rows reads.now met.now.id.seq }
+        requires rule { 0 < rule }
+        requires lower { IsLowestBelow (hart_at self.now) self.now.event.now met.now rule lower }
+        ensures { IsLowestBelow (hart_at self.now) self.now.event.now met.now (rule + 1) result }
+    {
+        match lower {
+            Some(found) => Some(found),
+            None if self.is_condition(rule, met, reads) => Some(rule),
+            None => None,
+        }
     }
 
     /// Whether the condition of the rule with this number holds between the operation that was met
     /// and the event. `reads` is the row of rule 2, none of whose other loads it leads to.
+    #[inline(always)]
     fn is_condition(&self, rule: u8, met: &Event, reads: &Row) -> bool
         requires asked { IsAsked self.now }
         requires met { IsOperationOf (hart_at self.now) met.now }

@@ -36,6 +36,7 @@ impl Next<'_> {
 
     /// Rule 2: puts into an empty row, where the event is a load, the nearest run of loads of its
     /// word that returned one other version, which all earlier ones lead to.
+    #[inline(always)]
     pub fn fill_different_reads(&self, row: &mut Row)
         requires asked { IsAsked self.now }
         requires empty { (s : ℕ) → has_bit row.old s ≡ false }

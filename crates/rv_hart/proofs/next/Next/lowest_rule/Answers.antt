@@ -1,12 +1,11 @@
-use Rattle.rv_hart.proofs.Common.{Condition-above, ◌≡◌, ◌<◌, ◌↔◌, IsTrue, length, sym, ◌∙◌, subst, arith}
-use Rattle.rv_hart.proofs.Common.{ap, false≢true, common_steps, IsApart, IsOperationOf, ConditionOf}
-use Rattle.rv_hart.proofs.Common.{Event, Hart, hart_at}
-use Rattle.rv_hart.proofs.HartFacts.{fits, read_is, fits_of}
-use Rattle.rv_hart.proofs.Listings.{candidate-operation, lowest-here, none-here, some-rule}
+use Rattle.rv_hart.proofs.Common.{◌≡◌, ◌<◌, length, sym, subst, arith, ap, IsApart, IsOperationOf, Event, Hart}
+use Rattle.rv_hart.proofs.Common.{hart_at, ◌∙◌, IsLowestBelow, Some, None}
+use Rattle.rv_hart.proofs.HartFacts.{fits, read_is}
+use Rattle.rv_hart.proofs.Listings.{candidate-operation, lowest-condition, some-condition}
 use Rattle.rv_hart.proofs.next.Next.lowest_rule.Goals as goal
 
-pub at-met-requires : goal.at-met-requires
-at-met-requires c =
+pub at-requires : goal.at-requires
+at-requires c =
     let h : Hart = hart_at c.args.self.now in
     let f = fits c.requires.asked in
     let o = c.requires.candidate.1 in
@@ -14,54 +13,41 @@ at-met-requires c =
     let at : o.a.id.seq ≡ c.args.number = o.at in
     omega arith
 
-pub loop-rule-init : goal.loop-rule-init
-loop-rule-init c = grind (arith, common_steps, fits_of, Condition-above)
-
-pub is_condition-requires-clause-met : goal.is_condition-requires-clause-met
-is_condition-requires-clause-met c =
+pub lowest_of-requires-clause-met : goal.lowest_of-requires-clause-met
+lowest_of-requires-clause-met c =
     let h : Hart = hart_at c.args.self.now in
     let f = fits c.requires.asked in
     let o = c.requires.candidate.1 in
-    let same : c.at-met.result.now ≡ o.a = read_is f.known o.a c.at-met.result.now c.args.number o.of_hart
-    o.at c.at-met.ensures in
+    let same : c.at.result.now ≡ o.a = read_is f.known o.a c.at.result.now c.args.number o.of_hart o.at c.at.ensures in
     subst (IsOperationOf h) (sym same) (candidate-operation f c.requires.asked.memory c.args.number
     c.requires.candidate)
 
-pub is_condition-requires-clause-apart : goal.is_condition-requires-clause-apart
-is_condition-requires-clause-apart c =
-    let h : Hart = hart_at c.args.self.now in
+pub lowest_of-requires-clause-apart : goal.lowest_of-requires-clause-apart
+lowest_of-requires-clause-apart c =
     let f = fits c.requires.asked in
     let o = c.requires.candidate.1 in
-    let same : c.at-met.result.now ≡ o.a = read_is f.known o.a c.at-met.result.now c.args.number o.of_hart
-    o.at c.at-met.ensures in
-    subst (IsApart c.args.self.now.kept.now.rows c.args.reads.now)
-    (sym (ap (λ (x : Event). x.id.seq) same ∙ o.at)) c.requires.apart
-
-pub returns-then-is_condition : goal.returns-then-is_condition
-returns-then-is_condition c =
-    let h : Hart = hart_at c.args.self.now in
-    let e : Event = c.args.self.now.event.now in
-    let f = fits c.requires.asked in
-    let o = c.requires.candidate.1 in
-    let same : c.at-met.result.now ≡ o.a = read_is f.known o.a c.at-met.result.now c.args.number o.of_hart
-    o.at c.at-met.ensures in
-    let test : IsTrue c.is_condition.result ↔ ConditionOf h e c.loop-rule.rule o.a =
-    grind (arith, common_steps) in
-    lowest-here f c.requires.asked.memory c.args.number c.requires.candidate c.loop-rule.rule
-    (test.0 c.if-is_condition.true) c.loop-rule.invariant
-
-pub loop-rule-preserved : goal.loop-rule-preserved
-loop-rule-preserved c =
-    let h : Hart = hart_at c.args.self.now in
-    let e : Event = c.args.self.now.event.now in
-    let f = fits c.requires.asked in
-    let o = c.requires.candidate.1 in
-    let same : c.at-met.result.now ≡ o.a = read_is f.known o.a c.at-met.result.now c.args.number o.of_hart
-    o.at c.at-met.ensures in
-    let test : IsTrue c.is_condition.result ↔ ConditionOf h e c.loop-rule.rule o.a =
-    grind (arith, common_steps) in
-    none-here f c.requires.asked.memory c.args.number c.requires.candidate c.loop-rule.rule
-    (λ x. false≢true (sym c.if-is_condition.false ∙ test.1 x)) c.loop-rule.invariant
+    let same : c.at.result.now ≡ o.a = read_is f.known o.a c.at.result.now c.args.number o.of_hart o.at c.at.ensures in
+    subst (IsApart c.args.self.now.kept.now.rows c.args.reads.now) (sym (ap (λ (x : Event). x.id.seq) same ∙ o.at))
+    c.requires.apart
 
 pub unreachable-requires : goal.unreachable-requires
-unreachable-requires c = search (fits_of, some-rule)
+unreachable-requires c =
+    let h : Hart = hart_at c.args.self.now in
+    let e : Event = c.args.self.now.event.now in
+    let f = fits c.requires.asked in
+    let o = c.requires.candidate.1 in
+    let same : c.at.result.now ≡ o.a = read_is f.known o.a c.at.result.now c.args.number o.of_hart o.at c.at.ensures in
+    let low = rw c.in-None.is at c.lowest_of.ensures in
+    some-condition f c.requires.asked.memory c.args.number c.requires.candidate
+    (subst (λ (x : Event). IsLowestBelow h e x 14 None) same low)
+
+pub returns : goal.returns
+returns c =
+    let h : Hart = hart_at c.args.self.now in
+    let e : Event = c.args.self.now.event.now in
+    let f = fits c.requires.asked in
+    let o = c.requires.candidate.1 in
+    let same : c.at.result.now ≡ o.a = read_is f.known o.a c.at.result.now c.args.number o.of_hart o.at c.at.ensures in
+    let low = rw c.in-Some.is at c.lowest_of.ensures in
+    lowest-condition f c.requires.asked.memory c.args.number c.requires.candidate c.in-Some.rule
+    (subst (λ (x : Event). IsLowestBelow h e x 14 (Some c.in-Some.rule)) same low)
