@@ -1,5 +1,6 @@
 -- What a book counts in its log.
-use Rattle.std.specs.Prelude.{ℕ, Bool, not, ◌&&◌, ◌==◌, List, count_by, is_none}
+use Rattle.std.specs.Prelude.{ℕ, ◌≡◌, ◌≤◌, Bool, false, not, ◌&&◌, ◌==◌, List, length, take, count_by, is_none}
+use Rattle.std.specs.List.{All}
 use Rattle.rv_event.specs.Operations.{is_load, is_memory}
 use Rattle.rv_event.specs.Log.{events, writer}
 use Rattle.rv_event.specs.declared.event.Event.{Event}
@@ -14,3 +15,8 @@ operations_of log = count_by (λ x. is_memory x.event.op) log
 
 abbrev pub waiting_of : List Entry → ℕ
 waiting_of log = count_by (λ x. is_waiting (events log) x.event) log
+
+-- the entries before this place wait for no store
+pub record AreSettled (log : List Entry) (place : ℕ) : Type 0 where
+  pub within : place ≤ length log
+  pub none : All (λ x. is_waiting (events log) x.event ≡ false) (take place log)

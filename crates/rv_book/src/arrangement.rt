@@ -170,6 +170,7 @@ impl Arrangement {
     ///
     /// # Errors
     /// `NoMemory` where it could not be kept; nothing changes, but the entry is gone.
+    #[inline(always)]
     pub fn add(&mut self, entry: Entry) -> Result<Added, NoMemory>
         requires sound { event_fault (happened self.old.history) entry.event ≡ None }
         requires room { length self.old.history < 65536 }

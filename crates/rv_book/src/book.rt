@@ -1,9 +1,10 @@
 //! A well formed log with an order that is lawful for it.
 ghost use Rattle.std.specs.Prelude.{◌≡◌, ◌↔◌, ◌++◌, ◌∷◌, [], ◌<◌, ◌≤◌, ◌+◌, IfOk, OnErr, IsFalse, IsTrue};
-ghost use Rattle.std.specs.Prelude.{length, true};
+ghost use Rattle.std.specs.Prelude.{length, true, count_by};
 ghost use Rattle.std.specs.Option.{option_map};
-ghost use Rattle.rv_book.specs.Counts.{is_waiting, operations_of, waiting_of};
+ghost use Rattle.rv_book.specs.Counts.{AreSettled, is_waiting, operations_of, waiting_of};
 ghost use Rattle.rv_book.specs.Linked.{AreLinksOf};
+ghost use Rattle.rv_edges.specs.Kept.{happened};
 ghost use Rattle.rv_edges.specs.Ties.{AreTiesOf};
 ghost use Rattle.rv_event.specs.Log.{events, writer};
 ghost use Rattle.rv_event.specs.Faults.{fault_of};
@@ -63,11 +64,14 @@ pub struct Book {
     alloc: Global,
     arrangement: Arrangement,
     tally: Tally,
+    /// The entries before this place wait for no store.
+    settled: usize,
     stopped: bool,
 }
 
 impl Model for Book {
     ghost use Rattle.rv_book.specs.Booked.{Booked, IsBooked, booked_of};
+    ghost use Rattle.rv_book.specs.Counts.{AreSettled};
     ghost use Rattle.rv_book.specs.Tallied.{IsTallied};
 
     ghost Value = { Booked };
@@ -76,7 +80,8 @@ impl Model for Book {
 
     ghost invariant = { λ b.
         IsBooked b.arrangement.log b.arrangement
-        × IsTallied b.arrangement.log b.tally.sources b.tally.counts };
+        × IsTallied b.arrangement.log b.tally.sources b.tally.counts
+        × AreSettled b.arrangement.log b.settled };
 }
 
 impl Book {
@@ -103,6 +108,7 @@ impl Book {
             alloc,
             arrangement,
             tally: Tally::new(),
+            settled: 0,
             stopped: false,
         }
     }
@@ -152,16 +158,12 @@ impl Book {
     }
 
     /// How many of them are loads whose store has not come. It takes no memory, and costs one
-    /// look-up for each entry.
+    /// look-up for each entry from the first such load on.
     pub fn waiting(&self) -> usize
         ensures { result ≡ waiting_of self.now.log }
     {
-        let arrangement = &self.arrangement;
-        arrangement
-            .log()
-            .iter()
-            .filter(|x| arrangement.is_waiting(&x.event))
-            .count()
+        let rest = &self.arrangement.log()[self.settled..];
+        count_waiting(&self.arrangement, rest)
     }
 
     /// Whether the event is a load that returned a version above 0 which no store of the log has
@@ -238,6 +240,7 @@ impl Book {
 
     /// The same as [`Book::offer`] for an entry that is given away: the book keeps it where it takes
     /// it, so none is copied. On `NoMemory` the entry is gone.
+    #[inline(always)]
     pub fn take(&mut self, entry: Entry) -> Offer
         ensures accepted { OnAccepted result (IsTaken self.old self.new entry) }
         ensures malformed { IfMalformed result (IsMalformedOn self.old.model self.old.log entry) }
@@ -361,6 +364,8 @@ impl Book {
                     unreachable!()
                 };
                 self.tally.add(last);
+                let settled = settle(&self.arrangement, self.settled);
+                self.settled = settled;
                 Ok(None)
             }
             Added::Refused(evidence, certificate) => {
@@ -368,4 +373,33 @@ impl Book {
             }
         }
     }
+}
+
+/// How many of the entries are loads whose store has not come.
+fn count_waiting(arrangement: &Arrangement, entries: &[Entry]) -> usize
+    ensures { result
+        ≡ count_by (λ x. is_waiting (happened arrangement.now.history) x.event) entries.now }
+{
+    entries
+        .iter()
+        .filter(|x| arrangement.is_waiting(&x.event))
+        .count()
+}
+
+/// The place of the first entry that waits for a store, or the length of the log. Those before
+/// `settled` are known to wait for none.
+fn settle(arrangement: &Arrangement, settled: usize) -> usize
+    requires same { happened arrangement.now.history ≡ events arrangement.now.log }
+    requires settled { AreSettled arrangement.now.log settled }
+    ensures { AreSettled arrangement.now.log result }
+{
+    let log = arrangement.log();
+    let mut place = settled;
+    'entries: while place < log.len() {
+        if arrangement.is_waiting(&log[place].event) {
+            return place;
+        }
+        place += 1;
+    }
+    place
 }

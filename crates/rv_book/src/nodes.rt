@@ -55,6 +55,7 @@ fn find_node(ids: &[Id], id: Id) -> u32
 ///
 /// # Errors
 /// `NoMemory` where it could not; the list has some of the nodes then.
+#[inline(always)]
 pub fn find_nodes(
     ids: &[Id],
     hints: &Hints,

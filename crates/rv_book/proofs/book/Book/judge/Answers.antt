@@ -4,6 +4,7 @@ use Rattle.rv_book.proofs.Common.{Arranged, IsOwn, Booked, IsForbiddenOn, booked
 use Rattle.rv_book.proofs.Common.{last_pushed}
 use Rattle.rv_book.proofs.PushedEntries.{event_sound, source_sound, room_in, room_of, events-push, booked_push}
 use Rattle.rv_book.proofs.PushedEntries.{forbidden_of, taken_of}
+use Rattle.rv_book.proofs.Settled.{settled_push}
 use Rattle.rv_book.proofs.book.Book.judge.Goals as goal
 
 pub add-requires-clause-sound : goal.add-requires-clause-sound
@@ -29,7 +30,14 @@ invariant_of-self-in-Taken c =
           c.args.entry c.self.invariant.0 none grew.1 c.model-unchanged.ensures.lawful grew.2,
       subst (λ (l : List Entry). IsTallied l c.add-in-Taken.new.self.sources c.add-in-Taken.new.self.counts)
           all tallied,
+      c.settle-settled.ensures,
     )
+
+pub settle-settled-requires-clause-settled : goal.settle-settled-requires-clause-settled
+settle-settled-requires-clause-settled c =
+    let grew = rw c.in-Taken.is at c.in_ok-added.ensures.added in
+    settled_push c.self.inside.arrangement.log c.add.new.self.log c.args.entry c.self.inside.settled grew.2
+    c.self.invariant.2
 
 pub add-requires-in-Taken : goal.add-requires-in-Taken
 add-requires-in-Taken c = grind (arith, common_steps)
