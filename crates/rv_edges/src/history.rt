@@ -322,6 +322,7 @@ impl History {
     /// # Errors
     /// `NoMemory` where the entry and its links could not be kept; the history stays as it is, and
     /// the entry is gone.
+    #[inline(always)]
     pub fn push_known(
         &mut self,
         entry: Entry,

@@ -75,6 +75,7 @@ impl Rows {
     ///
     /// # Errors
     /// `AllocError` where it could not be kept; the rows stay as they are.
+    #[inline(always)]
     pub fn push(&mut self, row: &Row) -> Result<(), AllocError>
         requires few { length self.old < 4096 }
         requires below { (j : ℕ) → Has row.now j → j ≤ length self.old }

@@ -13,6 +13,7 @@ use crate::rows::Rows;
 /// number's row, a sweep that takes until none is left takes just the candidates that stand in no
 /// other candidate's row, the highest first, and each candidate stands in the row of one that it
 /// took. A step costs a search from the limit down and the subtraction of one row.
+#[inline(always)]
 pub fn take_highest(candidates: &mut Row, rows: &Rows, limit: usize) -> Option<usize>
     requires few { length rows.now ≤ 4096 }
     requires limit { limit ≤ length rows.now }

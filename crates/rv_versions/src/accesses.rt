@@ -75,6 +75,7 @@ impl Accesses {
     ///
     /// # Errors
     /// `NoMemory`; the accesses are then as they were.
+    #[inline(always)]
     pub fn insert(&mut self, postings: Postings) -> Result<(), NoMemory>
         requires { AreAbsent self.old postings }
         ensures inserted { OnOk result (AreInserted self.old postings self.new) }

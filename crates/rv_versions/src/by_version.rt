@@ -56,6 +56,7 @@ impl ByVersion {
     ///
     /// # Errors
     /// `NoMemory`; the accesses are then as they were.
+    #[inline(always)]
     pub fn insert_posting(&mut self, posting: Option<Access>) -> Result<(), NoMemory>
         requires { (x : Access) → posting ≡ Some x → Contains self.old x → ⊥ }
         ensures inserted { OnOk result (IsInserted self.old posting self.new) }

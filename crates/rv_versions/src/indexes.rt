@@ -79,6 +79,7 @@ impl Model for Indexes {
 ///
 /// # Errors
 /// `NoMemory`; no access is lost.
+#[inline(always)]
 fn place_of(
     alloc: Global,
     places: &mut HashMap<u32, usize>,

@@ -147,6 +147,7 @@ impl Versions {
     ///
     /// It takes no memory. Version 0 costs one step. Else it costs a look-up of the word, and a few
     /// steps for its highest version, or a search among its stores.
+    #[inline(always)]
     pub fn writer(&self, word: u32, version: u32) -> Option<Id>
         ensures { result ≡ option_map (λ w. w.id) (writer (events self.now) word version) }
     {
