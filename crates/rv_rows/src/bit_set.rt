@@ -55,6 +55,10 @@ impl BitSet {
     pub fn first_from(&self, from: usize) -> Option<usize>
         ensures { IsFirstFrom self.now from result }
     {
+        // Where most numbers are in the set, the answer is guessed, and nothing waits for it.
+        if self.has(from) {
+            return Some(from);
+        }
         let first = from / 64;
         if first >= self.high {
             return None;
@@ -78,9 +82,14 @@ impl BitSet {
         ensures inserted { (j : ℕ) → has_bit self.new j ≡ (has_bit self.old j || (i == j)) }
         ensures room { length self.new ≡ length self.old }
     {
+        // Mostly neither end is written, so the next number need not wait for it.
+        if i / 64 < self.low {
+            self.low = i / 64;
+        }
+        if i / 64 >= self.high {
+            self.high = i / 64 + 1;
+        }
         self.words[i / 64] |= 1u64 << (i % 64);
-        self.low = self.low.min(i / 64);
-        self.high = self.high.max(i / 64 + 1);
     }
 
     /// Takes all numbers out. It costs a step for each word from the set's first number to its last.
