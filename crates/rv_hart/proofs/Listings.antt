@@ -8,7 +8,8 @@ use Rattle.rv_hart.proofs.Common.{IsLowest, Id, Event, Link, Reason, Preserved, 
 use Rattle.rv_hart.proofs.Common.{IsTaken, IsReached, IsThinned, Swept, swept-init, swept-step, swept-done}
 use Rattle.rv_hart.proofs.Common.{Gathers, gathers-none, gathers-step, Hart, followed, hart_with, IsOrderedBy}
 use Rattle.rv_hart.proofs.Common.{IsCandidate, IsBefore, IsEnough, RowsMean, AreRuleLinks, IsOperationOf}
-use Rattle.rv_hart.proofs.Common.{ConditionOf, IsLowestBelow, IsApart, IsClosed, IsGenerated, IsLeadingRow, IsLowestRule, cases_eq}
+use Rattle.rv_hart.proofs.Common.{ConditionOf, IsLowestBelow, IsApart, IsClosed, IsGenerated}
+use Rattle.rv_hart.proofs.Common.{IsLeadingRow, IsLowestRule, cases_eq}
 use Rattle.rv_event.specs.Log.{named}
 use Rattle.rv_hart.proofs.HartFacts.{Known, Fits, known_with, same_event, old_new}
 use Rattle.rv_hart.proofs.RowMeanings.{carried, unsplit, row_is, rule-old, rows_closed}

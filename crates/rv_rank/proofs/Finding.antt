@@ -90,7 +90,8 @@ module _ (edges : List (List ℕ)) (order : Ordering) (preds succs : List ℕ) (
   pub found_both : (first list slots : List ℕ) → IsInverse order.nodes order.ranks →
       AreRanked order found.ahead slots →
       ((a : ℕ) → Has found.behind a → a < length order.ranks) →
-      AreAdded (is_traced found.low order.ranks found.behind) order.nodes slots found.slots → All (λ p. has_bit found.ahead p ≡ false) preds →
+      AreAdded (is_traced found.low order.ranks found.behind) order.nodes slots found.slots →
+      All (λ p. has_bit found.ahead p ≡ false) preds →
       All (λ s. found.low ≤ get_or order.ranks s 0) succs → found.low ≤ length order.ranks →
       (found.low < length order.ranks → (s : ℕ) × Contains succs s × (get_or order.ranks s 0 ≡ found.low)) →
       found.split ≡ length first → first ≡ found_ahead order.nodes found.ahead →

@@ -1,7 +1,8 @@
 -- Sets of nodes that grow.
 use Rattle.rv_rank.proofs.Common.{◌≡◌, ℕ, ◌+◌, ◌<◌, ◌≤◌, ◌||◌, ◌==◌, List, length, get_or, take}
 use Rattle.rv_rank.proofs.Common.{inl, inr, sym, ◌∙◌, arith, ap, refl, Contains, common_steps, or-false, or-true}
-use Rattle.rv_rank.proofs.Common.{cases_eq, eq-eqb, ne_eqb, Has, has_bit, AreBelow, AreRanked, IsInverse, IsJoined, Ordering}
+use Rattle.rv_rank.proofs.Common.{cases_eq, eq-eqb, ne_eqb, Has, has_bit, AreBelow, AreRanked, IsInverse}
+use Rattle.rv_rank.proofs.Common.{IsJoined, Ordering}
 use Rattle.rv_rank.proofs.Lists.{Contains-take_more, Contains-take_kept, Contains-take_last}
 
 -- before the first node nothing was put in

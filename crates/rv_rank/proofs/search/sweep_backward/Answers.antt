@@ -1,7 +1,8 @@
 use Rattle.rv_rank.proofs.Common.{rules, arith, get_or, [], length, drop, reverse, filter, ◌≡◌, ◌<◌, ◌≤◌, ◌+◌, ◌-◌}
 use Rattle.rv_rank.proofs.Common.{◌++◌, ◌∙◌, refl, ap, sym, ℕ, true, false, not, inl, inr}
 use Rattle.rv_rank.proofs.Common.{common_steps, Contains-get_or, length-drop, length-append, length-reverse, Has}
-use Rattle.rv_rank.proofs.Common.{has_bit, is_traced, nat_lt, ◌&&◌, ◌||◌, AreBelow, cases_eq, cases_lt, eq-eqb, ne_eqb, or-true, or-false}
+use Rattle.rv_rank.proofs.Common.{has_bit, is_traced, nat_lt, ◌&&◌, ◌||◌, AreBelow, cases_eq, cases_lt}
+use Rattle.rv_rank.proofs.Common.{eq-eqb, ne_eqb, or-true, or-false}
 use Rattle.std.proofs.lemmas.Bool.{false_from_ne_true}
 use Rattle.rv_rank.proofs.Listing.{listed_all_few, listed_down_more, listed_from, listed_past}
 use Rattle.rv_rank.proofs.Growth.{edge_from}
@@ -25,8 +26,8 @@ loop-rank-init c =
     let w = traced_is low ranks new (get_or nodes k 0) m in
     omega (arith, (marked.below (get_or nodes k 0) w.0).1, here.1, from))) in
     record {
-      traced = IsTraced-start c.args.walk.now.edges ranks c.args.preds.now c.requires.ordered c.args.found.now.behind new
-          end c.requires.empty marked.joined marked.below;
+      traced = IsTraced-start c.args.walk.now.edges ranks c.args.preds.now c.requires.ordered c.args.found.now.behind
+          new end c.requires.empty marked.joined marked.below;
       visits = grind (arith, common_steps);
       same = record { edges = refl; rounds = refl; room = omega arith };
       above = marked.higher;
@@ -128,8 +129,8 @@ loop-rank-preserved-then-has c =
             let test = rw q at here in
             c.insert.ensures.inserted k ∙ ap (λ x. has_bit slots k || x) (eq-eqb r k q) ∙ or-true (has_bit slots k) ∙
             sym (ap (λ x. x || has_bit first_slots k) test)
-        | inr n ↦ c.insert.ensures.inserted k ∙ ap (λ x. has_bit slots k || x) (ne_eqb r k n) ∙ or-false (has_bit slots k)
-            ∙ inv.passed k (omega (arith, from, n, up)) m ∙
+        | inr n ↦ c.insert.ensures.inserted k ∙ ap (λ x. has_bit slots k || x) (ne_eqb r k n) ∙
+            or-false (has_bit slots k) ∙ inv.passed k (omega (arith, from, n, up)) m ∙
             ap (λ x. x || has_bit first_slots k) (same k (omega (arith, from, n)) m)
       ];
       others = λ k under. c.insert.ensures.inserted k ∙

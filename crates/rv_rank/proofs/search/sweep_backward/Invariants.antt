@@ -1,4 +1,5 @@
-use Rattle.rv_rank.proofs.Common.{◌≡◌, ◌<◌, ◌≤◌, ◌++◌, ◌||◌, ℕ, length, drop, get_or, reverse, filter, AreBelow, IsTraced}
+use Rattle.rv_rank.proofs.Common.{◌≡◌, ◌<◌, ◌≤◌, ◌++◌, ◌||◌, ℕ, length, drop, get_or}
+use Rattle.rv_rank.proofs.Common.{reverse, filter, AreBelow, IsTraced}
 use Rattle.rv_rank.proofs.Common.{IsSameGraph, is_traced, has_bit}
 use Rattle.rv_rank.proofs.search.sweep_backward.Given as goal
 

@@ -61,7 +61,8 @@ ranks-preserved c =
     let visited = c.forward.follows.holds-at-none in
     let taken : Has old v = ap (has_bit old) is ∙ sym (inv.ranked.same r below) ∙ first.1 in
     let joined = rw (c.forward.ensures.value, inv.same.edges) at put.joined in
-    let passed = IsSearched-jump edges order succs low old slots c.ranks.rank r inverse inv.ranked first.2 inv.searched in
+    let passed = IsSearched-jump edges order succs low old slots c.ranks.rank r inverse inv.ranked
+    first.2 inv.searched in
     let jump = listed_jump (has_bit old) nodes c.ranks.rank r first.0 (λ k from under here.
     sym (inv.ranked.same k (omega (arith, here, inverse.long))) ∙ first.2 k from under) in
     let same : (k : ℕ) → k < r → k < length nodes →
@@ -71,7 +72,8 @@ ranks-preserved c =
     let more = listed_more (has_bit old) (has_bit new) nodes r l same
     (ap (has_bit new) (sym is) ∙ joined.kept v taken) in
     record {
-      searched = IsSearched-more edges ranks succs low old new r v o passed at c.node_at-node.ensures.below taken joined;
+      searched = IsSearched-more edges ranks succs low old new r v o passed at
+          c.node_at-node.ensures.below taken joined;
       visits = visited.visits ∙ ap (λ x. x ++ v ∷ []) (inv.visits ∙ jump) ∙
           ap (λ x. filter (has_bit old) (take r nodes) ++ x ∷ []) is ∙ more;
       same = grind (arith, common_steps);

@@ -9,8 +9,8 @@ loop-node-preserved c =
     let within = c.requires.nodes i 0 c.loop-node-test.true in
     let inv = c.loop-node.invariant in
     record {
-      joined = IsJoined-more c.args.self.now.ahead c.loop-node.self.ahead c.insert.new.self c.args.nodes.now i inv.joined
-          c.loop-node-test.true c.insert.ensures.inserted c.insert.ensures.room;
+      joined = IsJoined-more c.args.self.now.ahead c.loop-node.self.ahead c.insert.new.self c.args.nodes.now i
+          inv.joined c.loop-node-test.true c.insert.ensures.inserted c.insert.ensures.room;
       ranked = AreRanked-more c.args.order.now c.loop-node.self.ahead c.loop-node.self.slots c.insert.new.self
           c.insert-in-loop-node.new.self node c.requires.inverse inv.ranked within c.insert.ensures.inserted
           (rw c.rank.ensures.value at c.insert-in-loop-node.ensures.inserted);
