@@ -12,7 +12,8 @@ pub use Rattle.rv_rank.specs.Plan.{IsPlan, IsRoster, members_in}
 pub use Rattle.rv_rank.specs.Ranking.{Ranking}
 pub use Rattle.rv_rank.specs.Rows.{EndsIn, HasRoom, IsAppended, KeepsRoom, Neighbours, degree, incoming_of, other}
 pub use Rattle.rv_rank.specs.Rows.{outgoing_of, rooms_of, row_of, rows_of}
-pub use Rattle.rv_rank.specs.Sets.{AreAdded, AreBelow, AreRanked, HasRoomFor, IsJoined, IsSearched, IsTraced, OnlyAhead}
+pub use Rattle.rv_rank.specs.Sets.{AreAdded, AreBelow, AreRanks, HasRoomFor, IsJoined, IsSearched, IsTraced, OnlyAhead}
+pub use Rattle.rv_rank.specs.Sets.{IsLowest, has_slot}
 pub use Rattle.rv_rank.specs.Walking.{IsMirror}
 pub use Rattle.rv_rank.specs.declared.node.Side.{Side}
 pub use Rattle.rv_rank.specs.declared.node.Side.TheVariants.{Incoming, Outgoing}
@@ -26,6 +27,7 @@ pub use Rattle.std.proofs.Common.{take, true, zero, ℕ, ◌%◌, ◌&&◌, ◌+
 pub use Rattle.std.proofs.Common.{◌≤◌}
 pub use Rattle.std.proofs.Common.{◌⊎◌}
 pub use Rattle.std.proofs.Math.Seq.{drop-cons}
+pub use Rattle.std.proofs.lemmas.Bool.{cases_Bool}
 pub use Rattle.std.proofs.lemmas.Bool.{and_from, and_parts, cases_eq, cases_lt, cond-false, cond-true, eq-eqb}
 pub use Rattle.std.proofs.lemmas.Bool.{false≢true, le-ltb, lt-ltb}
 pub use Rattle.std.proofs.lemmas.Bool.{ne_eqb}

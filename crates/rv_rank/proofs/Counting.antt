@@ -1,6 +1,6 @@
 -- How many of the first elements of a list pass a test, and where those that pass stand in the
 -- filtered list.
-use Rattle.rv_rank.proofs.Common.{◌≡◌, ℕ, zero, suc, ◌+◌, ◌-◌, ◌<◌, ◌≤◌, ◌⊎◌, Bool, true, false, cond, List, []}
+use Rattle.rv_rank.proofs.Common.{cases_Bool, ◌≡◌, ℕ, zero, suc, ◌+◌, ◌-◌, ◌<◌, ◌≤◌, Bool, true, false, cond, List, []}
 use Rattle.rv_rank.proofs.Common.{◌∷◌, length, get_or, inl, inr, sym, ◌∙◌, arith, ap, refl, subst, filter}
 use Rattle.rv_rank.proofs.Common.{count_below}
 
@@ -9,11 +9,6 @@ abbrev pub count_to : (ℕ → Bool) → List ℕ → ℕ → ℕ
 count_to t xs zero = 0
 count_to t [] (suc k) = 0
 count_to t (x ∷ xs) (suc k) = cond (t x) (suc (count_to t xs k)) (count_to t xs k)
-
--- a test passes or fails
-pub cases_test : (b : Bool) → (b ≡ true) ⊎ (b ≡ false)
-cases_test true = inl refl
-cases_test false = inr refl
 
 -- a count goes up where the test passes
 pub count_yes : (t : ℕ → Bool) (xs : List ℕ) (k : ℕ) → k < length xs → t (get_or xs k 0) ≡ true →
@@ -103,7 +98,7 @@ filter_from_head t x xs (suc j) e l h =
 pub filter_from : (t : ℕ → Bool) (xs : List ℕ) (j : ℕ) → j < length (filter t xs) → (k : ℕ) × (k < length xs) ×
     (t (get_or xs k 0) ≡ true) × (count_to t xs k ≡ j) × (get_or xs k 0 ≡ get_or (filter t xs) j 0)
 filter_from t [] j l = absurd (omega arith)
-filter_from t (x ∷ xs) j l = elim (cases_test (t x)) [
+filter_from t (x ∷ xs) j l = elim (cases_Bool (t x)) [
   | inl e ↦ filter_from_head t x xs j e (subst (λ b. j < length (cond b (x ∷ filter t xs) (filter t xs))) e l)
       (λ i m. filter_from t xs i m)
   | inr f ↦
@@ -124,7 +119,7 @@ count_below-count_to s t xs zero h l = refl
 count_below-count_to s t xs (suc k) h l =
     let rest = count_below-count_to s t xs k h (omega arith) in
     let here = h k (omega arith) in
-    elim (cases_test (s k)) [
+    elim (cases_Bool (s k)) [
       | inl e ↦ ap (λ b. cond b (suc (count_below s k)) (count_below s k)) e ∙ ap suc rest ∙
           sym (count_yes t xs k (omega arith) (sym here ∙ e))
       | inr e ↦ ap (λ b. cond b (suc (count_below s k)) (count_below s k)) e ∙ rest ∙

@@ -1,6 +1,6 @@
 -- The members of a placement, as the visits tell them.
 use Rattle.rv_rank.proofs.Common.{◌≡◌, ℕ, ◌+◌, ◌<◌, ◌≤◌, Bool, true, false, List, [], ◌∷◌, ◌++◌, length, get_or}
-use Rattle.rv_rank.proofs.Common.{set, sym, ◌∙◌, arith, ap, All, filter, get_or_default, rules}
+use Rattle.rv_rank.proofs.Common.{set, sym, ◌∙◌, arith, ap, All, filter, get_or_default}
 use Rattle.rv_rank.proofs.Common.{common_steps, inl, inr, IsInverse, is_ahead_in}
 use Rattle.rv_rank.proofs.Common.{is_behind_in, slot_in, members_of, IsMended, Found, IsPlan, IsRoster, IsLocal}
 use Rattle.std.proofs.lemmas.Bool.{false_from_ne_true}
@@ -22,7 +22,7 @@ module _ (found : Found) (nodes ranks visits : List ℕ) (inverse : IsInverse no
   b = is_behind_in found ranks
 
   abbrev f : ℕ → Bool
-  f = is_ahead_in found
+  f = is_ahead_in found ranks
 
   -- the new node was not found
   new_b : b (length nodes) ≡ false
@@ -76,21 +76,16 @@ module _ (found : Found) (nodes ranks visits : List ℕ) (inverse : IsInverse no
 
   -- the members, each with a place
   pub roster : (ranks0 : List ℕ) → length ranks0 ≡ length nodes + 1 → IsRoster found nodes ranks0 visits
-  roster ranks0 e =
-      search (
-        split_within,
-        members_placed,
-        same_members,
-        members_apart,
-        new_b,
-        new_f,
-        members_of-long,
-        count_listed,
-        count_below-count_to,
-        either_of,
-        slots_within,
-        rules,
-      )
+  roster ranks0 e = record {
+    few = plan.few;
+    split = split_within;
+    count = count_listed ∙ sym (count_below-count_to (slot_in found) (either_of b f) nodes (length nodes)
+        plan.slots.each (omega arith));
+    slots = slots_within;
+    placed = rw e members_placed;
+    apart = λ i j less m. rw same_members (members_apart b f nodes ranks inverse plan.apart new_b new_f i j less
+        (omega (arith, m, ap length same_members, members_of-long visits split (length nodes) split_within)));
+  }
 
   module _ (ranks0 nodes1 ranks1 : List ℕ) (last : ℕ) (begun : ranks0 ≡ ranks ++ length nodes ∷ [])
       (is_last : last ≡ get_or (members_of visits split (length nodes)) (length visits) 0)

@@ -1,11 +1,11 @@
 -- What the members' new places make of the ranks.
-use Rattle.rv_rank.proofs.Common.{◌≡◌, ◌≢◌, ℕ, zero, suc, ◌+◌, ◌-◌, ◌<◌, ◌≤◌, ◌⊎◌, ◌||◌, Bool, true, false, cond}
+use Rattle.rv_rank.proofs.Common.{cases_Bool, ◌≡◌, ◌≢◌, ℕ, zero, suc, ◌+◌, ◌-◌, ◌<◌, ◌≤◌, ◌⊎◌, ◌||◌, Bool, true, false, cond}
 use Rattle.rv_rank.proofs.Common.{List, [], ◌∷◌, ◌++◌, length, get_or, set, inl, inr, sym, ◌∙◌, arith, ap, refl}
 use Rattle.rv_rank.proofs.Common.{length-append, filter, get_or-set_same, get_or-set_other, length-set}
 use Rattle.rv_rank.proofs.Common.{get_or_append_left, get_or_at, get_or-append_right, get_or_push, length_push}
 use Rattle.rv_rank.proofs.Common.{cases_eq, cases_lt, false≢true, rules, common_steps, IsInverse, IsMended}
 use Rattle.rv_rank.proofs.Common.{IsLocal}
-use Rattle.rv_rank.proofs.Counting.{cases_test, count_to, count_mono, count_strict, count_all}
+use Rattle.rv_rank.proofs.Counting.{count_to, count_mono, count_strict, count_all}
 use Rattle.rv_rank.proofs.Counting.{count_below-count_to, filter_at, filter_from}
 
 -- no two nodes have one rank
@@ -68,7 +68,7 @@ module _ (b f : ℕ → Bool) (nodes ranks : List ℕ) (inverse : IsInverse node
   place_new = grind (arith, common_steps)
 
   not_back : (a : ℕ) → f a ≡ true → b a ≡ false
-  not_back a g = elim (cases_test (b a)) [ inl e ↦ absurd (false≢true (sym (apart a e) ∙ g)) | inr e ↦ e ]
+  not_back a g = elim (cases_Bool (b a)) [ inl e ↦ absurd (false≢true (sym (apart a e) ∙ g)) | inr e ↦ e ]
 
   -- a member is where its place says
   at_back : (a : ℕ) → a < length nodes → b a ≡ true → (place a < length members) × (get_or members (place a) 0 ≡ a)
@@ -303,7 +303,7 @@ module _ (b f : ℕ → Bool) (nodes ranks : List ℕ) (inverse : IsInverse node
     back_at : (a : ℕ) → a < length final_ranks → (get_or final_ranks a 0 < length final_nodes) ×
         (get_or final_nodes (get_or final_ranks a 0) 0 ≡ a)
     back_at a l = elim (cases_lt a (length nodes)) [
-      | inl in_old ↦ elim (cases_test (either_of b f a)) [
+      | inl in_old ↦ elim (cases_Bool (either_of b f a)) [
         | inl e ↦
             let s = slot_member a in_old e in
             rw s.2 (omega (arith, s.1, long_final_nodes), s.3)
@@ -323,7 +323,7 @@ module _ (b f : ℕ → Bool) (nodes ranks : List ℕ) (inverse : IsInverse node
     there_at : (k : ℕ) → k < length final_nodes → (get_or final_nodes k 0 < length final_ranks) ×
         (get_or final_ranks (get_or final_nodes k 0) 0 ≡ k)
     there_at k l = elim (cases_lt k (length nodes)) [
-      | inl in_old ↦ elim (cases_test (either_of b f (get_or nodes k 0))) [
+      | inl in_old ↦ elim (cases_Bool (either_of b f (get_or nodes k 0))) [
         | inl e ↦
             let p = filled_at k in_old e in
             let m = count_strict (either_of b f) nodes k (length nodes) in_old e in_old in

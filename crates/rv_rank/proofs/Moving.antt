@@ -1,11 +1,10 @@
 -- How many numbers pass a test, told by a list that has each of them once.
-use Rattle.rv_rank.proofs.Common.{◌≡◌, ◌≢◌, ℕ, zero, suc, ◌+◌, ◌-◌, ◌<◌, ◌≤◌, ◌⊎◌, Bool, true, not, cond, List}
+use Rattle.rv_rank.proofs.Common.{cases_Bool, ◌≡◌, ◌≢◌, ℕ, zero, suc, ◌+◌, ◌-◌, ◌<◌, ◌≤◌, ◌⊎◌, Bool, true, not, cond, List}
 use Rattle.rv_rank.proofs.Common.{[], ◌∷◌, length, get_or, take, inl, inr, sym, ◌∙◌, arith, ap, refl, subst, ◌==◌}
 use Rattle.rv_rank.proofs.Common.{Contains, remove, zip, count_by, take_all, get_or_default, length-remove}
 use Rattle.rv_rank.proofs.Common.{get_or-remove_below, get_or-remove_above, Contains-get_or, count_by_more_yes}
 use Rattle.rv_rank.proofs.Common.{count_by_more_no, get_or-zip, length-zip, cases_lt, false≢true, rules}
 use Rattle.rv_rank.proofs.Common.{common_steps, count_below, ListsOnce, moved_of}
-use Rattle.rv_rank.proofs.Counting.{cases_test}
 
 -- what a list contains stands somewhere
 pub contained_at : (xs : List ℕ) (a : ℕ) → (w : Contains xs a) → get_or xs w.0 0 ≡ a
@@ -67,7 +66,7 @@ empty_list t (x ∷ xs) h = absurd (omega (arith, (h.only x (0, omega arith, ref
 pub count_below-listed : (t : ℕ → Bool) (n : ℕ) (xs : List ℕ) → ListsOnce (Passing t n) xs →
     count_below t n ≡ length xs
 count_below-listed t zero xs h = empty_list t xs h
-count_below-listed t (suc n) xs h = elim (cases_test (t n)) [
+count_below-listed t (suc n) xs h = elim (cases_Bool (t n)) [
   | inl passes ↦
       let w = h.each n (omega arith, passes) in
       let rest = count_below-listed t n (remove xs w.0) (list_without t n xs w.0 w.1 (contained_at xs n w) h) in
@@ -95,7 +94,7 @@ pairs_moved old new (suc n) l m =
     let long = length-zip old new in
     let at = get_or-zip old new n (0, 0) (omega arith) (omega arith) in
     let next : n + 1 ≡ suc n = omega arith in
-    elim (cases_test (has_moved old new n)) [
+    elim (cases_Bool (has_moved old new n)) [
       | inl passes ↦
           let more = count_by_more_yes (λ r. not (r.0 == r.1)) (zip old new) n (
             0,

@@ -1,5 +1,5 @@
 -- What the affected nodes and the mended ranks make of a placement.
-use Rattle.rv_rank.proofs.Common.{◌≡◌, ◌≢◌, ℕ, ◌+◌, ◌-◌, ◌%◌, ◌^◌, ◌<◌, ◌≤◌, ◌⊎◌, ◌||◌, Bool, true, false, not}
+use Rattle.rv_rank.proofs.Common.{cases_Bool, ◌≡◌, ◌≢◌, ℕ, ◌+◌, ◌-◌, ◌%◌, ◌^◌, ◌<◌, ◌≤◌, ◌⊎◌, ◌||◌, Bool, true, false, not}
 use Rattle.rv_rank.proofs.Common.{cond, List, [], ◌++◌, length, get_or, reverse, inl, inr, sym, ◌∙◌, arith, ap}
 use Rattle.rv_rank.proofs.Common.{refl, subst, length-append, eqb, All, Contains, filter, get_or_append_left}
 use Rattle.rv_rank.proofs.Common.{get_or-append_right, get_or-reverse, length-reverse, All-contains}
@@ -14,7 +14,7 @@ use Rattle.std.proofs.lemmas.Bool.{false_from_ne_true}
 use Rattle.rv_rank.proofs.Finding.{traced_is}
 use Rattle.rv_rank.proofs.Searching.{edge_below, reaches_append}
 use Rattle.rv_rank.proofs.Growth.{edge_from}
-use Rattle.rv_rank.proofs.Counting.{cases_test, count_to, filter_at, filter_from}
+use Rattle.rv_rank.proofs.Counting.{count_to, filter_at, filter_from}
 use Rattle.rv_rank.proofs.Moving.{moved_of-listed}
 
 -- what reaches a node reaches what that node reaches
@@ -47,10 +47,10 @@ module _ (edges : List (List ℕ)) (order : Ordering) (preds succs : List ℕ) (
   b = is_behind_in found order.ranks
 
   abbrev f : ℕ → Bool
-  f = is_ahead_in found
+  f = is_ahead_in found order.ranks
 
   abbrev forward : List ℕ
-  forward = found_ahead order.nodes found.ahead
+  forward = found_ahead found order
 
   abbrev backward : List ℕ
   backward = found_behind low order found.behind
@@ -181,21 +181,21 @@ module _ (edges : List (List ℕ)) (order : Ordering) (preds succs : List ℕ) (
         let la : a < length order.ranks = omega (arith, edge_from edges a c e, o.long) in
         let lc = edge_below edges order.ranks o a c e in
         let up = o.forward a c e in
-        elim (cases_test (f a)) [
+        elim (cases_Bool (f a)) [
           | inl fa ↦ l.kept_ahead a c la lc fa (ahead_closed a c fa e) up
-          | inr na ↦ elim (cases_test (b a)) [
-            | inl ba ↦ elim (cases_test (b c)) [
+          | inr na ↦ elim (cases_Bool (b a)) [
+            | inl ba ↦ elim (cases_Bool (b c)) [
               | inl bc ↦ l.kept_back a c la lc ba bc up
-              | inr nb ↦ elim (cases_test (f c)) [
+              | inr nb ↦ elim (cases_Bool (f c)) [
                 | inl fc ↦ omega (arith, l.front a la ba, l.rear c lc fc)
                 | inr nc ↦ omega (arith, l.lower a la ba, up, l.spared c lc (neither c nb nc))
               ]
             ]
             | inr nb ↦
                 let sa = l.spared a la (neither a nb na) in
-                elim (cases_test (f c)) [
+                elim (cases_Bool (f c)) [
                   | inl fc ↦ omega (arith, sa, up, l.higher c lc fc)
-                  | inr nc ↦ elim (cases_test (b c)) [
+                  | inr nc ↦ elim (cases_Bool (b c)) [
                     | inl bc ↦
                         let under : get_or order.ranks a 0 < low =
                         elim (cases_lt (get_or order.ranks a 0) low) [
@@ -212,10 +212,10 @@ module _ (edges : List (List ℕ)) (order : Ordering) (preds succs : List ℕ) (
     pred_before : (p : ℕ) → Contains preds p → get_or new p 0 < get_or new (length order.ranks) 0
     pred_before p w =
         let lp = All-contains (λ p. p < length order.ranks) preds p low_preds w in
-        elim (cases_test (b p)) [
+        elim (cases_Bool (b p)) [
           | inl bp ↦ l.front p lp bp
           | inr nb ↦
-              let nf : f p ≡ false = elim (cases_test (f p)) [
+              let nf : f p ≡ false = elim (cases_Bool (f p)) [
                 | inl fp ↦ let s = h.ahead p fp in absurd (h.free s.0 p s.1 w s.2)
                 | inr n ↦ n
               ] in
@@ -250,9 +250,9 @@ module _ (edges : List (List ℕ)) (order : Ordering) (preds succs : List ℕ) (
     -- what is not affected keeps its rank
     pub spared : (a : ℕ) → a < length order.ranks → (IsAffected edges order.ranks preds succs a → ⊥) →
         get_or new a 0 ≡ get_or order.ranks a 0
-    spared a la n = elim (cases_test (f a)) [
+    spared a la n = elim (cases_Bool (f a)) [
       | inl fa ↦ absurd (n (inl (h.ahead a fa), la))
-      | inr na ↦ elim (cases_test (b a)) [
+      | inr na ↦ elim (cases_Bool (b a)) [
         | inl ba ↦ absurd (n (inr (h.behind a ba), la))
         | inr nb ↦ l.spared a la (neither a nb na)
       ]
@@ -269,9 +269,9 @@ module _ (edges : List (List ℕ)) (order : Ordering) (preds succs : List ℕ) (
           elim w [ inl x ↦ omega (arith, x.1, l.long) | inr x ↦ omega (arith, x, l.long) ] in
           let e = o.every (get_or new a 0) (omega (arith, l.below a la, l.long)) in
           let c = e.0 in
-          elim (cases_test (f c)) [
+          elim (cases_Bool (f c)) [
             | inl fc ↦ inr (c, (inl (h.ahead c fc), e.1), e.2)
-            | inr nc ↦ elim (cases_test (b c)) [
+            | inr nc ↦ elim (cases_Bool (b c)) [
               | inl bc ↦ inr (c, (inr (h.behind c bc), e.1), e.2)
               | inr nb ↦
                   let same = l.once c a (omega (arith, e.1, l.long)) la (l.spared c e.1 (neither c nb nc) ∙ e.2) in
@@ -290,16 +290,19 @@ module _ (edges : List (List ℕ)) (order : Ordering) (preds succs : List ℕ) (
     pub taken : (r : ℕ) → IsFreed edges order.ranks preds succs r →
         (a : ℕ) × IsMover edges order.ranks preds succs a × (get_or new a 0 ≡ r)
     taken r w =
-        let within : r < length new = search rules in
+        let within : r < length new = elim w [
+          | inl q ↦ omega (arith, q, l.long)
+          | inr c ↦ omega (arith, c.2, o.below c.0 c.1.1, l.long)
+        ] in
         let e = l.every r within in
         let a = e.0 in
         elim (cases_eq a (length order.ranks)) [
           | inl q ↦ (a, inr q, e.2)
           | inr n ↦
               let la : a < length order.ranks = omega (arith, e.1, l.long) in
-              elim (cases_test (f a)) [
+              elim (cases_Bool (f a)) [
                 | inl fa ↦ (a, inl (inl (h.ahead a fa), la), e.2)
-                | inr na ↦ elim (cases_test (b a)) [
+                | inr na ↦ elim (cases_Bool (b a)) [
                   | inl ba ↦ (a, inl (inr (h.behind a ba), la), e.2)
                   | inr nb ↦
                       let old = l.spared a la (neither a nb na) in
@@ -339,9 +342,9 @@ module _ (edges : List (List ℕ)) (order : Ordering) (preds succs : List ℕ) (
     -- just the visited nodes have other ranks than before
     pub moved : moved_of order.ranks new ≡ length list
     moved = moved_of-listed order.ranks new list (omega (arith, l.long)) (record {
-      each = λ a w. elim (cases_test (f a)) [
+      each = λ a w. elim (cases_Bool (f a)) [
         | inl fa ↦ visits_each a (inl (h.ahead a fa), w.0)
-        | inr na ↦ elim (cases_test (b a)) [
+        | inr na ↦ elim (cases_Bool (b a)) [
           | inl ba ↦ visits_each a (inr (h.behind a ba), w.0)
           | inr nb ↦ absurd (true_differs _ _ w.1 (sym (l.spared a w.0 (neither a nb na))))
         ]

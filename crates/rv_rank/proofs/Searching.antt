@@ -1,9 +1,10 @@
 -- The search forward, by rising rank, finds just what edges reach.
 use Rattle.rv_rank.proofs.Common.{◌≡◌, ◌≢◌, ℕ, ◌+◌, ◌<◌, ◌≤◌, ◌⊎◌, false, List, [], length, get_or, inl, inr}
-use Rattle.rv_rank.proofs.Common.{sym, ◌∙◌, arith, ap, refl, All, All-contains, Contains, Contains-get_or, get_or_past}
+use Rattle.rv_rank.proofs.Common.{sym, ◌∙◌, arith, refl, All, All-contains, Contains, Contains-get_or, get_or_past}
 use Rattle.rv_rank.proofs.Common.{cases_eq, cases_lt, false≢true, Edge, Reaches, here, step, IsOrder}
-use Rattle.rv_rank.proofs.Common.{Has, has_bit, AreRanked, IsInverse, IsJoined, IsSearched, Ordering}
+use Rattle.rv_rank.proofs.Common.{Bool, true, has_bit, has_slot, IsJoined, IsSearched}
 use Rattle.rv_rank.proofs.Growth.{edge_from}
+use Rattle.rv_rank.proofs.Sets.{has_slot-below, has_slot-of}
 
 -- an edge leads to a node
 pub edge_below : (edges : List (List ℕ)) (ranks : List ℕ) → IsOrder edges ranks → (a b : ℕ) → Edge edges a b →
@@ -32,16 +33,16 @@ last_edge edges s a (step {b = x} e p) = elim (last_edge edges x a p) [
   | inr w ↦ inr (w.0, step e w.1, w.2)
 ]
 
--- the successors were put into an empty set
-pub IsSearched-start : (edges : List (List ℕ)) (ranks succs : List ℕ) (low : ℕ) (old new : List ℕ) →
-    ((a : ℕ) → has_bit old a ≡ false) → All (λ s. low ≤ get_or ranks s 0) succs → IsJoined old new succs →
+-- the successors alone were found first
+pub IsSearched-start : (edges : List (List ℕ)) (ranks succs : List ℕ) (low : ℕ) (old new : ℕ → Bool) →
+    ((a : ℕ) → old a ≡ false) → All (λ s. low ≤ get_or ranks s 0) succs → IsJoined old new succs →
     IsSearched edges ranks succs low new low
 IsSearched-start edges ranks succs low old new empty least j =
-    let given : (a : ℕ) → Has new a → Contains succs a = λ a m. elim (j.only a m) [
+    let given : (a : ℕ) → new a ≡ true → Contains succs a = λ a m. elim (j.only a m) [
       | inl was ↦ absurd (false≢true (sym (empty a) ∙ was))
       | inr w ↦ w
     ] in
-    let high : (a : ℕ) → Has new a → low ≤ get_or ranks a 0 =
+    let high : (a : ℕ) → new a ≡ true → low ≤ get_or ranks a 0 =
     λ a m. All-contains (λ s. low ≤ get_or ranks s 0) succs a least (given a m) in
     record {
       begun = j.found;
@@ -51,9 +52,9 @@ IsSearched-start edges ranks succs low old new empty least j =
     }
 
 -- the targets of a node that was found were put in
-pub IsSearched-more : (edges : List (List ℕ)) (ranks succs : List ℕ) (low : ℕ) (old new : List ℕ) (r v : ℕ) →
+pub IsSearched-more : (edges : List (List ℕ)) (ranks succs : List ℕ) (low : ℕ) (old new : ℕ → Bool) (r v : ℕ) →
     IsOrder edges ranks → IsSearched edges ranks succs low old r → get_or ranks v 0 ≡ r → v < length ranks →
-    Has old v → IsJoined old new (get_or edges v []) → IsSearched edges ranks succs low new (r + 1)
+    old v ≡ true → IsJoined old new (get_or edges v []) → IsSearched edges ranks succs low new (r + 1)
 IsSearched-more edges ranks succs low old new r v o h at below m j = record {
   begun = λ a w. j.kept a (h.begun a w);
   closed = λ a b under k e. elim (j.only a k) [
@@ -77,35 +78,30 @@ IsSearched-more edges ranks succs low old new r v o h at below m j = record {
 }
 
 -- where no slot stands from rank r up to q, what was found below q is below r
-pub ranks_before : (order : Ordering) (ahead slots : List ℕ) (r q : ℕ) → IsInverse order.nodes order.ranks →
-    AreRanked order ahead slots → ((k : ℕ) → r ≤ k → k < q → has_bit slots k ≡ false) → (a : ℕ) → Has ahead a →
-    get_or order.ranks a 0 < q → get_or order.ranks a 0 < r
-ranks_before order ahead slots r q inverse ranked none a m under = elim (cases_lt (get_or order.ranks a 0) r) [
+ranks_before : (ranks slots : List ℕ) (r q : ℕ) → ((k : ℕ) → r ≤ k → k < q → has_bit slots k ≡ false) → (a : ℕ) →
+    has_slot ranks slots a ≡ true → get_or ranks a 0 < q → get_or ranks a 0 < r
+ranks_before ranks slots r q none a m under = elim (cases_lt (get_or ranks a 0) r) [
   | inl low ↦ low
-  | inr high ↦
-      let k = get_or order.ranks a 0 in
-      let here = inverse.back a (ranked.nodes a m) in
-      let is = ranked.same k (omega (arith, here.0, inverse.long)) ∙ ap (has_bit ahead) here.1 ∙ m in
-      absurd (false≢true (sym (none k high under) ∙ is))
+  | inr high ↦ absurd (false≢true (sym (has_slot-of ranks slots a (has_slot-below ranks slots a m)
+      ∙ none (get_or ranks a 0) high under) ∙ m))
 ]
 
 -- ranks that are no slots are passed
-pub IsSearched-jump : (edges : List (List ℕ)) (order : Ordering) (succs : List ℕ) (low : ℕ) (ahead slots : List ℕ)
-    (r q : ℕ) → IsInverse order.nodes order.ranks → AreRanked order ahead slots →
-    ((k : ℕ) → r ≤ k → k < q → has_bit slots k ≡ false) → IsSearched edges order.ranks succs low ahead r →
-    IsSearched edges order.ranks succs low ahead q
-IsSearched-jump edges order succs low ahead slots r q inverse ranked none h = record {
+pub IsSearched-jump : (edges : List (List ℕ)) (ranks succs : List ℕ) (low : ℕ) (slots : List ℕ) (r q : ℕ) →
+    ((k : ℕ) → r ≤ k → k < q → has_bit slots k ≡ false) →
+    IsSearched edges ranks succs low (has_slot ranks slots) r →
+    IsSearched edges ranks succs low (has_slot ranks slots) q
+IsSearched-jump edges ranks succs low slots r q none h = record {
   begun = h.begun;
-  closed = λ a b under m e.
-      h.closed a b (ranks_before order ahead slots r q inverse ranked none a m under) m e;
+  closed = λ a b under m e. h.closed a b (ranks_before ranks slots r q none a m under) m e;
   found = h.found;
   high = h.high;
 }
 
 -- what is reached from a node that was found was found
-pub reached_found : (edges : List (List ℕ)) (ranks succs : List ℕ) (low : ℕ) (ahead : List ℕ) →
+pub reached_found : (edges : List (List ℕ)) (ranks succs : List ℕ) (low : ℕ) (ahead : ℕ → Bool) →
     IsOrder edges ranks → IsSearched edges ranks succs low ahead (length ranks) → (a b : ℕ) → Reaches edges a b →
-    Has ahead a → Has ahead b
+    ahead a ≡ true → ahead b ≡ true
 reached_found edges ranks succs low ahead o h a b here m = m
 reached_found edges ranks succs low ahead o h a b (step {b = x} e p) m =
     let under = o.below a (omega (arith, edge_from edges a x e, o.long)) in

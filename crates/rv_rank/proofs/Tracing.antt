@@ -7,7 +7,7 @@ use Rattle.rv_rank.proofs.Searching.{edge_below}
 module _ (edges : List (List ℕ)) (ranks preds : List ℕ) (o : IsOrder edges ranks) where
   -- the predecessors were put into an empty set
   pub IsTraced-start : (old new : List ℕ) (end : ℕ) → ((a : ℕ) → has_bit old a ≡ false) →
-      IsJoined old new preds → AreBelow ranks new end → IsTraced edges ranks preds new end
+      IsJoined (has_bit old) (has_bit new) preds → AreBelow ranks new end → IsTraced edges ranks preds new end
   IsTraced-start old new end empty j below = record {
     begun = j.found;
     closed = λ a b from m e. absurd (omega (arith, from, (below b m).1));
@@ -21,7 +21,7 @@ module _ (edges : List (List ℕ)) (ranks preds : List ℕ) (o : IsOrder edges r
   pub IsTraced-more : (old new : List ℕ) (r v : ℕ) (sources : List ℕ) →
       ((a : ℕ) → Contains sources a → Edge edges a v) → ((a : ℕ) → Edge edges a v → Contains sources a) →
       IsTraced edges ranks preds old (r + 1) → get_or ranks v 0 ≡ r → v < length ranks → Has old v →
-      IsJoined old new sources → IsTraced edges ranks preds new r
+      IsJoined (has_bit old) (has_bit new) sources → IsTraced edges ranks preds new r
   IsTraced-more old new r v sources to from t at below m j = record {
     begun = λ a w. j.kept a (t.begun a w);
     closed = λ a b high k e. elim (j.only b k) [

@@ -2,21 +2,23 @@
 use Rattle.rv_rank.proofs.Common.{◌≡◌, ℕ, suc, zero, ◌+◌, ◌-◌, ◌<◌, List, [], ◌∷◌, ◌++◌, length, get_or, reverse}
 use Rattle.rv_rank.proofs.Common.{inl, inr, sym, ◌∙◌, arith, ap, Contains, get_or-reverse, length-reverse}
 use Rattle.rv_rank.proofs.Common.{get_or_push, get_or_append_left, length_push, cases_lt, common_steps, Edge}
-use Rattle.rv_rank.proofs.Common.{IsOrder, IsTrail, IsSearched, Has, has_bit, All, All-contains, false≢true, false}
+use Rattle.rv_rank.proofs.Common.{IsOrder, IsTrail, IsSearched, Bool, true, All, All-contains, false≢true, false}
 use Rattle.rv_rank.proofs.Common.{IsAhead, OnlyAhead, Contains-push_cases}
+use Rattle.rv_rank.proofs.Common.{IsLowest, has_slot, take, ◌≤◌}
+use Rattle.rv_rank.proofs.Lists.{Contains-take_more}
 use Rattle.rv_rank.proofs.Searching.{last_edge, reached_found}
 
 -- the way back from a node as far as another
-pub record IsWayBack (edges : List (List ℕ)) (ahead : List ℕ) (end node : ℕ) (back : List ℕ) : Type 0 where
+pub record IsWayBack (edges : List (List ℕ)) (ahead : ℕ → Bool) (end node : ℕ) (back : List ℕ) : Type 0 where
   pub some : 0 < length back
   pub first : get_or back 0 0 ≡ end
   pub last : get_or back (length back - 1) 0 ≡ node
-  pub found : Has ahead node
+  pub found : ahead node ≡ true
   pub steps : (k : ℕ) → k + 1 < length back → Edge edges (get_or back (k + 1) 0) (get_or back k 0)
 
 -- one step further back
-pub IsWayBack-more : (edges : List (List ℕ)) (ahead : List ℕ) (end node from : ℕ) (back : List ℕ) →
-    IsWayBack edges ahead end node back → Edge edges from node → Has ahead from →
+pub IsWayBack-more : (edges : List (List ℕ)) (ahead : ℕ → Bool) (end node from : ℕ) (back : List ℕ) →
+    IsWayBack edges ahead end node back → Edge edges from node → ahead from ≡ true →
     IsWayBack edges ahead end from (back ++ from ∷ [])
 IsWayBack-more edges ahead end node from back h e m =
     let long = length_push back from in
@@ -48,7 +50,7 @@ rising f n h i (suc d) l =
     rw e (let below = rising f n h i d (omega arith) in let last = h (i + d + 1) (omega arith) in omega arith)
 
 -- turned round it is a trail
-pub IsTrail-reverse : (edges : List (List ℕ)) (ranks succs ahead : List ℕ) (end node : ℕ) (back : List ℕ) →
+pub IsTrail-reverse : (edges : List (List ℕ)) (ranks succs : List ℕ) (ahead : ℕ → Bool) (end node : ℕ) (back : List ℕ) →
     IsOrder edges ranks → IsWayBack edges ahead end node back → Contains succs node →
     IsTrail edges succs end (reverse back)
 IsTrail-reverse edges ranks succs ahead end node back o h w =
@@ -78,9 +80,9 @@ IsTrail-reverse edges ranks succs ahead end node back o h w =
     }
 
 -- a node that was found, and is no successor, has a source that was found
-pub found_source : (edges : List (List ℕ)) (ranks succs : List ℕ) (low : ℕ) (ahead : List ℕ) (node : ℕ) →
-    IsOrder edges ranks → IsSearched edges ranks succs low ahead (length ranks) → Has ahead node →
-    (Contains succs node → ⊥) → (u : ℕ) × Edge edges u node × Has ahead u
+pub found_source : (edges : List (List ℕ)) (ranks succs : List ℕ) (low : ℕ) (ahead : ℕ → Bool) (node : ℕ) →
+    IsOrder edges ranks → IsSearched edges ranks succs low ahead (length ranks) → ahead node ≡ true →
+    (Contains succs node → ⊥) → (u : ℕ) × Edge edges u node × (ahead u ≡ true)
 found_source edges ranks succs low ahead node o h m n =
     let w = h.found node m in
     elim (last_edge edges w.0 node w.2) [
@@ -89,13 +91,13 @@ found_source edges ranks succs low ahead node o h m n =
     ]
 
 -- so its sources are not all missing
-pub some_source : (edges : List (List ℕ)) (ranks succs : List ℕ) (low : ℕ) (ahead sources : List ℕ) (node : ℕ) →
-    IsOrder edges ranks → IsSearched edges ranks succs low ahead (length ranks) → Has ahead node →
+pub some_source : (edges : List (List ℕ)) (ranks succs : List ℕ) (low : ℕ) (ahead : ℕ → Bool) (sources : List ℕ) (node : ℕ) →
+    IsOrder edges ranks → IsSearched edges ranks succs low ahead (length ranks) → ahead node ≡ true →
     (Contains succs node → ⊥) → ((a : ℕ) → Edge edges a node → Contains sources a) →
-    All (λ a. has_bit ahead a ≡ false) sources → ⊥
+    All (λ a. ahead a ≡ false) sources → ⊥
 some_source edges ranks succs low ahead sources node o h m n from none =
     let p = found_source edges ranks succs low ahead node o h m n in
-    false≢true (sym (All-contains (λ a. has_bit ahead a ≡ false) sources p.0 none (from p.0 p.1)) ∙ p.2)
+    false≢true (sym (All-contains (λ a. ahead a ≡ false) sources p.0 none (from p.0 p.1)) ∙ p.2)
 
 -- one more node that was found forward
 pub only_more : (edges : List (List ℕ)) (ranks succs list : List ℕ) (a : ℕ) → OnlyAhead edges ranks succs list →
@@ -103,4 +105,14 @@ pub only_more : (edges : List (List ℕ)) (ranks succs list : List ℕ) (a : ℕ
 only_more edges ranks succs list a h w l b m = elim (Contains-push_cases list a b m) [
   | inl was ↦ h b was
   | inr same ↦ rw (sym same) (w, l)
+]
+
+-- of one node more, the lowest is one of a rank that is no higher than both
+pub IsLowest-more : (ranks slots nodes : List ℕ) (i lowest next : ℕ) → IsLowest ranks slots (take i nodes) lowest →
+    i < length nodes → get_or ranks next 0 ≤ get_or ranks lowest 0 →
+    (has_slot ranks slots (get_or nodes i 0) ≡ true → get_or ranks next 0 ≤ get_or ranks (get_or nodes i 0) 0) →
+    IsLowest ranks slots (take (i + 1) nodes) next
+IsLowest-more ranks slots nodes i lowest next h l down here b w is = elim (Contains-take_more nodes i b l w) [
+  | inl v ↦ omega (arith, down, h b v is)
+  | inr q ↦ let told = rw q at here in told is
 ]

@@ -14,12 +14,13 @@ members_in found visits node = members_of visits found.split node
 pub record IsPlan (found : Found) (nodes ranks visits : List ℕ) : Type 0 where
   pub few : found.low ≤ length nodes
   pub lowest : found.low < length nodes →
-      (s : ℕ) × (s < length nodes) × (is_ahead_in found s ≡ true) × (slice_index ranks s ≡ found.low)
-  pub ahead : (a : ℕ) → is_ahead_in found a ≡ true → (a < length nodes) × (found.low ≤ slice_index ranks a)
+      (s : ℕ) × (s < length nodes) × (is_ahead_in found ranks s ≡ true) × (slice_index ranks s ≡ found.low)
+  pub ahead : (a : ℕ) → is_ahead_in found ranks a ≡ true → (a < length nodes) × (found.low ≤ slice_index ranks a)
   pub behind : (a : ℕ) → is_behind_in found ranks a ≡ true → a < length nodes
-  pub apart : (a : ℕ) → is_behind_in found ranks a ≡ true → is_ahead_in found a ≡ false
-  pub listed : visits ≡ filter (is_ahead_in found) nodes ++ reverse (filter (is_behind_in found ranks) nodes)
-  pub split : found.split ≡ length (filter (is_ahead_in found) nodes)
+  pub apart : (a : ℕ) → is_behind_in found ranks a ≡ true → is_ahead_in found ranks a ≡ false
+  pub listed : visits
+      ≡ filter (is_ahead_in found ranks) nodes ++ reverse (filter (is_behind_in found ranks) nodes)
+  pub split : found.split ≡ length (filter (is_ahead_in found ranks) nodes)
   pub slots : AreSlots found nodes ranks
 
 -- the members are one more than the slots, none stands twice, and each has a place among the ranks

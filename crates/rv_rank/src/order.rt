@@ -123,7 +123,7 @@ impl Order {
         requires small { length self.old.ranks < 65536 }
         requires plan { IsPlan found.now self.old.nodes self.old.ranks visits.now }
         requires room { length self.old.ranks < self.old.room }
-        ensures { IsLocal (is_behind_in found.now self.old.ranks) (is_ahead_in found.now)
+        ensures { IsLocal (is_behind_in found.now self.old.ranks) (is_ahead_in found.now self.old.ranks)
             found.now.low self.old.ranks self.new.ranks }
     {
         place_members(&mut self.nodes, &mut self.ranks, found, visits);
@@ -139,7 +139,7 @@ fn place_members(nodes: &mut Vec<u32>, ranks: &mut Vec<u32>, found: &Found, visi
     requires room_ranks { vec_len ranks.old < vec_capacity ranks.old }
     ensures inverse { IsInverse nodes.new.items ranks.new.items }
     ensures local { IsLocal (is_behind_in found.now ranks.old.items)
-        (is_ahead_in found.now)
+        (is_ahead_in found.now ranks.old.items)
         found.now.low ranks.old.items ranks.new.items }
 {
     ranks.push(nodes.len() as u32).unwrap();

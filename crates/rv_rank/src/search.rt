@@ -4,15 +4,15 @@
 //! successors meets each of them after all that lead to it, and a pass by falling rank over those
 //! found from the predecessors meets each before all that lead to it. Neither pass needs a
 //! worklist, and each node is visited once. No pass goes above the highest rank that was marked.
-ghost use Rattle.std.specs.Prelude.{◌≡◌, ℕ, ◌<◌, [], ◌≤◌, ◌*◌, ◌++◌, length, reverse, false};
-ghost use Rattle.std.specs.Prelude.{slice_index, IfOk, OnOk, IfErr, OnErr, MatchOption};
-ghost use Rattle.std.specs.List.{All, Contains};
+ghost use Rattle.std.specs.Prelude.{◌≡◌, ℕ, ◌<◌, [], ◌≤◌, ◌*◌, ◌++◌, length, reverse, true, false};
+ghost use Rattle.std.specs.Prelude.{slice_index, IfOk, IfSome, OnOk, IfErr, OnErr, MatchOption};
+ghost use Rattle.std.specs.List.{All, Contains, filter};
 ghost use Rattle.rv_rows.specs.Bits.{Has, has_bit};
 ghost use Rattle.rv_rank.specs.Graph.{IsOrder, IsTrail};
 ghost use Rattle.rv_rank.specs.Order.{IsInverse};
-ghost use Rattle.rv_rank.specs.Sets.{AreAdded, AreBelow, AreRanked, HasRoomFor, IsJoined};
+ghost use Rattle.rv_rank.specs.Sets.{AreAdded, AreBelow, AreRanks, HasRoomFor, IsJoined, IsLowest, has_slot};
 ghost use Rattle.rv_rank.specs.Sets.{IsSearched, IsTraced, OnlyAhead};
-ghost use Rattle.rv_rank.specs.Found.{IsSameGraph, IsFound, found_ahead, found_behind, is_traced};
+ghost use Rattle.rv_rank.specs.Found.{IsSameGraph, IsFound, found_behind, is_traced};
 ghost use Rattle.rv_rank.specs.Placing.{IsRefusal, OnlyAffected};
 
 use crate::order::Order;
@@ -21,16 +21,15 @@ use crate::walk::Walk;
 use rv_rows::BitSet;
 use std::alloc::{AllocError, Global};
 
-/// What a search found: the nodes ahead and those behind, as sets, the ranks of those affected, the
-/// least rank of a successor, and how many of the visits were made forward. The set behind may have
-/// nodes of lower ranks than `low`, which are not affected.
+/// What a search found: the ranks of the affected nodes and the nodes behind, as sets, the least
+/// rank of a successor, and how many of the visits were made forward. The set behind may have nodes
+/// of lower ranks than `low`, which are not affected.
 ///
 /// Each search takes out what the one before it found, and uses the room of the sets again.
 #[derive(Drop)]
 pub struct Found {
     pub low: usize,
     pub split: usize,
-    pub ahead: BitSet,
     pub behind: BitSet,
     pub slots: BitSet,
 }
@@ -38,14 +37,12 @@ pub struct Found {
 impl Found {
     /// Nothing, without room. It takes no memory.
     pub fn new(alloc: Global) -> Self
-        ensures ahead { (a : ℕ) → has_bit result.ahead a ≡ false }
         ensures behind { (a : ℕ) → has_bit result.behind a ≡ false }
         ensures slots { (r : ℕ) → has_bit result.slots r ≡ false }
     {
         Found {
             low: 0,
             split: 0,
-            ahead: BitSet::new(alloc),
             behind: BitSet::new(alloc),
             slots: BitSet::new(alloc),
         }
@@ -55,13 +52,11 @@ impl Found {
     fn clear(&mut self, count: usize)
         ensures low { self.new.low ≡ count }
         ensures split { self.new.split ≡ 0 }
-        ensures ahead { (a : ℕ) → has_bit self.new.ahead a ≡ false }
         ensures behind { (a : ℕ) → has_bit self.new.behind a ≡ false }
         ensures slots { (r : ℕ) → has_bit self.new.slots r ≡ false }
     {
         self.low = count;
         self.split = 0;
-        self.ahead.clear();
         self.behind.clear();
         self.slots.clear();
     }
@@ -71,32 +66,13 @@ impl Found {
     /// # Errors
     /// `AllocError` where the memory was refused.
     fn reserve(&mut self, count: usize) -> Result<(), AllocError>
-        ensures ahead { (a : ℕ) → has_bit self.new.ahead a ≡ has_bit self.old.ahead a }
         ensures behind { (a : ℕ) → has_bit self.new.behind a ≡ has_bit self.old.behind a }
         ensures slots { (r : ℕ) → has_bit self.new.slots r ≡ has_bit self.old.slots r }
         ensures room { OnOk result (HasRoomFor count self.new) }
     {
-        self.ahead.reserve(count)?;
         self.behind.reserve(count)?;
         self.slots.reserve(count)?;
         Ok(())
-    }
-
-    /// Puts the nodes into the set ahead, and their ranks among the slots.
-    fn put_ahead(&mut self, order: &Order, nodes: &[u32])
-        requires inverse { IsInverse order.now.nodes order.now.ranks }
-        requires room { HasRoomFor (length order.now.ranks) self.old }
-        requires nodes { All (λ a. a < length order.now.ranks) nodes.now }
-        requires ranked { AreRanked order.now self.old.ahead self.old.slots }
-        ensures joined { IsJoined self.old.ahead self.new.ahead nodes.now }
-        ensures ranked { AreRanked order.now self.new.ahead self.new.slots }
-        ensures room { HasRoomFor (length order.now.ranks) self.new }
-        ensures behind { self.new.behind ≡ self.old.behind }
-    {
-        for node in nodes {
-            self.ahead.insert(*node as usize);
-            self.slots.insert(order.rank(*node) as usize);
-        }
     }
 }
 
@@ -133,10 +109,10 @@ pub fn search(
     }
     found.reserve(count)?;
     let low = order.least_rank(succs);
-    sweep_forward(walk, order, low, succs, found);
+    sweep_forward(walk, order, low, succs, &mut found.slots);
     let split = walk.visits().len();
-    if let Some(end) = first_of(&found.ahead, preds) {
-        let path = trail(alloc, walk, order, succs, &found.ahead, end)?;
+    if let Some(end) = first_of(order, &found.slots, preds) {
+        let path = trail(alloc, walk, order, succs, &found.slots, end)?;
         return Err(Refused::Circle(path));
     }
     sweep_backward(walk, order, low, preds, found);
@@ -148,7 +124,8 @@ pub fn search(
 /// Puts the nodes into the set, which has room for them.
 fn put_all(set: &mut BitSet, nodes: &[u32])
     requires { All (λ a. a < 64 * length set.old) nodes.now }
-    ensures { IsJoined set.old set.new nodes.now }
+    ensures joined { IsJoined (has_bit set.old) (has_bit set.new) nodes.now }
+    ensures room { length set.new ≡ length set.old }
 {
     for node in nodes {
         set.insert(*node as usize);
@@ -162,7 +139,8 @@ fn put_below(order: &Order, set: &mut BitSet, nodes: &[u32], top: usize) -> usiz
     requires nodes { All (λ a. a < length order.now.ranks) nodes.now }
     requires below { AreBelow order.now.ranks set.old top }
     requires within { top ≤ length order.now.ranks }
-    ensures joined { IsJoined set.old set.new nodes.now }
+    ensures joined { IsJoined (has_bit set.old) (has_bit set.new) nodes.now }
+    ensures room { length set.new ≡ length set.old }
     ensures below { AreBelow order.now.ranks set.new result }
     ensures higher { top ≤ result }
     ensures within { result ≤ length order.now.ranks }
@@ -175,32 +153,47 @@ fn put_below(order: &Order, set: &mut BitSet, nodes: &[u32], top: usize) -> usiz
     top
 }
 
-/// Finds what edges reach from the successors, and visits just those nodes, by rising rank.
-fn sweep_forward(walk: &mut Walk, order: &Order, low: usize, succs: &[u32], found: &mut Found)
+/// Puts the nodes' ranks among the slots, which have room for all there are.
+fn put_ranks(order: &Order, slots: &mut BitSet, nodes: &[u32])
+    requires inverse { IsInverse order.now.nodes order.now.ranks }
+    requires room { length order.now.ranks ≤ 64 * length slots.old }
+    requires nodes { All (λ a. a < length order.now.ranks) nodes.now }
+    requires within { AreRanks order.now.ranks slots.old }
+    ensures joined { IsJoined (has_slot order.now.ranks slots.old) (has_slot order.now.ranks slots.new)
+        nodes.now }
+    ensures within { AreRanks order.now.ranks slots.new }
+    ensures room { length slots.new ≡ length slots.old }
+{
+    for node in nodes {
+        slots.insert(order.rank(*node) as usize);
+    }
+}
+
+/// Finds what edges reach from the successors, visits just those nodes, by rising rank, and puts
+/// their ranks among the slots.
+fn sweep_forward(walk: &mut Walk, order: &Order, low: usize, succs: &[u32], slots: &mut BitSet)
     requires ordered { IsOrder walk.old.edges order.now.ranks }
     requires inverse { IsInverse order.now.nodes order.now.ranks }
     requires succs { All (λ s. s < length order.now.ranks) succs.now }
     requires low { All (λ s. low ≤ slice_index order.now.ranks s) succs.now }
     requires within { low ≤ length order.now.ranks }
-    requires empty { (a : ℕ) → has_bit found.old.ahead a ≡ false }
-    requires free { (r : ℕ) → has_bit found.old.slots r ≡ false }
-    requires for_all { HasRoomFor (length order.now.ranks) found.old }
+    requires empty { (r : ℕ) → has_bit slots.old r ≡ false }
+    requires for_all { length order.now.ranks ≤ 64 * length slots.old }
     requires begun { walk.old.visits ≡ [] }
     requires small { length order.now.ranks < 65536 }
     requires room { 2 * length walk.old.edges ≤ walk.old.room }
-    ensures searched { IsSearched walk.old.edges order.now.ranks succs.now low found.new.ahead
-        (length order.now.ranks) }
-    ensures visits { walk.new.visits ≡ found_ahead order.now.nodes found.new.ahead }
+    ensures searched { IsSearched walk.old.edges order.now.ranks succs.now low
+        (has_slot order.now.ranks slots.new) (length order.now.ranks) }
+    ensures visits { walk.new.visits ≡ filter (has_slot order.now.ranks slots.new) order.now.nodes }
     ensures same { IsSameGraph walk.old walk.new }
-    ensures ranked { AreRanked order.now found.new.ahead found.new.slots }
-    ensures for_all { HasRoomFor (length order.now.ranks) found.new }
-    ensures behind { found.new.behind ≡ found.old.behind }
+    ensures ranks { AreRanks order.now.ranks slots.new }
+    ensures for_all { length order.now.ranks ≤ 64 * length slots.new }
 {
-    found.put_ahead(order, succs);
+    put_ranks(order, slots, succs);
     let mut rank = low;
-    'ranks: while let Some(next) = found.slots.first_from(rank) {
+    'ranks: while let Some(next) = slots.first_from(rank) {
         let node = order.node_at(next);
-        found.put_ahead(order, walk.forward(node));
+        put_ranks(order, slots, walk.forward(node));
         rank = next + 1;
     }
 }
@@ -223,7 +216,6 @@ fn sweep_backward(walk: &mut Walk, order: &Order, low: usize, preds: &[u32], fou
     ensures nodes { (a : ℕ) → Has found.new.behind a → a < length order.now.ranks }
     ensures slots { AreAdded (is_traced low order.now.ranks found.new.behind) order.now.nodes
         found.old.slots found.new.slots }
-    ensures ahead { found.new.ahead ≡ found.old.ahead }
 {
     let end = put_below(order, &mut found.behind, preds, low);
     let mut rank = end;
@@ -237,30 +229,33 @@ fn sweep_backward(walk: &mut Walk, order: &Order, low: usize, preds: &[u32], fou
     }
 }
 
-/// The first of the nodes that the set has.
-fn first_of(set: &BitSet, nodes: &[u32]) -> Option<u32>
+/// The first of the nodes whose ranks are among the slots.
+fn first_of(order: &Order, slots: &BitSet, nodes: &[u32]) -> Option<u32>
+    requires { All (λ a. a < length order.now.ranks) nodes.now }
     ensures { MatchOption result
-        (All (λ a. has_bit set.now a ≡ false) nodes.now)
-        (λ a. Contains nodes.now a × Has set.now a) }
+        (All (λ a. has_slot order.now.ranks slots.now a ≡ false) nodes.now)
+        (λ a. Contains nodes.now a × (has_slot order.now.ranks slots.now a ≡ true)) }
 {
     for node in nodes {
-        if set.has(*node as usize) {
+        if slots.has(order.rank(*node) as usize) {
             return Some(*node);
         }
     }
     None
 }
 
-/// Of the nodes that the set has, the one of the lowest rank.
-fn lowest_of(order: &Order, set: &BitSet, nodes: &[u32]) -> Option<u32>
+/// Of the nodes whose ranks are among the slots, the one of the lowest rank.
+fn lowest_of(order: &Order, slots: &BitSet, nodes: &[u32]) -> Option<u32>
     requires { All (λ a. a < length order.now.ranks) nodes.now }
-    ensures { MatchOption result
-        (All (λ a. has_bit set.now a ≡ false) nodes.now)
-        (λ a. Contains nodes.now a × Has set.now a) }
+    ensures found { MatchOption result
+        (All (λ a. has_slot order.now.ranks slots.now a ≡ false) nodes.now)
+        (λ a. Contains nodes.now a × (has_slot order.now.ranks slots.now a ≡ true)) }
+    ensures lowest { IfSome result (IsLowest order.now.ranks slots.now nodes.now) }
 {
-    let mut lowest = first_of(set, nodes)?;
+    let mut lowest = first_of(order, slots, nodes)?;
     for node in nodes {
-        if set.has(*node as usize) && order.rank(*node) < order.rank(lowest) {
+        let rank = order.rank(*node);
+        if slots.has(rank as usize) && rank < order.rank(lowest) {
             lowest = *node;
         }
     }
@@ -274,15 +269,13 @@ fn trail(
     walk: &mut Walk,
     order: &Order,
     succs: &[u32],
-    ahead: &BitSet,
+    slots: &BitSet,
     end: u32,
 ) -> Result<Vec<u32>, AllocError>
     requires ordered { IsOrder walk.old.edges order.now.ranks }
-    requires searched { (low : ℕ)
-        × IsSearched walk.old.edges order.now.ranks succs.now low ahead.now
-        (length order.now.ranks) }
-    requires nodes { (a : ℕ) → Has ahead.now a → a < length order.now.ranks }
-    requires found { Has ahead.now end }
+    requires searched { (low : ℕ) × IsSearched walk.old.edges order.now.ranks succs.now low
+        (has_slot order.now.ranks slots.now) (length order.now.ranks) }
+    requires found { has_slot order.now.ranks slots.now end ≡ true }
     requires affected { OnlyAhead walk.old.edges order.now.ranks succs.now walk.old.visits }
     requires few { length walk.old.visits ≤ length order.now.ranks }
     requires room { 2 * length walk.old.edges ≤ walk.old.room }
@@ -294,7 +287,7 @@ fn trail(
     path.push(end)?;
     let mut node = end;
     while !succs.contains(&node) {
-        let Some(from) = lowest_of(order, ahead, walk.backward(node)) else {
+        let Some(from) = lowest_of(order, slots, walk.backward(node)) else {
             unreachable!()
         };
         path.push(from)?;

@@ -8,14 +8,14 @@ returns-then-is_empty-clause-found c =
     let none : c.args.succs.now ≡ [] = grind (arith, common_steps) in
     let cleared = c.clear.ensures in
     rw (none, c.requires.begun) (found_none c.args.walk.now.edges c.args.order.now c.args.preds.now
-    c.clear.new.self (cleared.low ∙ c.len-count.ensures.count) cleared.split cleared.ahead cleared.behind cleared.slots)
+    c.clear.new.self (cleared.low ∙ c.len-count.ensures.count) cleared.split cleared.behind cleared.slots)
 
 pub trail-requires-clause-affected : goal.trail-requires-clause-affected
 trail-requires-clause-affected c =
     let found = c.sweep_forward.ensures in
     rw found.same.edges (only_ahead c.args.walk.now.edges c.args.order.now.nodes c.args.order.now.ranks c.args.succs.now
-    c.least_rank-low.result c.sweep_forward.new.found.ahead (length c.args.order.now.ranks)
-    c.sweep_forward.new.walk.visits found.searched found.ranked.nodes found.visits)
+    c.least_rank-low.result c.sweep_forward.new.slots (length c.args.order.now.ranks)
+    c.sweep_forward.new.walk.visits found.searched found.visits)
 
 pub trail-requires-clause-few : goal.trail-requires-clause-few
 trail-requires-clause-few c = search (listed_all_few, rules)
@@ -48,19 +48,14 @@ returns-clause-found c =
     let backward = c.sweep_backward.ensures in
     let traced = rw forward.same.edges at backward.traced in
     let lowest = c.least_rank-low.ensures in
-    let searched = rw (← backward.ahead) at forward.searched in
-    let ranked = rw (← backward.ahead) at forward.ranked in
-    let visits = rw (← backward.ahead) at forward.visits in
-    let free = rw (← backward.ahead) at c.in_default.ensures in
     found_both c.args.walk.now.edges c.args.order.now c.args.preds.now c.args.succs.now
     (record {
       low = c.least_rank-low.result;
       split = length c.visits-split.result.now;
-      ahead = c.sweep_backward.new.found.ahead;
       behind = c.sweep_backward.new.found.behind;
       slots = c.sweep_backward.new.found.slots;
     })
-    c.requires.ordered searched traced c.sweep_forward.new.walk.visits c.sweep_backward.new.walk.visits
-    c.sweep_forward.new.found.slots c.requires.inverse ranked backward.nodes backward.slots free lowest.least
-    lowest.within (λ l. elim lowest.some [ inl e ↦ absurd (omega (arith, e, l)) | inr w ↦ w ])
-    (ap length c.visits-split.ensures) visits backward.visits
+    c.sweep_forward.new.slots c.requires.ordered c.requires.inverse forward.searched traced backward.slots
+    c.in_default.ensures c.sweep_forward.new.walk.visits c.sweep_backward.new.walk.visits forward.ranks backward.nodes
+    lowest.least lowest.within (λ l. elim lowest.some [ inl e ↦ absurd (omega (arith, e, l)) | inr w ↦ w ])
+    (ap length c.visits-split.ensures) forward.visits backward.visits

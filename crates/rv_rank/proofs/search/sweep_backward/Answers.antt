@@ -44,7 +44,6 @@ loop-rank-init c =
           sym (ap (λ x. x || has_bit c.args.found.now.slots k) lacks);
       others = λ k l. refl;
       beyond = λ k l. refl;
-      ahead = refl;
     }
 
 pub backward-requires-clause-room : goal.backward-requires-clause-room
@@ -62,7 +61,7 @@ put_all-requires c = λ k d l.
       ap length c.loop-rank.invariant.same.edges,
       c.requires.ordered.long,
       c.requires.for_all.behind,
-      c.put_below-end.ensures.joined.long,
+      c.put_below-end.ensures.room,
       c.loop-rank.invariant.long,
     )
 
@@ -89,12 +88,12 @@ loop-rank-preserved-then-has c =
     let l : r < length nodes = omega (arith, c.requires.inverse.long) in
     let traced = rw up at inv.traced in
     let listed = rw up at inv.visits in
-    let joined = c.put_all.ensures in
+    let joined = c.put_all.ensures.joined in
     let taken : Has old v = sym c.has.ensures ∙ c.if-has.true in
     let same : (k : ℕ) → r + 1 ≤ k → k < length nodes →
     is_traced low ranks old (get_or nodes k 0) ≡ is_traced low ranks new (get_or nodes k 0) =
     λ k b m. ap (λ x. x && not (nat_lt (get_or ranks (get_or nodes k 0) 0) low))
-    (joined_same old new sources (get_or nodes k 0) joined (λ e. omega (
+    (joined_same (has_bit old) (has_bit new) sources (get_or nodes k 0) joined (λ e. omega (
       arith,
       o.forward (get_or nodes k 0) v ((both (get_or nodes k 0)).0 e),
       (c.requires.inverse.there k m).1,
@@ -122,7 +121,7 @@ loop-rank-preserved-then-has c =
       within = inv.within;
       up_to = omega (arith, inv.up_to);
       below = under;
-      long = joined.long ∙ inv.long;
+      long = c.put_all.ensures.room ∙ inv.long;
       slots = c.insert.ensures.room ∙ inv.slots;
       passed = λ k from m. elim (cases_eq r k) [
         | inl q ↦
@@ -139,7 +138,6 @@ loop-rank-preserved-then-has c =
       beyond = λ k past. c.insert.ensures.inserted k ∙
           ap (λ x. has_bit slots k || x) (ne_eqb r k (omega (arith, past, l))) ∙ or-false (has_bit slots k) ∙
           inv.beyond k past;
-      ahead = inv.ahead;
     }
 
 pub loop-rank-preserved : goal.loop-rank-preserved
@@ -181,7 +179,6 @@ loop-rank-preserved c =
       ];
       others = λ k under. inv.others k (omega (arith, under, up));
       beyond = inv.beyond;
-      ahead = inv.ahead;
     }
 
 pub returns-clause-visits : goal.returns-clause-visits

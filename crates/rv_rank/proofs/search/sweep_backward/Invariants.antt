@@ -19,7 +19,6 @@ invariant-loop-rank l = record {
       ≡ (is_traced l.low l.order.ranks l.found.behind (get_or l.order.nodes k 0) || has_bit l.initial.found.slots k);
   others : (k : ℕ) → k < l.rank → has_bit l.found.slots k ≡ has_bit l.initial.found.slots k;
   beyond : (k : ℕ) → length l.order.nodes ≤ k → has_bit l.found.slots k ≡ has_bit l.initial.found.slots k;
-  ahead : l.found.ahead ≡ l.initial.found.ahead;
 }
 
 abbrev pub decreases-loop-rank : goal.decreases-loop-rank
