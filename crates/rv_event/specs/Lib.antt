@@ -1,6 +1,7 @@
 pub mod Annotations
 pub mod Carried
 pub mod Contexts
+pub mod Deps
 pub mod Edges
 pub mod Faults
 pub mod Laws

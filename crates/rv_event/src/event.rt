@@ -1,10 +1,10 @@
 //! Events of a hart, as a trace records them.
-ghost use Rattle.std.specs.Prelude.{◌≡◌, ◌↔◌, ◌++◌, ◌∷◌, [], IfOk, IsTrue, OnErr, OnOk, Some};
+ghost use Rattle.std.specs.Prelude.{◌≡◌, ◌↔◌, ◌++◌, ◌∷◌, [], IfOk, IsFalse, IsTrue, OnErr, OnOk, Some};
 ghost use Rattle.rv_event.specs.Operations.{IsLoad, IsStore, IsMemory};
 ghost use Rattle.rv_event.specs.Texts.{id_text};
 
 use crate::no_memory::NoMemory;
-use std::alloc::Global;
+use std::alloc::{AllocError, Global};
 use std::fmt;
 use std::marker::Model;
 
@@ -130,19 +130,115 @@ pub struct Dep {
     pub seq: u32,
 }
 
-/// The dependencies of an event, seen by contracts as their list.
+/// How many dependencies stand in place.
+const SHORT: usize = 3;
+
+/// What stands in a place that is not used.
+const BLANK: Dep = Dep {
+    kind: DepKind::Addr,
+    seq: 0,
+};
+
+/// Up to three dependencies, in place. Contracts see their list.
 #[derive(Drop, Debug)]
-pub struct Deps {
-    items: Vec<Dep>,
+struct Short {
+    /// How many of the places are used: the first so many.
+    count: u8,
+    items: [Dep; SHORT],
+    /// It serves the list that takes their place.
+    alloc: Global,
 }
 
-impl Model for Deps {
-    ghost use Rattle.std.specs.Prelude.{List};
+impl Model for Short {
+    ghost use Rattle.std.specs.Prelude.{List, ◌≤◌, take};
     ghost use Rattle.rv_event.specs.declared.event.Dep.{Dep};
 
     ghost Value = { List Dep };
 
-    ghost view = { λ d. d.items.items };
+    ghost view = { λ s. take s.count s.items };
+
+    ghost invariant = { λ s. s.count ≤ 3 };
+}
+
+impl Short {
+    /// None.
+    fn new(alloc: Global) -> Self
+        ensures { result ≡ [] }
+    {
+        Short {
+            count: 0,
+            items: [BLANK; SHORT],
+            alloc,
+        }
+    }
+
+    /// The same, with this allocator.
+    fn copy(&self, alloc: Global) -> Self
+        ensures { result ≡ self.now }
+    {
+        Short {
+            count: self.count,
+            items: self.items,
+            alloc,
+        }
+    }
+
+    /// Adds one at the end, where there is a place for it.
+    fn push(&mut self, dep: Dep) -> bool
+        ensures pushed { IsTrue result → self.new ≡ self.old ++ dep ∷ [] }
+        ensures full { IsFalse result → self.new ≡ self.old }
+    {
+        let place = self.count as usize;
+        if place >= SHORT {
+            return false;
+        }
+        self.items[place] = dep;
+        self.count += 1;
+        true
+    }
+
+    /// Those there are, in order.
+    fn as_slice(&self) -> &[Dep]
+        ensures { result.now ≡ self.now }
+    {
+        &self.items[..self.count as usize]
+    }
+
+    /// A list of them and one more.
+    fn list_with(&self, dep: Dep) -> Result<Vec<Dep>, AllocError>
+        ensures { IfOk result (λ list. list.items ≡ self.now ++ dep ∷ []) }
+    {
+        let mut list = Vec::with_capacity(self.alloc, 2 * SHORT)?;
+        list.extend_from_slice(self.as_slice())?;
+        list.push(dep)?;
+        Ok(list)
+    }
+}
+
+/// Where the dependencies of an event stand.
+#[derive(Drop, Debug)]
+enum Kept {
+    /// In place.
+    Short(Short),
+    /// In a list.
+    Long(Vec<Dep>),
+}
+
+/// The dependencies of an event, seen by contracts as their list. Up to three that were added one
+/// by one take no memory.
+#[derive(Drop, Debug)]
+pub struct Deps {
+    kept: Kept,
+}
+
+impl Model for Deps {
+    ghost use Rattle.std.specs.Prelude.{List};
+    ghost use Rattle.rv_event.specs.Deps.{kept_deps};
+    ghost use Rattle.rv_event.specs.declared.event.Dep.{Dep};
+
+    ghost Value = { List Dep };
+
+    ghost view = { λ d. kept_deps d.kept };
 }
 
 impl PartialEq for Deps {
@@ -164,7 +260,7 @@ impl Deps {
         ensures { result ≡ [] }
     {
         Deps {
-            items: Vec::new(alloc),
+            kept: Kept::Short(Short::new(alloc)),
         }
     }
 
@@ -172,10 +268,12 @@ impl Deps {
     pub fn from_vec(items: Vec<Dep>) -> Self
         ensures { result ≡ items.items }
     {
-        Deps { items }
+        Deps {
+            kept: Kept::Long(items),
+        }
     }
 
-    /// Adds a dependency at the end.
+    /// Adds a dependency at the end. The first three take no memory.
     ///
     /// # Errors
     /// `NoMemory` where there is no room; the dependencies stay as they are.
@@ -183,26 +281,44 @@ impl Deps {
         ensures pushed { OnOk result (self.new ≡ self.old ++ dep ∷ []) }
         ensures unchanged { OnErr result (self.new ≡ self.old) }
     {
-        self.items.push(dep)?;
+        let list = match &mut self.kept {
+            Kept::Short(short) => {
+                if short.push(dep) {
+                    return Ok(());
+                }
+                short.list_with(dep)?
+            }
+            Kept::Long(list) => {
+                list.push(dep)?;
+                return Ok(());
+            }
+        };
+        self.kept = Kept::Long(list);
         Ok(())
     }
 
-    /// Equal dependencies.
+    /// Equal dependencies. Up to three that were added one by one take no memory.
     ///
     /// # Errors
     /// `NoMemory` where there is no room; the dependencies stay as they are.
     pub fn copy(&self, alloc: Global) -> Result<Deps, NoMemory>
         ensures { IfOk result (λ deps. deps ≡ self.now) }
     {
-        let items = Vec::from_slice(alloc, self.as_slice())?;
-        Ok(Deps { items })
+        let kept = match &self.kept {
+            Kept::Short(short) => Kept::Short(short.copy(alloc)),
+            Kept::Long(list) => Kept::Long(Vec::from_slice(alloc, list.as_slice())?),
+        };
+        Ok(Deps { kept })
     }
 
     /// The dependencies, in order.
     pub fn as_slice(&self) -> &[Dep]
         ensures { result.now ≡ self.now }
     {
-        self.items.as_slice()
+        match &self.kept {
+            Kept::Short(short) => short.as_slice(),
+            Kept::Long(list) => list.as_slice(),
+        }
     }
 }
 
