@@ -1,5 +1,6 @@
 -- What a book counts in its log.
-use Rattle.std.specs.Prelude.{ℕ, ◌≡◌, ◌≤◌, Bool, false, not, ◌&&◌, ◌==◌, List, length, take, count_by, is_none}
+use Rattle.std.specs.Prelude.{ℕ, ◌≡◌, ◌<◌, ◌≤◌, Bool, true, false, not, ◌&&◌, ◌==◌, List, length, take, count_by}
+use Rattle.std.specs.Prelude.{is_none, slice_index_or}
 use Rattle.std.specs.List.{All}
 use Rattle.rv_event.specs.Operations.{is_load, is_memory}
 use Rattle.rv_event.specs.Log.{events, writer}
@@ -20,3 +21,7 @@ waiting_of log = count_by (λ x. is_waiting (events log) x.event) log
 pub record AreSettled (log : List Entry) (place : ℕ) : Type 0 where
   pub within : place ≤ length log
   pub none : All (λ x. is_waiting (events log) x.event ≡ false) (take place log)
+
+-- the entry of this place, where there is one, waits for a store
+abbrev pub WaitsAt : List Entry → ℕ → Type 0
+WaitsAt log place = (x : Entry) → place < length log → is_waiting (events log) (slice_index_or log place x).event ≡ true

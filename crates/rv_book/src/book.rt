@@ -2,7 +2,7 @@
 ghost use Rattle.std.specs.Prelude.{◌≡◌, ◌↔◌, ◌++◌, ◌∷◌, [], ◌<◌, ◌≤◌, ◌+◌, IfOk, OnErr, IsFalse, IsTrue};
 ghost use Rattle.std.specs.Prelude.{length, true, count_by};
 ghost use Rattle.std.specs.Option.{option_map};
-ghost use Rattle.rv_book.specs.Counts.{AreSettled, is_waiting, operations_of, waiting_of};
+ghost use Rattle.rv_book.specs.Counts.{AreSettled, WaitsAt, is_waiting, operations_of, waiting_of};
 ghost use Rattle.rv_book.specs.Linked.{AreLinksOf};
 ghost use Rattle.rv_edges.specs.Kept.{happened};
 ghost use Rattle.rv_edges.specs.Ties.{AreTiesOf};
@@ -391,7 +391,8 @@ fn count_waiting(arrangement: &Arrangement, entries: &[Entry]) -> usize
 fn settle(arrangement: &Arrangement, settled: usize) -> usize
     requires same { happened arrangement.now.history ≡ events arrangement.now.log }
     requires settled { AreSettled arrangement.now.log settled }
-    ensures { AreSettled arrangement.now.log result }
+    ensures settled { AreSettled arrangement.now.log result }
+    ensures waits { WaitsAt arrangement.now.log result }
 {
     let log = arrangement.log();
     let mut place = settled;

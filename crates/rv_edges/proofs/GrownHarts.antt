@@ -5,6 +5,7 @@ use Rattle.rv_edges.proofs.Common.{Some, ◌-◌, length-append, get_or, cases_l
 use Rattle.rv_edges.proofs.Common.{map-append, get_or_append_left, length_push, get_or-append_seam, events}
 use Rattle.rv_edges.proofs.Common.{of_hart, Event, Entry, MemoryModel, Hart, IsHartOf, hart_of_log, HartOrder}
 use Rattle.rv_edges.proofs.Common.{own-push, hart-other, hart-back, own-other, AreHarts, IsHartAt, hart_from}
+use Rattle.std.proofs.lemmas.List.{get_or-set_other, get_or-set_same, length-set}
 use Rattle.rv_edges.proofs.Sides.{same_front}
 
 -- a hart of the list, by its place
@@ -54,8 +55,13 @@ module _ (model : MemoryModel) (log log' : List Event) (harts : List HartOrder) 
   each h y low at = go (cases_eq h n)
     where
       go : (h ≡ n) ⊎ (h ≢ n) → IsHartAt model log' h y
-      go (inl same) = grind (arith, common_steps)
-      go (inr apart) = others h y apart (own.each h y (grind (arith, common_steps)) (grind (arith, common_steps)))
+      go (inl same) =
+          let here : y ≡ x = at ∙ ap (λ (k : ℕ). slice_index_or (slice_set harts n x) k y) same
+          ∙ get_or-set_same harts n x y within in
+          subst (λ (z : HartOrder). IsHartAt model log' h z) (sym here)
+          (subst (λ (k : ℕ). IsHartAt model log' k x) (sym same) is)
+      go (inr apart) = others h y apart (own.each h y (omega (arith, low, length-set harts n x))
+          (at ∙ get_or-set_other harts n h x y apart))
 
   -- one hart changes, and the log in its events alone
   pub harts-set : AreHarts model log' (slice_set harts n x)

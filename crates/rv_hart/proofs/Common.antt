@@ -77,5 +77,5 @@ pub use Rattle.std.proofs.lemmas.List.Elements.{All-contains, All-filter, Contai
 pub use Rattle.std.proofs.lemmas.List.Elements.{Contains-push, Contains-push_cases, filter_passes}
 pub use Rattle.std.proofs.lemmas.Nat.Bits.{bit_at-zero}
 pub use Rattle.std.proofs.lemmas.Option.{get_or_from_slice_get, none-some, same_Some, slice_get_within}
-pub use Rattle.std.specs.HashMap.{get}
+pub use Rattle.rv_rows.specs.NumberMaps.{number_of}
 pub use Rattle.std.specs.List.{list_any}

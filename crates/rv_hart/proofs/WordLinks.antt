@@ -1,7 +1,7 @@
 -- The links of words with one more event, and with one less.
-use Rattle.rv_hart.proofs.Common.{◌≡◌, ◌≢◌, ℕ, ◌+◌, ◌<◌, ◌≤◌, List, [], ◌∷◌, ◌++◌, length, get_or, Contains, Option}
-use Rattle.rv_hart.proofs.Common.{Some, None, nat_eq, ◌⊎◌, inl, inr, sym, refl, ap, ◌∙◌, arith, subst}
-use Rattle.rv_hart.proofs.Common.{cases_order, cases_eq, or_right, get, length_push, get_or_append_left, get_or_at}
+use Rattle.rv_hart.proofs.Common.{number_of, ◌≡◌, ◌≢◌, ℕ, ◌+◌, ◌<◌, ◌≤◌, List, [], ◌∷◌, ◌++◌, length, get_or, Contains, Option}
+use Rattle.rv_hart.proofs.Common.{Some, None, ◌⊎◌, inl, inr, sym, refl, ap, ◌∙◌, arith, subst}
+use Rattle.rv_hart.proofs.Common.{cases_order, cases_eq, or_right, length_push, get_or_append_left, get_or_at}
 use Rattle.rv_hart.proofs.Common.{Contains-push_cases, Contains-push, Contains-append_left, rules, common_steps}
 use Rattle.rv_hart.proofs.Common.{is_load, is_store, IsMemory, IsStore, Event, AreNumbered, IsOfWord, NamesOfWord}
 use Rattle.rv_hart.proofs.Common.{IsBeforeRun, IsLastBelow, IsWordLink, IsHighestStore, link_at, AreWords, WordLink}
@@ -176,7 +176,7 @@ module _ (events : List Event) (e : Event) (numbered : AreNumbered events) (next
   -- the words with one event more
   pub words-push : (words words' : Words) (link : WordLink) → AreWords events words →
       words'.links.items ≡ words.links.items ++ link ∷ [] → (IsMemory e → IsWordLink events e link) →
-      ((word : ℕ) → IsLastBelow more word (length more) (get nat_eq words'.lasts word)) → AreWords more words'
+      ((word : ℕ) → IsLastBelow more word (length more) (number_of words'.lasts word)) → AreWords more words'
   words-push words words' link are is new lasts = record {
     lasts = lasts;
     links = λ a c memory. subst (λ (ls : List WordLink). IsWordLink more a (link_at ls a.id.seq)) (sym is)
@@ -200,7 +200,7 @@ module _ (events : List Event) (e : Event) (numbered : AreNumbered events) (next
   -- and with one less
   pub words-pop : (words words' : Words) (link : WordLink) → AreWords more words →
       words.links.items ≡ words'.links.items ++ link ∷ [] →
-      ((word : ℕ) → IsLastBelow events word (length events) (get nat_eq words'.lasts word)) → AreWords events words'
+      ((word : ℕ) → IsLastBelow events word (length events) (number_of words'.lasts word)) → AreWords events words'
   words-pop words words' link are is lasts = record {
     lasts = lasts;
     links = λ a c memory.
@@ -286,3 +286,13 @@ numbered-read events numbered w x n cw at read = read ∙ ap (λ (k : ℕ). get_
 -- one event wrote one version
 pub wrote-same : (x y : Event) → x ≡ y → x.wrote ≡ y.wrote
 wrote-same x y same = ap (λ (z : Event). z.wrote) same
+
+-- words with the same last operations and the same links
+pub words-same : (events : List Event) (words words' : Words) → AreWords events words →
+    ((word : ℕ) → number_of words'.lasts word ≡ number_of words.lasts word) →
+    words'.links.items ≡ words.links.items → AreWords events words'
+words-same events words words' h lasts links = record {
+  lasts = λ word. rw (lasts word) (h.lasts word);
+  links = λ a w m. rw links (h.links a w m);
+  count = ap length links ∙ h.count;
+}

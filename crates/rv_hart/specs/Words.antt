@@ -1,6 +1,6 @@
 -- The memory operations of each word of a hart, linked from the last one back.
-use Rattle.std.specs.Prelude.{ℕ, ◌≡◌, ◌<◌, ◌≤◌, List, Contains, Option, Some, None, length, nat_eq, slice_index_or}
-use Rattle.std.specs.HashMap.{get}
+use Rattle.std.specs.Prelude.{ℕ, ◌≡◌, ◌<◌, ◌≤◌, List, Contains, Option, Some, None, length, slice_index_or}
+use Rattle.rv_rows.specs.NumberMaps.{number_of}
 use Rattle.rv_event.specs.Operations.{IsMemory, IsStore}
 use Rattle.rv_event.specs.declared.event.Event.{Event}
 use Rattle.rv_hart.specs.Sets.{HasEvent}
@@ -62,6 +62,6 @@ link_at links s = slice_index_or links s (record { previous = None; before_run =
 
 -- each word's last memory operation, and a link for each event
 pub record AreWords (events : List Event) (words : Words) : Type 0 where
-  pub lasts : (word : ℕ) → IsLastBelow events word (length events) (get nat_eq words.lasts word)
+  pub lasts : (word : ℕ) → IsLastBelow events word (length events) (number_of words.lasts word)
   pub links : (a : Event) → Contains events a → IsMemory a → IsWordLink events a (link_at words.links.items a.id.seq)
   pub count : length words.links.items ≡ length events

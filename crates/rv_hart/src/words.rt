@@ -1,7 +1,7 @@
 //! The memory operations of each word of a hart, linked from the last one back.
-ghost use Rattle.std.specs.Prelude.{ℕ, ◌≡◌, ◌≢◌, ◌<◌, ◌++◌, ◌∷◌, [], List, length, OnOk, OnErr, IsSome, Some, nat_eq};
+ghost use Rattle.std.specs.Prelude.{ℕ, ◌≡◌, ◌≢◌, ◌<◌, ◌++◌, ◌∷◌, [], List, length, OnOk, OnErr, IsSome, Some};
 ghost use Rattle.std.specs.Prelude.{slice_index_or};
-ghost use Rattle.std.specs.HashMap.{get};
+ghost use Rattle.rv_rows.specs.NumberMaps.{number_of};
 ghost use Rattle.rv_event.specs.Operations.{IsMemory};
 ghost use Rattle.rv_event.specs.declared.event.Event.{Event};
 ghost use Rattle.rv_hart.specs.Words.{AreNumbered, AreWords, IsWordLink, IsBeforeRun, IsHighestStore};
@@ -9,8 +9,8 @@ ghost use Rattle.rv_hart.specs.Words.{AreNumbered, AreWords, IsWordLink, IsBefor
 use crate::kept_link::KeptLink;
 use crate::own_events::OwnEvents;
 use rv_event::{Event, NoMemory};
+use rv_rows::NumberMap;
 use std::alloc::Global;
-use std::collections::HashMap;
 
 /// Where a walk over a word's memory operations goes on from one of them.
 #[derive(Clone, Copy)]
@@ -27,7 +27,7 @@ pub struct WordLink {
 #[derive(Drop)]
 pub struct Words {
     /// The number of each word's last memory operation.
-    pub lasts: HashMap<u32, u32>,
+    pub lasts: NumberMap,
     /// A link for each event of the hart. Those of events that are no memory operations are never
     /// read.
     pub links: Vec<KeptLink>,
@@ -39,16 +39,16 @@ impl Words {
         ensures { (events : List Event) → events ≡ [] → AreWords events result }
     {
         Words {
-            lasts: HashMap::new(alloc),
+            lasts: NumberMap::new(alloc),
             links: Vec::new(alloc),
         }
     }
 
     /// The number of the word's last memory operation.
     pub fn last(&self, word: u32) -> Option<u32>
-        ensures { result ≡ get nat_eq self.now.lasts word }
+        ensures { result ≡ number_of self.now.lasts word }
     {
-        self.lasts.get(&word).copied()
+        self.lasts.get(word)
     }
 
     /// The number of the word's store of the highest version.
@@ -65,7 +65,7 @@ impl Words {
     fn highest_up_to(&self, events: &OwnEvents<'_>, word: u32, number: u32) -> Option<u32>
         requires numbered { AreNumbered events.now }
         requires words { AreWords events.now self.now }
-        requires last { get nat_eq self.now.lasts word ≡ Some number }
+        requires last { number_of self.now.lasts word ≡ Some number }
         ensures { IsHighestStore events.now word (length events.now) result }
     {
         let last = events.at(number as usize);
@@ -143,7 +143,7 @@ impl Words {
         requires numbered { AreNumbered events.now }
         requires next { event.now.id.seq ≡ length events.now }
         requires words { AreWords events.now self.now }
-        requires last { get nat_eq self.now.lasts event.now.word ≡ Some number }
+        requires last { number_of self.now.lasts event.now.word ≡ Some number }
         ensures { IsBeforeRun events.now event.now result }
     {
         let last = events.at(number as usize);
@@ -172,21 +172,15 @@ impl Words {
     /// Makes the operation with this number the word's last, where there is one, and else forgets
     /// the word.
     fn step_back(&mut self, word: u32, last: Option<u32>)
-        requires { IsSome (get nat_eq self.old.lasts word) }
+        requires { IsSome (number_of self.old.lasts word) }
         ensures links { self.new.links ≡ self.old.links }
-        ensures here { get nat_eq self.new.lasts word ≡ last }
+        ensures here { number_of self.new.lasts word ≡ last }
         ensures others { (other : ℕ) → word ≢ other →
-            get nat_eq self.new.lasts other ≡ get nat_eq self.old.lasts other }
+            number_of self.new.lasts other ≡ number_of self.old.lasts other }
     {
         match last {
-            Some(number) => {
-                if let Some(place) = self.lasts.get_mut(&word) {
-                    *place = number;
-                }
-            }
-            None => {
-                self.lasts.remove(&word);
-            }
+            Some(number) => self.lasts.replace(word, number),
+            None => self.lasts.remove(word),
         }
     }
 }

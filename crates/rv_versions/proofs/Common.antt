@@ -57,7 +57,7 @@ pub use Rattle.std.proofs.lemmas.List.Elements.{All-contains, Contains-append_ca
 pub use Rattle.std.proofs.lemmas.List.Elements.{Contains-append_right, Contains-get_or, Contains-push}
 pub use Rattle.std.proofs.lemmas.List.Elements.{Contains-push_cases, at_from_Contains, at_read}
 pub use Rattle.std.proofs.lemmas.Option.{none-some, same_Some}
-pub use Rattle.std.specs.HashMap.{get}
+pub use Rattle.rv_rows.specs.NumberMaps.{number_of}
 pub use Rattle.std.specs.List.{AllWithin}
 pub use Rattle.std.specs.List.Sorted.{IsNonDecreasingBy, IsPartitionPoint}
 pub use Rattle.std.specs.Map.{lookup}

@@ -1,6 +1,6 @@
 //! The stores, the loads and the pairs of a log, by word and version.
-ghost use Rattle.std.specs.Prelude.{◌≡◌, Some, OnOk, OnErr, IfOk, nat_eq};
-ghost use Rattle.std.specs.HashMap.{get};
+ghost use Rattle.std.specs.Prelude.{◌≡◌, Some, OnOk, OnErr, IfOk};
+ghost use Rattle.rv_rows.specs.NumberMaps.{number_of};
 ghost use Rattle.rv_versions.specs.Indexes.{own_postings, pair_postings, postings_of, ArePostingsTo};
 ghost use Rattle.rv_versions.specs.Indexes.{AreInserted, AreRemoved, AreSame, AreAbsent};
 ghost use Rattle.rv_versions.specs.Words.{no_accesses, together, AreInPlace, AreThoseTo};
@@ -8,8 +8,8 @@ ghost use Rattle.rv_versions.specs.Words.{no_accesses, together, AreInPlace, Are
 use crate::accesses::{Access, Accesses, Postings};
 use crate::reservation::Reservation;
 use rv_event::{Event, Id, NoMemory};
+use rv_rows::NumberMap;
 use std::alloc::Global;
-use std::collections::HashMap;
 use std::marker::Model;
 
 /// The access of an event to a version of a word.
@@ -56,15 +56,15 @@ fn pair_postings(sc: Id, reservation: Reservation) -> Postings
 #[derive(Drop)]
 pub struct Indexes {
     alloc: Global,
-    places: HashMap<u32, usize>,
+    places: NumberMap,
     words: Vec<Accesses>,
     /// Those to a word that has no number.
     none: Accesses,
 }
 
 impl Model for Indexes {
-    ghost use Rattle.std.specs.Prelude.{◌≡◌, nat_eq};
-    ghost use Rattle.std.specs.HashMap.{get};
+    ghost use Rattle.std.specs.Prelude.{◌≡◌};
+    ghost use Rattle.rv_rows.specs.NumberMaps.{number_of};
     ghost use Rattle.rv_versions.specs.Words.{no_accesses, together, AreInPlace};
     ghost use Rattle.rv_versions.specs.declared.accesses.Accesses.{Accesses};
 
@@ -72,7 +72,7 @@ impl Model for Indexes {
 
     ghost view = { λ a. together a.words.items };
 
-    ghost invariant = { λ a. AreInPlace (get nat_eq a.places) a.words.items × (a.none ≡ no_accesses) };
+    ghost invariant = { λ a. AreInPlace (number_of a.places) a.words.items × (a.none ≡ no_accesses) };
 }
 
 /// The number of the word, which is given one where it has none.
@@ -82,21 +82,24 @@ impl Model for Indexes {
 #[inline(always)]
 fn place_of(
     alloc: Global,
-    places: &mut HashMap<u32, usize>,
+    places: &mut NumberMap,
     words: &mut Vec<Accesses>,
     word: u32,
 ) -> Result<usize, NoMemory>
-    requires { AreInPlace (get nat_eq places.old) words.old.items }
-    ensures in_place { AreInPlace (get nat_eq places.new) words.new.items }
+    requires { AreInPlace (number_of places.old) words.old.items }
+    ensures in_place { AreInPlace (number_of places.new) words.new.items }
     ensures same { together words.new.items ≡ together words.old.items }
-    ensures placed { IfOk result (λ place. get nat_eq places.new word ≡ Some place) }
+    ensures placed { IfOk result (λ place. number_of places.new word ≡ Some place) }
 {
-    if let Some(place) = places.get(&word) {
-        return Ok(*place);
+    if let Some(place) = places.get(word) {
+        return Ok(place as usize);
     }
     let place = words.len();
+    let Ok(number) = u32::try_from(place) else {
+        return Err(NoMemory);
+    };
     words.push(Accesses::new(alloc))?;
-    places.insert(word, place)?;
+    places.insert(word, number)?;
     Ok(place)
 }
 
@@ -107,7 +110,7 @@ impl Indexes {
     {
         Indexes {
             alloc,
-            places: HashMap::new(alloc),
+            places: NumberMap::new(alloc),
             words: Vec::new(alloc),
             none: Accesses::new(alloc),
         }
@@ -117,8 +120,8 @@ impl Indexes {
     pub fn of_word(&self, word: u32) -> &Accesses
         ensures { AreThoseTo self.now word result.now }
     {
-        match self.places.get(&word) {
-            Some(place) => &self.words[*place],
+        match self.places.get(word) {
+            Some(place) => &self.words[place as usize],
             None => &self.none,
         }
     }
@@ -189,10 +192,10 @@ impl Indexes {
         requires { ArePostingsTo word postings }
         ensures { AreRemoved self.old postings self.new }
     {
-        let Some(place) = self.places.get(&word) else {
+        let Some(place) = self.places.get(word) else {
             return;
         };
-        let accesses = &mut self.words[*place];
+        let accesses = &mut self.words[place as usize];
         accesses.remove(postings);
     }
 }

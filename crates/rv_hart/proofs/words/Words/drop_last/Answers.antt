@@ -1,4 +1,4 @@
-use Rattle.rv_hart.proofs.Common.{◌≡◌, ◌++◌, ◌∷◌, [], List, ℕ, length, nat_eq, Option, refl, ap, ◌∙◌, get, arith}
+use Rattle.rv_hart.proofs.Common.{◌≡◌, ◌++◌, ◌∷◌, [], List, ℕ, length, Option, refl, ap, ◌∙◌, number_of, arith}
 use Rattle.rv_hart.proofs.Common.{common_steps, IsMemory, Event, AreNumbered, IsLastBelow, Words}
 use Rattle.rv_hart.proofs.WordLinks.{words-pop, pop-here, lasts-back, lasts-kept, numbered-front, numbered-last}
 use Rattle.rv_hart.specs.declared.words.WordLink.{WordLink}
@@ -8,8 +8,8 @@ pub returns-then-is_memory : goal.returns-then-is_memory
 returns-then-is_memory c =
     let front : List Event = c.args.events.now in
     let e : Event = c.args.event.now in
-    let old : ℕ → Option ℕ = λ w. get nat_eq c.args.self.now.lasts w in
-    let new : ℕ → Option ℕ = λ w. get nat_eq c.step_back.new.self.lasts w in
+    let old : ℕ → Option ℕ = λ w. number_of c.args.self.now.lasts w in
+    let new : ℕ → Option ℕ = λ w. number_of c.step_back.new.self.lasts w in
     let memory : IsMemory e = c.is_memory.ensures.0 c.if-is_memory.true in
     let before : AreNumbered front = numbered-front front e c.requires.numbered in
     let next : e.id.seq ≡ length front = numbered-last front e c.requires.numbered in
@@ -25,7 +25,7 @@ pub returns-else-is_memory : goal.returns-else-is_memory
 returns-else-is_memory c =
     let front : List Event = c.args.events.now in
     let e : Event = c.args.event.now in
-    let old : ℕ → Option ℕ = λ w. get nat_eq c.args.self.now.lasts w in
+    let old : ℕ → Option ℕ = λ w. number_of c.args.self.now.lasts w in
     let left : Words = record { lasts = c.args.self.now.lasts; links = c.pop.new.self } in
     let none : IsMemory e → ⊥ = grind (arith, common_steps) in
     let before : AreNumbered front = numbered-front front e c.requires.numbered in

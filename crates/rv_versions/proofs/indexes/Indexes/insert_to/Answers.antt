@@ -1,4 +1,4 @@
-use Rattle.rv_versions.proofs.Common.{◌≡◌, ◌∙◌, get_or, set, nat_eq, sym, subst, get, rules, AreInserted, AreSame}
+use Rattle.rv_versions.proofs.Common.{◌≡◌, ◌∙◌, get_or, set, sym, subst, number_of, rules, AreInserted, AreSame}
 use Rattle.rv_versions.proofs.Common.{AreAbsent, no_accesses, together, Accesses}
 use Rattle.rv_versions.proofs.Placed.{here_is, from_inserted, from_same, still_in_place, are_inserted, are_same}
 use Rattle.rv_versions.proofs.Placed.{absent_here}
@@ -25,7 +25,7 @@ insert-requires c =
     let words = c.place_of.new.words.items in
     let r = (goal.at.insert-requires c).After-index_mut-accesses in
     subst (λ (old : Accesses). AreAbsent old c.args.postings) (here r)
-    (absent_here (get nat_eq c.place_of.new.places) words c.place_of.ensures.in_place c.args.word c.in_ok-place.place
+    (absent_here (number_of c.place_of.new.places) words c.place_of.ensures.in_place c.args.word c.in_ok-place.place
     c.in_ok-place.ensures.placed c.args.postings
     (subst (λ (old : Accesses). AreAbsent old c.args.postings) (sym (all r)) c.requires.absent))
 
@@ -45,7 +45,7 @@ invariant_of-self-in_err-insert c =
     let words = c.place_of.new.words.items in
     let k = c.in_ok-place.place in
     let w = c.insert.new.self in (
-      still_in_place (get nat_eq c.place_of.new.places) words c.place_of.ensures.in_place c.args.word k c.args.postings
+      still_in_place (number_of c.place_of.new.places) words c.place_of.ensures.in_place c.args.word k c.args.postings
           w c.in_ok-place.ensures.placed c.requires.to
           (from_same (get_or words k no_accesses) w c.args.postings
           (kept (goal.at.invariant_of-self-in_err-insert c).In_err-insert)),
@@ -61,7 +61,7 @@ returns-in_err-insert-clause-unchanged c =
     on_err c.from_residual-in_err-insert.result _
     (subst (λ (old : Accesses). AreSame old c.args.postings (together (set words k w)))
     (all (goal.at.In_err-insert r).After-index_mut-accesses)
-    (are_same (get nat_eq c.place_of.new.places) words c.place_of.ensures.in_place c.args.word k c.args.postings w
+    (are_same (number_of c.place_of.new.places) words c.place_of.ensures.in_place c.args.word k c.args.postings w
     c.in_ok-place.ensures.placed c.requires.to (kept r)))
 
 pub invariant_of-self-2 : goal.invariant_of-self-2
@@ -69,7 +69,7 @@ invariant_of-self-2 c =
     let words = c.place_of.new.words.items in
     let k = c.in_ok-place.place in
     let w = c.insert.new.self in (
-      still_in_place (get nat_eq c.place_of.new.places) words c.place_of.ensures.in_place c.args.word k c.args.postings
+      still_in_place (number_of c.place_of.new.places) words c.place_of.ensures.in_place c.args.word k c.args.postings
           w c.in_ok-place.ensures.placed c.requires.to
           (from_inserted (get_or words k no_accesses) w c.args.postings
           (put (goal.at.invariant_of-self-2 c).In_ok-insert)),
@@ -84,5 +84,5 @@ returns-clause-inserted c =
     let r = (goal.at.returns-clause-inserted c).In_ok-insert in
     subst (λ (old : Accesses). AreInserted old c.args.postings (together (set words k w)))
     (all (goal.at.In_ok-insert r).After-index_mut-accesses)
-    (are_inserted (get nat_eq c.place_of.new.places) words c.place_of.ensures.in_place c.args.word k c.args.postings w
+    (are_inserted (number_of c.place_of.new.places) words c.place_of.ensures.in_place c.args.word k c.args.postings w
     c.in_ok-place.ensures.placed c.requires.to (put r))
