@@ -1,5 +1,5 @@
 //! The dependencies of a row.
-ghost use Rattle.std.specs.Prelude.{◌≡◌, ◌≤◌, true, length, IfOk, IfErr};
+ghost use Rattle.std.specs.Prelude.{◌≡◌, ◌≤◌, ◌==◌, true, count_by, length, nat_lt, IfOk, IfErr};
 ghost use Rattle.rv_chunk.specs.Chunks.{AreSmall};
 ghost use Rattle.rv_trace.specs.Dependencies.{dependencies, dependency, each_dependency, letter, parts};
 ghost use Rattle.rv_trace.specs.Faults.{IsOfTextOrMemory, is_of_text};
@@ -49,11 +49,19 @@ fn dependency_of(columns: Columns, part: &[u8]) -> Result<Dep, FaultKind>
     }
 }
 
-/// How many parts a text has between its single spaces.
-fn count_of_parts(text: &[u8]) -> usize
-    ensures { result ≡ length (parts text.now) }
+/// How many spaces a text has.
+fn count_of_spaces(text: &[u8]) -> usize
+    ensures { result ≡ count_by (λ b. b == 32) text.now }
 {
-    text.split(|b| *b == b' ').count()
+    text.iter().filter(|b| **b == b' ').count()
+}
+
+/// Whether a text has more parts between its single spaces than an event may have dependencies.
+fn has_many_parts(text: &[u8]) -> bool
+    ensures { result ≡ nat_lt MAX_DEPS (length (parts text.now)) }
+{
+    // So short a text has not so many, and most are shorter.
+    text.len() >= MAX_DEPS && count_of_spaces(text) >= MAX_DEPS
 }
 
 /// What each part says, and the first that is wrong.
@@ -85,7 +93,7 @@ pub fn dependencies_of(alloc: Global, columns: Columns, text: &[u8]) -> Result<D
     if text.is_empty() {
         return Ok(Deps::new(alloc));
     }
-    if count_of_parts(text) > MAX_DEPS {
+    if has_many_parts(text) {
         return Err(FaultKind::TooManyDeps);
     }
     each_of(alloc, columns, text)
