@@ -232,14 +232,16 @@ impl Arrangement {
             }
             Err(refused) => {
                 let removed = self.history.pop();
-                match refused {
-                    Refused::NoMemory => Err(NoMemory),
-                    Refused::Circle(path) => {
-                        let names = self.ids.as_slice();
-                        let nodes = path.as_slice();
-                        refuse(self.alloc, &self.history, names, &removed, nodes)
-                    }
-                }
+                // It is dropped by a call: where the scope ends, the proof would take it apart.
+                let Refused::Circle(path) = refused else {
+                    drop(removed);
+                    return Err(NoMemory);
+                };
+                let names = self.ids.as_slice();
+                let nodes = path.as_slice();
+                let refusal = refuse(self.alloc, &self.history, names, &removed, nodes);
+                drop(removed);
+                refusal
             }
         }
     }

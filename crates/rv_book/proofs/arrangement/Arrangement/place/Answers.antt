@@ -3,8 +3,7 @@ use Rattle.rv_book.proofs.Common.{Entry, Past, kept_of, IsFit, Arranged, IsArran
 use Rattle.rv_book.proofs.CallValues.{nodes_low, circle_between, grown_between, circle_at, ShowsCircle}
 use Rattle.rv_book.proofs.GrownHistories.{before_node, after_node, arranged_node}
 use Rattle.rv_book.proofs.Circles.{circle_shown}
-use Rattle.rv_book.proofs.Refusals.{IsBack, back, arranged_of, arranged_same, added_refused, OnErr-always}
-use Rattle.rv_book.proofs.arrangement.Arrangement.place.Goals.{After-drop-removed-in-Err}
+use Rattle.rv_book.proofs.Refusals.{back, arranged_of, arranged_same, added_refused, OnErr-always}
 use Rattle.rv_book.proofs.arrangement.Arrangement.place.Goals as goal
 
 pub find_ends-requires-clause-before : goal.find_ends-requires-clause-before
@@ -70,8 +69,8 @@ invariant_of-self-in-Ok c =
     })) (sym ids) whole)
 
 -- the path that the order keeper found shows a circle over the event
-pub refuse-requires : goal.refuse-requires
-refuse-requires c =
+pub refuse-refusal-requires : goal.refuse-refusal-requires
+refuse-refusal-requires c =
     let k = kept_of c.args.entry.event c.args.around.now in
     let fit = subst (λ (w : Arranged). IsFit w k) (sym c.self.view_is) c.requires.fit in
     let ids = c.as_slice-ids.ensures.value ∙ c.in_ok-reserve.ensures.items in
@@ -96,36 +95,40 @@ refuse-requires c =
     (rw c.in-Circle.is at c.in-Err.ensures.refused)))) in
     record { low = shown.low; leads = shown.leads; once = shown.once }
 
--- what is left where the event did not get in
-module _ (c : After-drop-removed-in-Err) where
-  was : IsBack c.self.inside.history c.pop-removed.new.self c.args.entry c.pop-removed.result
-  was =
-      back c.self.inside.history c.push_known.new.self c.pop-removed.new.self c.args.entry c.pop-removed.result
-      c.args.around.now c.in_ok-push_known.ensures.pushed c.pop-removed.ensures.model c.pop-removed.ensures.log
-      c.pop-removed.ensures.popped
-
-  abbrev left : Arranged
-  left = arranged_of c.pop-removed.new.self c.place.new.self.edges c.place.new.self.ranks c.reserve.new.self.items
-
-  as_it_was : left ≡ arranged_of c.self.inside.history c.self.inside.ranks.edges c.self.inside.ranks.ranks
-      c.self.inside.ids.items
-  as_it_was = arranged_same was.history c.in-Err.ensures.edges c.in-Err.ensures.ranks c.in_ok-reserve.ensures.items
-
 pub invariant_of-self-in-Err : goal.invariant_of-self-in-Err
-invariant_of-self-in-Err c = subst IsArranged (sym (as_it_was c)) c.self.invariant
+invariant_of-self-in-Err c =
+    let was = back c.self.inside.history c.push_known.new.self c.pop-removed.new.self c.args.entry
+    c.pop-removed.result c.args.around.now c.in_ok-push_known.ensures.pushed c.pop-removed.ensures.model
+    c.pop-removed.ensures.log c.pop-removed.ensures.popped in
+    let as_it_was = arranged_same was.history c.in-Err.ensures.edges c.in-Err.ensures.ranks
+    c.in_ok-reserve.ensures.items in
+    subst IsArranged (sym as_it_was) c.self.invariant
 
-pub returns-in-NoMemory-clause-unchanged : goal.returns-in-NoMemory-clause-unchanged
-returns-in-NoMemory-clause-unchanged c =
+pub returns-in_default-clause-unchanged : goal.returns-in_default-clause-unchanged
+returns-in_default-clause-unchanged c =
     let was = back c.self.inside.history c.push_known.new.self c.pop-removed.new.self c.args.entry
     c.pop-removed.result c.args.around.now c.in_ok-push_known.ensures.pushed c.pop-removed.ensures.model
     c.pop-removed.ensures.log c.pop-removed.ensures.popped in
     arranged_same was.history c.in-Err.ensures.edges c.in-Err.ensures.ranks
     c.in_ok-reserve.ensures.items ∙ c.self.view_is
 
-pub returns-clause-added : goal.returns-clause-added
-returns-clause-added c =
-    added_refused c.args.self.now (left c) c.args.entry c.pop-removed.result (as_it_was c ∙ c.self.view_is)
-    (was c).entry c.refuse.result c.refuse.ensures
+pub returns-in-Circle-clause-added : goal.returns-in-Circle-clause-added
+returns-in-Circle-clause-added c =
+    let was = back c.self.inside.history c.push_known.new.self c.pop-removed.new.self c.args.entry
+    c.pop-removed.result c.args.around.now c.in_ok-push_known.ensures.pushed c.pop-removed.ensures.model
+    c.pop-removed.ensures.log c.pop-removed.ensures.popped in
+    let left = arranged_of c.pop-removed.new.self c.place.new.self.edges c.place.new.self.ranks
+    c.reserve.new.self.items in
+    let as_it_was = arranged_same was.history c.in-Err.ensures.edges c.in-Err.ensures.ranks
+    c.in_ok-reserve.ensures.items in
+    added_refused c.args.self.now left c.args.entry c.pop-removed.result (as_it_was ∙ c.self.view_is) was.entry
+    c.refuse-refusal.result c.refuse-refusal.ensures
 
-pub returns-clause-unchanged : goal.returns-clause-unchanged
-returns-clause-unchanged c = OnErr-always c.refuse.result (as_it_was c ∙ c.self.view_is)
+pub returns-in-Circle-clause-unchanged : goal.returns-in-Circle-clause-unchanged
+returns-in-Circle-clause-unchanged c =
+    let was = back c.self.inside.history c.push_known.new.self c.pop-removed.new.self c.args.entry
+    c.pop-removed.result c.args.around.now c.in_ok-push_known.ensures.pushed c.pop-removed.ensures.model
+    c.pop-removed.ensures.log c.pop-removed.ensures.popped in
+    let as_it_was = arranged_same was.history c.in-Err.ensures.edges c.in-Err.ensures.ranks
+    c.in_ok-reserve.ensures.items in
+    OnErr-always c.refuse-refusal.result (as_it_was ∙ c.self.view_is)

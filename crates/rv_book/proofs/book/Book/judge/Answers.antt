@@ -30,7 +30,7 @@ invariant_of-self-in-Taken c =
           c.args.entry c.self.invariant.0 none grew.1 c.model-unchanged.ensures.lawful grew.2,
       subst (λ (l : List Entry). IsTallied l c.add-in-Taken.new.self.sources c.add-in-Taken.new.self.counts)
           all tallied,
-      c.settle-settled.ensures,
+      c.settle-settled.ensures.settled,
     )
 
 pub settle-settled-requires-clause-settled : goal.settle-settled-requires-clause-settled
