@@ -37,6 +37,8 @@ pub(crate) fn forget_exclusives(
         if cut.is_past(entry.event.id) {
             let known = restore(alloc, firsts, entry);
             note(last, &known.event);
+            // By a call: where the scope ends, the proof would take it apart.
+            drop(known);
         }
     }
 }

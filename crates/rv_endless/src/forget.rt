@@ -108,6 +108,8 @@ pub(crate) fn forget(
             let known = restore(alloc, firsts, entry);
             past.add_reserved(&known.event);
             facts.add(&known);
+            // By a call: where the scope ends, the proof would take it apart.
+            drop(known);
         }
     }
 }
