@@ -154,10 +154,14 @@ fn read_next<R: Read>(trace: &mut Trace<R>, events: &mut Vec<Event>) -> Option<F
     ensures kept { IfSome result (λ _. events.new.items ≡ events.old.items) }
 {
     match trace.next_event() {
-        Ok(Some(event)) => match events.push(event) {
-            Ok(()) => None,
-            Err(_) => Some(FeedEnd::NoMemory),
-        },
+        Ok(Some(event)) => {
+            let Err(failed) = events.push(event) else {
+                return None;
+            };
+            // By a call: where the scope ends, the proof would take the event apart.
+            drop(failed);
+            Some(FeedEnd::NoMemory)
+        }
         Ok(None) => Some(FeedEnd::Whole),
         Err(fault) => Some(FeedEnd::Fault(fault)),
     }
