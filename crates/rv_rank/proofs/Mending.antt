@@ -1,5 +1,6 @@
 -- What the members' new places make of the ranks.
-use Rattle.rv_rank.proofs.Common.{cases_Bool, ◌≡◌, ◌≢◌, ℕ, zero, suc, ◌+◌, ◌-◌, ◌<◌, ◌≤◌, ◌⊎◌, ◌||◌, Bool, true, false, cond}
+use Rattle.rv_rank.proofs.Common.{cases_Bool}
+use Rattle.rv_rank.proofs.Common.{◌≡◌, ◌≢◌, ℕ, zero, suc, ◌+◌, ◌-◌, ◌<◌, ◌≤◌, ◌⊎◌, ◌||◌, Bool, true, false, cond}
 use Rattle.rv_rank.proofs.Common.{List, [], ◌∷◌, ◌++◌, length, get_or, set, inl, inr, sym, ◌∙◌, arith, ap, refl}
 use Rattle.rv_rank.proofs.Common.{length-append, filter, get_or-set_same, get_or-set_other, length-set}
 use Rattle.rv_rank.proofs.Common.{get_or_append_left, get_or_at, get_or-append_right, get_or_push, length_push}

@@ -1,5 +1,6 @@
 -- How many numbers pass a test, told by a list that has each of them once.
-use Rattle.rv_rank.proofs.Common.{cases_Bool, ◌≡◌, ◌≢◌, ℕ, zero, suc, ◌+◌, ◌-◌, ◌<◌, ◌≤◌, ◌⊎◌, Bool, true, not, cond, List}
+use Rattle.rv_rank.proofs.Common.{cases_Bool}
+use Rattle.rv_rank.proofs.Common.{◌≡◌, ◌≢◌, ℕ, zero, suc, ◌+◌, ◌-◌, ◌<◌, ◌≤◌, ◌⊎◌, Bool, true, not, cond, List}
 use Rattle.rv_rank.proofs.Common.{[], ◌∷◌, length, get_or, take, inl, inr, sym, ◌∙◌, arith, ap, refl, subst, ◌==◌}
 use Rattle.rv_rank.proofs.Common.{Contains, remove, zip, count_by, take_all, get_or_default, length-remove}
 use Rattle.rv_rank.proofs.Common.{get_or-remove_below, get_or-remove_above, Contains-get_or, count_by_more_yes}

@@ -1,5 +1,6 @@
 -- What the affected nodes and the mended ranks make of a placement.
-use Rattle.rv_rank.proofs.Common.{cases_Bool, ◌≡◌, ◌≢◌, ℕ, ◌+◌, ◌-◌, ◌%◌, ◌^◌, ◌<◌, ◌≤◌, ◌⊎◌, ◌||◌, Bool, true, false, not}
+use Rattle.rv_rank.proofs.Common.{cases_Bool}
+use Rattle.rv_rank.proofs.Common.{◌≡◌, ◌≢◌, ℕ, ◌+◌, ◌-◌, ◌%◌, ◌^◌, ◌<◌, ◌≤◌, ◌⊎◌, ◌||◌, Bool, true, false, not}
 use Rattle.rv_rank.proofs.Common.{cond, List, [], ◌++◌, length, get_or, reverse, inl, inr, sym, ◌∙◌, arith, ap}
 use Rattle.rv_rank.proofs.Common.{refl, subst, length-append, eqb, All, Contains, filter, get_or_append_left}
 use Rattle.rv_rank.proofs.Common.{get_or-append_right, get_or-reverse, length-reverse, All-contains}

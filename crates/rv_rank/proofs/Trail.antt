@@ -91,7 +91,8 @@ found_source edges ranks succs low ahead node o h m n =
     ]
 
 -- so its sources are not all missing
-pub some_source : (edges : List (List ℕ)) (ranks succs : List ℕ) (low : ℕ) (ahead : ℕ → Bool) (sources : List ℕ) (node : ℕ) →
+pub some_source : (edges : List (List ℕ)) (ranks succs : List ℕ) (low : ℕ) (ahead : ℕ → Bool) (sources : List ℕ)
+    (node : ℕ) →
     IsOrder edges ranks → IsSearched edges ranks succs low ahead (length ranks) → ahead node ≡ true →
     (Contains succs node → ⊥) → ((a : ℕ) → Edge edges a node → Contains sources a) →
     All (λ a. ahead a ≡ false) sources → ⊥

@@ -42,7 +42,8 @@ slot_in found r = has_bit found.slots r
 -- the slots are the ranks of the nodes of the two sets
 pub record AreSlots (found : Found) (nodes ranks : List ℕ) : Type 0 where
   pub each : (r : ℕ) → r < length nodes →
-      slot_in found r ≡ (is_behind_in found ranks (slice_index nodes r) || is_ahead_in found ranks (slice_index nodes r))
+      slot_in found r
+      ≡ (is_behind_in found ranks (slice_index nodes r) || is_ahead_in found ranks (slice_index nodes r))
   pub within : (r : ℕ) → slot_in found r ≡ true → r < length nodes
 
 -- the two sets are the affected nodes; the list has the forward one by rising rank, and the other

@@ -22,7 +22,8 @@ returns-in_err-push-2-clause-affected c =
     let inv = c.loop-walk.invariant in
     rw c.backward.follows.holds-at-none.visits (only_more c.args.walk.now.edges c.args.order.now.ranks
     c.args.succs.now c.loop-walk.walk.visits c.loop-walk.node inv.only
-    (c.requires.searched.1.found c.loop-walk.node inv.way.found) (has_slot-below c.args.order.now.ranks c.args.slots.now c.loop-walk.node inv.way.found))
+    (c.requires.searched.1.found c.loop-walk.node inv.way.found)
+    (has_slot-below c.args.order.now.ranks c.args.slots.now c.loop-walk.node inv.way.found))
 
 pub loop-walk-smaller : goal.loop-walk-smaller
 loop-walk-smaller c =

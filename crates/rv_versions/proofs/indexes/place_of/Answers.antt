@@ -21,5 +21,6 @@ returns-clause-in_place c =
     let words = c.args.words.now.items in
     numbered (number_of c.args.places.now) (number_of c.insert.new.self) words c.push.new.self.items c.requires
     (c.in_ok-push.ensures.items ∙ ap (λ (w : Accesses). words ++ w ∷ []) c.new.ensures) c.args.word
-    (sym c.in_default.ensures) (c.in_ok-insert.ensures.here ∙ ap Some (c.in-Ok.ensures.1 ∙ c.len-place.ensures ∙ c.args.words.now.ok.0))
+    (sym c.in_default.ensures)
+    (c.in_ok-insert.ensures.here ∙ ap Some (c.in-Ok.ensures.1 ∙ c.len-place.ensures ∙ c.args.words.now.ok.0))
     (λ word other. c.insert.ensures.others word other)

@@ -19,7 +19,8 @@ lasts c =
           let put = w.in_ok-insert.ensures in
           let is = ap (λ (x : Words). x.lasts) w.self-is in
           lasts-memory es e c.requires.numbered c.requires.next old new memory c.requires.words.lasts
-          (ap (λ m. number_of m e.word) is ∙ put.here) (λ word apart. ap (λ m. number_of m word) is ∙ put.others word apart))
+          (ap (λ m. number_of m e.word) is ∙ put.here)
+          (λ word apart. ap (λ m. number_of m word) is ∙ put.others word apart))
       | else-is_memory w ↦ (
           let is = ap (λ (x : Words). x.lasts) w.self-is in
           lasts-same es e c.requires.numbered c.requires.next old new
