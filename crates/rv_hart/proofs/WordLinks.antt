@@ -1,5 +1,6 @@
 -- The links of words with one more event, and with one less.
-use Rattle.rv_hart.proofs.Common.{number_of, ◌≡◌, ◌≢◌, ℕ, ◌+◌, ◌<◌, ◌≤◌, List, [], ◌∷◌, ◌++◌, length, get_or, Contains, Option}
+use Rattle.rv_hart.proofs.Common.{number_of}
+use Rattle.rv_hart.proofs.Common.{◌≡◌, ◌≢◌, ℕ, ◌+◌, ◌<◌, ◌≤◌, List, [], ◌∷◌, ◌++◌, length, get_or, Contains, Option}
 use Rattle.rv_hart.proofs.Common.{Some, None, ◌⊎◌, inl, inr, sym, refl, ap, ◌∙◌, arith, subst}
 use Rattle.rv_hart.proofs.Common.{cases_order, cases_eq, or_right, length_push, get_or_append_left, get_or_at}
 use Rattle.rv_hart.proofs.Common.{Contains-push_cases, Contains-push, Contains-append_left, rules, common_steps}
