@@ -269,6 +269,7 @@ fn find_ends(
 }
 
 /// The refusal of the entry by the circle from its event through the nodes of the path.
+#[inline(never)]
 fn refuse(
     alloc: Global,
     history: &History,

@@ -33,6 +33,7 @@ fn reason_of(model: MemoryModel, log: &[Entry], from: Id, to: Id) -> Reason
 }
 
 /// The circle with its reasons.
+#[inline(never)]
 pub fn close(
     alloc: Global,
     model: MemoryModel,

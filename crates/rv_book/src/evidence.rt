@@ -9,6 +9,7 @@ use std::alloc::Global;
 ///
 /// # Errors
 /// `NoMemory` where the list or a copy could not be had.
+#[inline(never)]
 pub fn evidence_of(alloc: Global, entries: &[Entry], entry: &Entry) -> Result<Evidence, NoMemory>
     ensures { IfOk result (λ log. log ≡ entries.now ++ entry.now ∷ []) }
 {

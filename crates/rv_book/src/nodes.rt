@@ -36,6 +36,7 @@ fn is_at(ids: &[Id], node: u32, id: Id) -> bool
 }
 
 /// The node of the id, by a search.
+#[inline(never)]
 fn find_node(ids: &[Id], id: Id) -> u32
     requires has { HasNode ids.now id }
     requires small { length ids.now < 65536 }

@@ -46,6 +46,7 @@ impl Tally {
     }
 
     /// The fault `OtherSource`, where an entry of the same hart came from another source.
+    #[inline(never)]
     pub fn source_fault(&self, entry: &Entry) -> Option<Fault>
         ensures { (log : List Entry) → IsTallied log self.now.sources self.now.counts →
             result ≡ source_fault log entry.now }

@@ -33,6 +33,7 @@ impl Model for Forbidden {
 
 impl Forbidden {
     /// Keeps the log with its certificate. It takes no memory.
+    #[inline(never)]
     pub fn new(model: MemoryModel, evidence: Evidence, certificate: Certificate) -> Self
         requires well_formed { WellFormed evidence }
         requires certifies { Certifies model (events evidence) certificate }

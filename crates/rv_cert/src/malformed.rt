@@ -30,6 +30,7 @@ impl Model for Malformed {
 
 impl Malformed {
     /// Keeps the log with its fault. It takes no memory.
+    #[inline(never)]
     pub fn new(model: MemoryModel, evidence: Evidence, fault: Fault) -> Self
         requires { IsMalformed evidence fault }
         ensures { result ≡ record { model = model; evidence = evidence; fault = fault } }

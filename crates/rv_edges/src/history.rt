@@ -361,6 +361,7 @@ impl History {
     }
 
     /// Takes the last entry off with its event's links. It takes no memory.
+    #[inline(never)]
     pub fn pop(&mut self) -> Entry
         requires { self.old.kept ≢ [] }
         ensures model { self.new.model ≡ self.old.model }

@@ -132,6 +132,7 @@ impl KeptLinks {
     /// # Errors
     /// `NoMemory` where a list could not grow, where a side has 2^32 links or more, and where the
     /// number of a link's event within its hart is above 65,535; nothing changes.
+    #[inline(always)]
     pub fn append(&mut self, before: &[Link], after: &[Link]) -> Result<(), NoMemory>
         ensures pushed { OnOk result (self.new ≡ self.old ++ record { before = before.now; after = after.now } ∷ []) }
         ensures unchanged { OnErr result (self.new ≡ self.old) }
@@ -149,6 +150,7 @@ impl KeptLinks {
     }
 
     /// Takes those of the last event off. It takes no memory.
+    #[inline(never)]
     pub fn drop_last(&mut self)
         requires { self.old ≢ [] }
         ensures { (own : OwnLinks) × (self.old ≡ self.new ++ own ∷ []) }
@@ -164,6 +166,7 @@ impl KeptLinks {
 ///
 /// # Errors
 /// `NoMemory` where a link could not be kept; the list may have some of them then.
+#[inline(always)]
 fn push_both(list: &mut Vec<PackedLink>, before: &[Link], after: &[Link]) -> Result<(), NoMemory>
     ensures pushed { OnOk result (list.new.items ≡ list.old.items ++ (before.now ++ after.now)) }
     ensures kept { take (length list.old.items) list.new.items ≡ list.old.items }

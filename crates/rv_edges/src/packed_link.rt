@@ -59,6 +59,7 @@ impl PackedLink {
 ///
 /// # Errors
 /// `NoMemory` where a link could not be kept; the list may have some of them then.
+#[inline(always)]
 pub fn push_links(list: &mut Vec<PackedLink>, links: &[Link]) -> Result<(), NoMemory>
     ensures pushed { OnOk result (list.new.items ≡ list.old.items ++ links.now) }
     ensures kept { take (length list.old.items) list.new.items ≡ list.old.items }

@@ -169,6 +169,7 @@ fn find_full_fault(count: u32) -> Option<Fault>
 }
 
 /// The fault `TooManyDeps`, where the event has more than 8 dependencies.
+#[inline(never)]
 pub fn find_deps_fault(event: &Event) -> Option<Fault>
     ensures { result ≡ deps_fault event.now }
 {

@@ -1,5 +1,6 @@
 //! Events of a hart, as a trace records them.
-ghost use Rattle.std.specs.Prelude.{◌≡◌, ◌↔◌, ◌++◌, ◌∷◌, [], IfOk, IsFalse, IsTrue, OnErr, OnOk, Some};
+ghost use Rattle.std.specs.Prelude.{◌≡◌, ◌↔◌, ◌++◌, ◌∷◌, ◌<◌, [], IfOk, IsFalse, IsTrue, OnErr, OnOk};
+ghost use Rattle.std.specs.Prelude.{Some, length};
 ghost use Rattle.rv_event.specs.Operations.{IsLoad, IsStore, IsMemory};
 ghost use Rattle.rv_event.specs.Texts.{id_text};
 
@@ -184,7 +185,9 @@ impl Short {
     }
 
     /// Adds one at the end, where there is a place for it.
+    #[inline(always)]
     fn push(&mut self, dep: Dep) -> bool
+        ensures room { IsTrue result ↔ (length self.old < SHORT) }
         ensures pushed { IsTrue result → self.new ≡ self.old ++ dep ∷ [] }
         ensures full { IsFalse result → self.new ≡ self.old }
     {
@@ -277,6 +280,7 @@ impl Deps {
     ///
     /// # Errors
     /// `NoMemory` where there is no room; the dependencies stay as they are.
+    #[inline(always)]
     pub fn push(&mut self, dep: Dep) -> Result<(), NoMemory>
         ensures pushed { OnOk result (self.new ≡ self.old ++ dep ∷ []) }
         ensures unchanged { OnErr result (self.new ≡ self.old) }

@@ -102,6 +102,7 @@ pub fn is_fenced(log: &[Entry], a: &Event, b: &Event) -> bool
 
 /// Whether the event itself lists a dependency of this kind on the earlier one (manual, section
 /// 14.1, "Syntactic Dependencies").
+#[inline(always)]
 pub fn depends_on(kind: DepKind, event: &Event, on: &Event) -> bool
     ensures { IsTrue result ↔ Lists kind event.now on.now }
 {

@@ -113,6 +113,7 @@ impl Kept {
 
     /// An own earlier store of the event's word, of a higher version than the event, a load,
     /// returned.
+    #[inline(always)]
     pub fn stale(&self, events: &OwnEvents<'_>, event: &Event) -> Option<Id>
         requires kept { IsKept events.now self.now }
         requires follows { Follows (hart_of events.now self.now) event.now }

@@ -30,9 +30,9 @@ impl Next<'_> {
             return Ok(links);
         }
         links.reserve(USUAL_LINKS)?;
+        let mut left = Row::new();
         let mut reads = Row::new();
         self.fill_different_reads(&mut reads);
-        let mut left = Row::new();
         self.fill_candidates(&reads, &mut left);
         let mut top = self.kept.rows.len();
         'taken: while let Some(number) = take_highest(&mut left, &self.kept.rows, top) {
@@ -51,6 +51,7 @@ impl Next<'_> {
 
     /// Puts in the row of the hart's next event, a memory operation: it and the events from which
     /// rules lead to it.
+    #[inline(never)]
     pub fn add_swept(&self, row: &mut Row)
         requires asked { IsAsked self.now }
         ensures { (s : ℕ) → Has row.new s

@@ -104,6 +104,7 @@ fn add_fenced(row: &mut Row, op: Op, later: Op, loads: &Row, stores: &Row)
 
 /// Puts in the memory operations, by the loads and the stores, on which the event has a dependency
 /// of this kind: those that it lists, and those behind the carriers that it lists.
+#[inline(always)]
 pub fn add_dependencies(
     row: &mut Row,
     event: &Event,
@@ -126,6 +127,7 @@ pub fn add_dependencies(
 
 /// Whether the event has a dependency of this kind on the memory operation: it lists it, or a
 /// carrier that it is behind.
+#[inline(always)]
 pub fn does_depend(kind: DepKind, event: &Event, on: &Event, carried: &Rows) -> bool
     requires { All (λ d. d.seq < length carried.now) event.now.deps }
     ensures { IsTrue result ↔ (Lists kind event.now on.now ⊎
@@ -137,6 +139,7 @@ pub fn does_depend(kind: DepKind, event: &Event, on: &Event, carried: &Rows) -> 
 }
 
 /// Puts the event in where it is a memory operation, and what is behind it.
+#[inline(always)]
 fn add_dependency(row: &mut Row, number: usize, loads: &Row, stores: &Row, carried: &Rows)
     requires number { number < 4096 }
     requires carried { number < length carried.now }
@@ -183,7 +186,6 @@ fn reserved_after(reserved: Option<u32>, event: &Event) -> Option<u32>
 }
 
 /// What a carrier stands for: the memory operations behind it.
-#[inline(never)]
 fn carried_by(event: &Event, sets: &Sets, carried: &Rows) -> Row
     requires carrier { IsCarrier event.now }
     requires numbers { All (λ d. d.seq < 4096) event.now.deps }
@@ -213,10 +215,25 @@ pub fn push_carried(event: &Event, sets: &Sets, carried: &mut Rows) -> Result<()
     ensures unchanged { OnErr result (carried.new ≡ carried.old) }
 {
     if is_carrier(event) {
-        carried.push(&carried_by(event, sets, carried))
+        push_carrier(event, sets, carried)
     } else {
         carried.push_empty()
     }
+}
+
+/// The same of a carrier. It is not inlined, as the row that it has on the stack would be cleared
+/// at each event.
+///
+/// # Errors
+/// `AllocError` where it could not be kept; the rows stay as they are.
+#[inline(never)]
+fn push_carrier(event: &Event, sets: &Sets, carried: &mut Rows) -> Result<(), AllocError>
+    requires carrier { IsCarrier event.now }
+    requires next { IsNextOf event.now sets.now carried.old }
+    ensures pushed { OnOk result (AreCarriedWith event.now sets.now carried.old carried.new) }
+    ensures unchanged { OnErr result (carried.new ≡ carried.old) }
+{
+    carried.push(&carried_by(event, sets, carried))
 }
 
 /// Takes off what the last event stands for. It takes no memory.

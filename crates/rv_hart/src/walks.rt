@@ -62,6 +62,7 @@ impl Next<'_> {
 
     /// Puts into an empty row the loads of the event's word that returned what the one with this
     /// number did, from that one back to the next store or load of another version.
+    #[inline(never)]
     fn fill_run(&self, number: u32, row: &mut Row)
         requires asked { IsAsked self.now }
         requires last { IsLastOther (hart_at self.now) self.now.event.now number }

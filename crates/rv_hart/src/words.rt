@@ -52,6 +52,7 @@ impl Words {
     }
 
     /// The number of the word's store of the highest version.
+    #[inline(always)]
     pub fn highest_store(&self, events: &OwnEvents<'_>, word: u32) -> Option<u32>
         requires numbered { AreNumbered events.now }
         requires words { AreWords events.now self.now }

@@ -18,6 +18,7 @@ const MAX_SEQ: u32 = 1_073_741_823;
 const MAX_DEPS: usize = 8;
 
 /// The kind by its letter.
+#[inline(always)]
 fn letter_of(columns: Columns, byte: u8) -> Result<DepKind, FaultKind>
     ensures value { Gives result (letter columns byte) }
     ensures kind { IfErr result (λ k. is_of_text k ≡ true) }
@@ -31,6 +32,7 @@ fn letter_of(columns: Columns, byte: u8) -> Result<DepKind, FaultKind>
 }
 
 /// One dependency: a letter and a number.
+#[inline(always)]
 #[tactic(auto, unfolding(crate::specs::Dependencies::dependency))]
 fn dependency_of(columns: Columns, part: &[u8]) -> Result<Dep, FaultKind>
     ensures value { Gives result (dependency columns part.now) }
@@ -65,6 +67,7 @@ fn has_many_parts(text: &[u8]) -> bool
 }
 
 /// What each part says, and the first that is wrong.
+#[inline(always)]
 fn each_of(alloc: Global, columns: Columns, text: &[u8]) -> Result<Deps, FaultKind>
     ensures value { GivesOrMemory result (each_dependency columns (parts text.now)) }
     ensures kind { IfErr result IsOfTextOrMemory }

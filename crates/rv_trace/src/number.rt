@@ -25,6 +25,7 @@ fn decimal(text: &[u8]) -> Option<u64>
 ///
 /// # Errors
 /// `Missing` where the field is blank, else `Number`.
+#[inline(always)]
 #[tactic(auto, unfolding(crate::specs::Numbers::number))]
 pub fn number_of(text: &[u8], max: u32) -> Result<u32, FaultKind>
     ensures value { Gives result (number max text.now) }
@@ -57,7 +58,7 @@ pub(crate) fn blank_of(text: &[u8]) -> Result<u32, FaultKind>
 }
 
 /// A word or a version where the operation has it, and else a blank field.
-#[inline]
+#[inline(always)]
 pub fn value_of(has: bool, text: &[u8]) -> Result<u32, FaultKind>
     ensures value { Gives result (value has text.now) }
     ensures kind { IfErr result (λ k. is_of_text k ≡ true) }

@@ -54,6 +54,7 @@ impl Mnemonic {
     ghost use Rattle.rv_trace.specs.Operations.{columns_of};
 
     /// What the other fields of its row may be.
+    #[inline(always)]
     pub fn columns(self) -> Columns
         ensures { result ≡ columns_of self }
     {
@@ -100,6 +101,7 @@ impl Mnemonic {
 }
 
 /// The operation that a text names in this dialect.
+#[inline(always)]
 #[tactic(auto, unfolding(crate::specs::Operations::mnemonic))]
 pub fn mnemonic_of(dialect: Dialect, text: &[u8]) -> Result<Mnemonic, FaultKind>
     ensures value { Gives result (mnemonic dialect text.now) }
@@ -121,6 +123,7 @@ pub fn mnemonic_of(dialect: Dialect, text: &[u8]) -> Result<Mnemonic, FaultKind>
 }
 
 /// The two sets of a fence.
+#[inline(always)]
 #[tactic(auto, unfolding(crate::specs::Operations::fence_sets))]
 fn sets_named(text: &[u8]) -> Option<(Set, Set)>
     ensures { result ≡ fence_sets text.now }
@@ -140,6 +143,7 @@ fn sets_named(text: &[u8]) -> Option<(Set, Set)>
 }
 
 /// An operation that takes no annotation.
+#[inline(always)]
 fn bare_of(op: Op, text: &[u8]) -> Result<(Op, bool, bool), FaultKind>
     ensures value { Gives result (bare op text.now) }
     ensures kind { IfErr result (λ k. is_of_text k ≡ true) }
@@ -152,6 +156,7 @@ fn bare_of(op: Op, text: &[u8]) -> Result<(Op, bool, bool), FaultKind>
 }
 
 /// An operation that may acquire or release.
+#[inline(always)]
 #[tactic(auto, unfolding(crate::specs::Operations::ordered))]
 fn ordered_of(
     op: Op,

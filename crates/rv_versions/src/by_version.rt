@@ -161,6 +161,7 @@ impl ByVersion {
     }
 
     /// The same, by a search behind a place that is near.
+    #[inline(never)]
     fn start_far(&self, version: u64) -> usize
         ensures bound { result ≤ length self.now }
         ensures parted { IsStart self.now version result }

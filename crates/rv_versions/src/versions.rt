@@ -191,6 +191,7 @@ impl Versions {
     /// Takes the last entry off; there is one. It takes no memory.
     ///
     /// It costs the look-ups of an addition, and at most three removals, each as an insertion.
+    #[inline(never)]
     pub fn pop(&mut self) -> Entry
         requires { self.old ≢ [] }
         ensures { self.old ≡ self.new ++ result ∷ [] }

@@ -1,4 +1,4 @@
-use Rattle.rv_hart.proofs.Common.{◌≡◌, ◌<◌, ◌++◌, ◌∷◌, [], List, ℕ, sym, ◌∙◌, ap, arith, length, false}
+use Rattle.rv_hart.proofs.Common.{◌≡◌, ◌<◌, [], List, ℕ, sym, ◌∙◌, ap, arith, length, false}
 use Rattle.rv_hart.proofs.Common.{false≢true, has_bit}
 use Rattle.std.proofs.Common.{◌==◌, ◌%◌}
 use Rattle.std.proofs.lemmas.Nat.Bits.{bit_at-zero}
@@ -6,9 +6,8 @@ use Rattle.rv_hart.proofs.Common.{Event}
 use Rattle.std.proofs.lemmas.Result.{on_ok_weaker}
 use Rattle.rv_hart.specs.Sets.{IsNextOf}
 use Rattle.rv_hart.specs.declared.sets.Sets.{Sets}
-use Rattle.rv_hart.proofs.CarriedRows.{carried-low, carried-means, kept-own}
 use Rattle.rv_hart.proofs.GrownSets.{none-carried}
-use Rattle.rv_hart.proofs.HartFacts.{Fits, fits_of, own-deps-few}
+use Rattle.rv_hart.proofs.HartFacts.{Fits, fits_of}
 use Rattle.rv_hart.proofs.sets.push_carried.Goals as goal
 
 -- no numbers are in no words
@@ -22,38 +21,14 @@ module _ {e : Event} {sets : Sets} {rows : List (List ℕ)} (next : IsNextOf e s
   few : length rows < 4096
   few = let room = fits.room in let count = next.one_each in omega (room, count, arith)
 
-pub carried_by-requires-clause-carrier : goal.carried_by-requires-clause-carrier
-carried_by-requires-clause-carrier c = c.is_carrier.ensures.0 c.if-is_carrier.true
+pub push_carrier-requires-clause-carrier : goal.push_carrier-requires-clause-carrier
+push_carrier-requires-clause-carrier c = c.is_carrier.ensures.0 c.if-is_carrier.true
 
-pub carried_by-requires-clause-numbers : goal.carried_by-requires-clause-numbers
-carried_by-requires-clause-numbers c = own-deps-few (fits c.requires.next)
-
-pub carried_by-requires-clause-carried : goal.carried_by-requires-clause-carried
-carried_by-requires-clause-carried c = kept-own (fits c.requires.next) c.args.carried.now c.requires.next.are.long
-
-pub push-requires-clause-few : goal.push-requires-clause-few
-push-requires-clause-few c = few c.requires.next
-
-pub push-requires-clause-below : goal.push-requires-clause-below
-push-requires-clause-below c = λ j has.
-    let n = c.requires.next in
-    let low = carried-low (fits n) c.carried_by.result
-    (c.carried_by.ensures n.h n.is_hart n.follows n.are n.are_sets) j has in
-    let count = n.one_each in
-    omega (low, count, arith)
+pub push_carrier-requires-clause-next : goal.push_carrier-requires-clause-next
+push_carrier-requires-clause-next c = c.requires.next
 
 pub push_empty-requires : goal.push_empty-requires
 push_empty-requires c = record { few = few c.requires.next }
-
-pub returns-then-is_carrier-clause-pushed : goal.returns-then-is_carrier-clause-pushed
-returns-then-is_carrier-clause-pushed c = on_ok_weaker c.push.result
-    (λ pushed. record {
-      last = pushed.last;
-      is_last = pushed.is_last;
-      says = λ h ok follows are are-sets. carried-means (h.events ++ c.args.event.now ∷ []) c.args.event.now.id.seq
-          c.carried_by.result pushed.last pushed.same (c.carried_by.ensures h ok follows are are-sets);
-    })
-    c.push.ensures.pushed
 
 pub returns-else-is_carrier-clause-pushed : goal.returns-else-is_carrier-clause-pushed
 returns-else-is_carrier-clause-pushed c = on_ok_weaker c.push_empty.result
