@@ -7,7 +7,7 @@ use std::alloc::{AllocError, Global};
 use std::marker::Model;
 
 /// How many neighbours a node has room for without an allocation.
-const INLINE: usize = 6;
+const INLINE: usize = 12;
 
 /// A side of a node: the nodes that an edge leads from, or those that one leads to.
 #[derive(Clone, Copy, Debug)]
@@ -42,8 +42,8 @@ impl Model for Node {
 }
 
 impl Node {
-    /// A node with its neighbours. It has room for six, or for twice its neighbours where these are
-    /// more than six. The only error is out of memory.
+    /// A node with its neighbours. It has room for twelve, or for twice its neighbours where these
+    /// are more than twelve. The only error is out of memory.
     pub(crate) fn new(alloc: Global, preds: &[u32], succs: &[u32]) -> Result<Self, AllocError>
         ensures incoming { IfOk result (λ n. n.incoming ≡ preds.now) }
         ensures outgoing { IfOk result (λ n. n.outgoing ≡ succs.now) }

@@ -2,15 +2,15 @@
 //!
 //! # Memory
 //!
-//! An order keeper takes at most 80 bytes a node and 16 an edge, both directions together and the
-//! allocator's own aside. A node has 64 bytes: 48 for its list, which has six neighbours in place,
-//! and the count of its predecessors here, two places of 4 in the list of visits, and a place of 4
-//! in either table of the order. A full table grows by a quarter and one, so it has room for at
-//! most five quarters of its items and one more, and the 64 bytes become 80. An edge has 4 bytes in
-//! the list of either end. A list of more than six neighbours lies outside of its node, and a full
-//! one becomes twice as long, which makes the 8 bytes 16. The list of a successor becomes so where
-//! it has room for one alone, since a successor may be a predecessor too. Where one call names an
-//! edge twice, both mentions count.
+//! An order keeper takes at most 110 bytes a node and 16 an edge, both directions together and the
+//! allocator's own aside. A node has 88 bytes: 72 for its list, which has twelve neighbours in
+//! place, and the count of its predecessors here, two places of 4 in the list of visits, and a place
+//! of 4 in either table of the order. A full table grows by a quarter and one, so it has room for at
+//! most five quarters of its items and one more, and the 88 bytes become 110. An edge has 4 bytes in
+//! the list of either end. A list of more than twelve neighbours lies outside of its node, and a
+//! full one becomes twice as long, which makes the 8 bytes 16. The list of a successor becomes so
+//! where it has room for one alone, since a successor may be a predecessor too. Where one call names
+//! an edge twice, both mentions count.
 //!
 //! Beyond this are some 200 bytes for each keeper, room that a refused placement made in vain, and,
 //! until a call returns, the two sets of a placement with successors, a bit for each node in either,
