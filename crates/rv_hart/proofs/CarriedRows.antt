@@ -7,7 +7,9 @@ use Rattle.rv_hart.proofs.Common.{AreCarriedRows, IsCarried}
 use Rattle.std.proofs.lemmas.List.{get_or_append_left, length-append}
 use Rattle.rv_event.specs.Relations.{listed, through}
 use Rattle.rv_hart.proofs.Common.{All, Contains-get_or, Has, has_bit, cases_eq, followed, get_or_at, length_push}
-use Rattle.rv_hart.proofs.HartFacts.{Fits, Known, event_at, known_with}
+use Rattle.rv_hart.proofs.HartFacts.{Fits, Known, event_at, fits_of, known_with}
+use Rattle.rv_hart.specs.Sets.{IsNextOf}
+use Rattle.rv_hart.specs.declared.sets.Sets.{Sets}
 
 -- behind a carrier is what it depends on by the data that it lists
 pub behind-depends : (events : List Event) (c a : Event) → Behind events c a → IsCarrier c × DependsOn events DataOf c a
@@ -221,3 +223,12 @@ carried-longer events rows rows' last is are = subst (AreCarriedRows events) (sy
         λ x. subst (λ (r : List ℕ). Has r s) (sym row) ((are.says j s low).1 x),
       );
 })
+
+module _ {e : Event} {sets : Sets} {rows : List (List ℕ)} (next : IsNextOf e sets rows) where
+  -- the next event of some hart fits it
+  pub next-fits : Fits next.h e
+  next-fits = fits_of next.h e next.is_hart next.follows
+
+  -- there is room for its row
+  pub next-few : length rows < 4096
+  next-few = let room = next-fits.room in let count = next.one_each in omega (room, count, arith)

@@ -1,25 +1,16 @@
-use Rattle.rv_hart.proofs.Common.{◌≡◌, ◌<◌, [], List, ℕ, sym, ◌∙◌, ap, arith, length, false}
+use Rattle.rv_hart.proofs.Common.{◌≡◌, [], ℕ, sym, ◌∙◌, ap, false}
 use Rattle.rv_hart.proofs.Common.{false≢true, has_bit}
 use Rattle.std.proofs.Common.{◌==◌, ◌%◌}
 use Rattle.std.proofs.lemmas.Nat.Bits.{bit_at-zero}
-use Rattle.rv_hart.proofs.Common.{Event}
 use Rattle.std.proofs.lemmas.Result.{on_ok_weaker}
-use Rattle.rv_hart.specs.Sets.{IsNextOf}
-use Rattle.rv_hart.specs.declared.sets.Sets.{Sets}
+use Rattle.rv_hart.proofs.CarriedRows.{next-few}
 use Rattle.rv_hart.proofs.GrownSets.{none-carried}
-use Rattle.rv_hart.proofs.HartFacts.{Fits, fits_of}
+use Rattle.rv_hart.proofs.HartFacts.{fits_of}
 use Rattle.rv_hart.proofs.sets.push_carried.Goals as goal
 
 -- no numbers are in no words
 none : (s : ℕ) → has_bit [] s ≡ false
 none s = ap (λ x. x == 1) (bit_at-zero (s % 64))
-
-module _ {e : Event} {sets : Sets} {rows : List (List ℕ)} (next : IsNextOf e sets rows) where
-  fits : Fits next.h e
-  fits = fits_of next.h e next.is_hart next.follows
-
-  few : length rows < 4096
-  few = let room = fits.room in let count = next.one_each in omega (room, count, arith)
 
 pub push_carrier-requires-clause-carrier : goal.push_carrier-requires-clause-carrier
 push_carrier-requires-clause-carrier c = c.is_carrier.ensures.0 c.if-is_carrier.true
@@ -28,7 +19,7 @@ pub push_carrier-requires-clause-next : goal.push_carrier-requires-clause-next
 push_carrier-requires-clause-next c = c.requires.next
 
 pub push_empty-requires : goal.push_empty-requires
-push_empty-requires c = record { few = few c.requires.next }
+push_empty-requires c = record { few = next-few c.requires.next }
 
 pub returns-else-is_carrier-clause-pushed : goal.returns-else-is_carrier-clause-pushed
 returns-else-is_carrier-clause-pushed c = on_ok_weaker c.push_empty.result

@@ -1,35 +1,25 @@
-use Rattle.rv_hart.proofs.Common.{◌<◌, ◌++◌, ◌∷◌, [], List, ℕ, arith, length}
-use Rattle.rv_hart.proofs.Common.{Event}
+use Rattle.rv_hart.proofs.Common.{◌++◌, ◌∷◌, [], arith}
 use Rattle.std.proofs.lemmas.Result.{on_ok_weaker}
-use Rattle.rv_hart.specs.Sets.{IsNextOf}
-use Rattle.rv_hart.specs.declared.sets.Sets.{Sets}
-use Rattle.rv_hart.proofs.CarriedRows.{carried-low, carried-means, kept-own}
-use Rattle.rv_hart.proofs.HartFacts.{Fits, fits_of, own-deps-few}
+use Rattle.rv_hart.proofs.CarriedRows.{carried-low, carried-means, kept-own, next-few, next-fits}
+use Rattle.rv_hart.proofs.HartFacts.{own-deps-few}
 use Rattle.rv_hart.proofs.sets.push_carrier.Goals as goal
-
-module _ {e : Event} {sets : Sets} {rows : List (List ℕ)} (next : IsNextOf e sets rows) where
-  fits : Fits next.h e
-  fits = fits_of next.h e next.is_hart next.follows
-
-  few : length rows < 4096
-  few = let room = fits.room in let count = next.one_each in omega (room, count, arith)
 
 pub carried_by-requires-clause-carrier : goal.carried_by-requires-clause-carrier
 carried_by-requires-clause-carrier c = c.requires.carrier
 
 pub carried_by-requires-clause-numbers : goal.carried_by-requires-clause-numbers
-carried_by-requires-clause-numbers c = own-deps-few (fits c.requires.next)
+carried_by-requires-clause-numbers c = own-deps-few (next-fits c.requires.next)
 
 pub carried_by-requires-clause-carried : goal.carried_by-requires-clause-carried
-carried_by-requires-clause-carried c = kept-own (fits c.requires.next) c.args.carried.now c.requires.next.are.long
+carried_by-requires-clause-carried c = kept-own (next-fits c.requires.next) c.args.carried.now c.requires.next.are.long
 
 pub push-requires-clause-few : goal.push-requires-clause-few
-push-requires-clause-few c = few c.requires.next
+push-requires-clause-few c = next-few c.requires.next
 
 pub push-requires-clause-below : goal.push-requires-clause-below
 push-requires-clause-below c = λ j has.
     let n = c.requires.next in
-    let low = carried-low (fits n) c.carried_by.result
+    let low = carried-low (next-fits n) c.carried_by.result
     (c.carried_by.ensures n.h n.is_hart n.follows n.are n.are_sets) j has in
     let count = n.one_each in
     omega (low, count, arith)
